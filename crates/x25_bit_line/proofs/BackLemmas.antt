@@ -1,5 +1,7 @@
 -- A trace that is framed and found again.
-use Rattle.std.proofs.Common.{◌≡◌, ◌≢◌, ◌∙◌, ◌+◌, ◌-◌, ◌*◌, ◌/◌, ◌%◌, ◌<◌, ◌≤◌, ◌⊎◌, inl, inr, ◌==◌, nat_eq, nat_le, ℕ, zero, suc, Bool, true, false, not, List, [], ◌∷◌, ◌++◌, length, take, drop, map, Some, append_assoc, ap, sym, refl, arith, length-append, length-drop, length-take-le, le-leb, flat_map}
+use Rattle.std.proofs.Common.{◌≡◌, ◌≢◌, ◌∙◌, ◌+◌, ◌-◌, ◌*◌, ◌/◌, ◌%◌, ◌<◌, ◌≤◌, ◌⊎◌, inl, inr, ◌==◌, nat_eq, nat_le, ℕ, zero, suc, Bool, true, false, not, List}
+use Rattle.std.proofs.Common.{[], ◌∷◌, ◌++◌, length, take, drop, map, Some, append_assoc, ap, sym, refl, arith, length-append, length-drop, length-take-le}
+use Rattle.std.proofs.Common.{le-leb, flat_map}
 use Rattle.std.specs.Prelude.{replicate, slice_index, All, option_map}
 use Rattle.std.specs.Fmt.{digit_glyph}
 use Rattle.std.specs.Result.{result_ok}
@@ -88,7 +90,8 @@ octets_again octets small few =
     let test : nat_le (length (flat_map octet_text octets)) 8206 ≡ true = le-leb (length (flat_map octet_text octets)) 8206 (omega (arith, size)) in
     rw test (ap (λ l. result_ok (decode_of l)) (sym (digits_are octets small)) ∙ ap result_ok (decode_of-encode_lower octets small))
 
-sent_again : (from : Role) (octets : List ℕ) → octets_in (flat_map octet_text octets) ≡ Some octets → sent_in (mark_of from ++ flat_map octet_text octets) ≡ Some (from, octets)
+sent_again : (from : Role) (octets : List ℕ) → octets_in (flat_map octet_text octets) ≡ Some octets → sent_in (mark_of from ++ flat_map octet_text octets)
+    ≡ Some (from, octets)
 sent_again Dte octets e = ap (option_map (λ octets. (Dte, octets))) e
 sent_again Dce octets e = ap (option_map (λ octets. (Dce, octets))) e
 
@@ -183,7 +186,8 @@ ones_found (suc (suc (suc (suc (suc (suc (suc (suc n)))))))) h = absurd (omega a
 
 module _ (parts : Parts) (finds : Finds) (n : ℕ) (few : n < 8) where
   -- behind a flag
-  found_behind : (frames : List (List ℕ)) → AreContents frames → found_of (flag ++ (flat_map framed frames ++ replicate n true)) ≡ map (λ octets. Content octets) frames
+  found_behind : (frames : List (List ℕ)) → AreContents frames → found_of (flag ++ (flat_map framed frames ++ replicate n true))
+      ≡ map (λ octets. Content octets) frames
   found_behind [] c = ones_found n few
   found_behind (octets ∷ frames) c =
       let inside = stuff (bits_of octets) in
@@ -212,7 +216,8 @@ lines_again : (from : Role) (frames : List (List ℕ)) → class_lines from (map
 lines_again from [] = refl
 lines_again from (octets ∷ frames) = ap (λ l. trace_line from octets ++ l) (lines_again from frames)
 
-pub comes_back : Parts → Finds → (from : Role) (frames : List (List ℕ)) → AreContents frames → deframed from (framed_octets (trace_text from frames)) ≡ trace_text from frames
+pub comes_back : Parts → Finds → (from : Role) (frames : List (List ℕ)) → AreContents frames → deframed from (framed_octets (trace_text from frames))
+    ≡ trace_text from frames
 comes_back parts finds from frames c =
     ap (λ bits. class_lines from (found_of bits)) (bits_of_filled (framed_bits (trace_text from frames)) ∙ ap filled (bits_again from frames c))
     ∙ ap (class_lines from) (found_all parts finds frames c) ∙ lines_again from frames

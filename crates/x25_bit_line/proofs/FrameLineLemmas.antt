@@ -1,5 +1,6 @@
 -- Lines of a trace, one after another.
-use Rattle.std.proofs.Common.{◌≡◌, ◌∙◌, ◌<◌, ◌≤◌, ◌||◌, ℕ, Bool, true, false, not, List, [], ◌∷◌, ◌++◌, length, Some, None, Result, Ok, Err, ap, sym, refl, arith, nat_le, le-leb}
+use Rattle.std.proofs.Common.{◌≡◌, ◌∙◌, ◌<◌, ◌≤◌, ◌||◌, ℕ, Bool, true, false, not, List, [], ◌∷◌, ◌++◌, length, Some, None, Result, Ok, Err, ap, sym, refl}
+use Rattle.std.proofs.Common.{arith, nat_le, le-leb}
 use Rattle.std.specs.Prelude.{OnOk, ◌&&◌, is_some}
 use Rattle.std.specs.List.{flat_map}
 use Rattle.std.proofs.lemmas.Bool.Decides.{nat_tests}
@@ -40,7 +41,8 @@ wrong_by_mark line e short =
     let test : nat_le (length line) most_line ≡ true = le-leb (length line) most_line short in
     rw (e, test, and-true) (neither (is_some (gap_in line)) (begins_by_mark line))
 
-long_wrong : (line : List ℕ) → sent_in line ≡ None → gap_in line ≡ None → nat_le (length line) most_line ≡ false → (b : Bool) → begins_by_mark line ≡ b → is_wrong line ≡ true
+long_wrong : (line : List ℕ) → sent_in line ≡ None → gap_in line ≡ None → nat_le (length line) most_line ≡ false → (b : Bool) → begins_by_mark line ≡ b
+    → is_wrong line ≡ true
 unfolding is_wrong is_refused
 long_wrong line e gap test true is = rw (e, gap, test, is) refl
 long_wrong line e gap test false is = rw (e, gap, test, is) refl

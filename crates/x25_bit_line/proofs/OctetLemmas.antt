@@ -1,5 +1,6 @@
 -- Bits and the octet that they write.
-use Rattle.std.proofs.Common.{◌≡◌, ◌∙◌, ◌+◌, ◌-◌, ◌*◌, ◌^◌, ◌<◌, ◌≤◌, ℕ, suc, Bool, true, false, List, [], ◌∷◌, ◌++◌, length, take, drop, get_or, ap, sym, subst, refl, arith, length-drop, length-take-le}
+use Rattle.std.proofs.Common.{◌≡◌, ◌∙◌, ◌+◌, ◌-◌, ◌*◌, ◌^◌, ◌<◌, ◌≤◌, ℕ, suc, Bool, true, false, List, [], ◌∷◌, ◌++◌, length, take, drop, get_or, ap, sym}
+use Rattle.std.proofs.Common.{subst, refl, arith, length-drop, length-take-le}
 use Rattle.std.specs.Prelude.{slice_index_or}
 use Rattle.std.specs.Int.{from_bool}
 use Rattle.std.proofs.lemmas.List.{drop_all, get_or-drop, get_or-take, take_more}
@@ -24,7 +25,8 @@ small_bit false = omega arith
 
 -- one bit more, the lowest
 pub octet_more : (place behind octet next : ℕ) (b : Bool) (bits : List Bool) → place + 8 ≤ length bits → behind < 8
-    → octet ≡ number_of (drop (8 - behind) (take 8 (drop place bits))) → octet < 2 ^ behind → b ≡ slice_index_or bits (place + (7 - behind)) false → next ≡ 2 * octet + from_bool b
+    → octet ≡ number_of (drop (8 - behind) (take 8 (drop place bits))) → octet < 2 ^ behind → b ≡ slice_index_or bits (place + (7 - behind)) false → next
+    ≡ 2 * octet + from_bool b
     → (next ≡ number_of (drop (8 - (behind + 1)) (take 8 (drop place bits)))) × (next < 2 ^ (behind + 1))
 octet_more place behind octet next b bits h few e small bit sum =
     let size = length-drop place bits in
@@ -32,9 +34,11 @@ octet_more place behind octet next b bits h few e small bit sum =
     let all : length eight ≡ 8 = length-take-le 8 (drop place bits) (omega (arith, size)) in
     let at : 8 - (behind + 1) ≡ 7 - behind = omega arith in
     let after : suc (7 - behind) ≡ 8 - behind = omega arith in
-    let read : get_or eight (7 - behind) false ≡ b = get_or-take 8 (drop place bits) (7 - behind) false (omega arith) ∙ get_or-drop place bits (7 - behind) false ∙ sym bit in
+    let read : get_or eight (7 - behind) false ≡ b = get_or-take 8 (drop place bits) (7 - behind) false (omega arith)
+    ∙ get_or-drop place bits (7 - behind) false ∙ sym bit in
     let split : drop (8 - (behind + 1)) eight ≡ b ∷ drop (8 - behind) eight =
-    ap (λ n. drop n eight) at ∙ drop-cons eight (7 - behind) false (omega (arith, all)) ∙ ap (λ x. x ∷ drop (suc (7 - behind)) eight) read ∙ ap (λ n. b ∷ drop n eight) after in
+    ap (λ n. drop n eight) at ∙ drop-cons eight (7 - behind) false (omega (arith, all)) ∙ ap (λ x. x ∷ drop (suc (7 - behind)) eight) read
+    ∙ ap (λ n. b ∷ drop n eight) after in
     let one = small_bit b in
     let power : behind + 1 ≡ suc behind = omega arith in (
       sym (ap number_of split ∙ number_more b (drop (8 - behind) eight) ∙ ap (λ n. from_bool b + 2 * n) (sym e) ∙ swapped (from_bool b) octet ∙ sym sum),
@@ -44,7 +48,8 @@ octet_more place behind octet next b bits h few e small bit sum =
     swapped : (x o : ℕ) → x + 2 * o ≡ 2 * o + x
     swapped x o = omega arith
 
-pub bit_more : (place at : ℕ) (b : Bool) (bits rest next : List Bool) → place ≤ at → at < length bits → rest ≡ take (at - place) (drop place bits) → b ≡ slice_index_or bits at false
+pub bit_more : (place at : ℕ) (b : Bool) (bits rest next : List Bool) → place ≤ at → at < length bits → rest ≡ take (at - place) (drop place bits) → b
+    ≡ slice_index_or bits at false
     → next ≡ rest ++ b ∷ [] → next ≡ take (at + 1 - place) (drop place bits)
 bit_more place at b bits rest next low high e bit more =
     let size = length-drop place bits in

@@ -1,5 +1,6 @@
 -- Bits that are read, and the lines for what is found in them.
-use Rattle.std.proofs.Common.{◌≡◌, ◌∙◌, ◌+◌, ◌-◌, ◌*◌, ◌/◌, ◌≤◌, ℕ, zero, suc, Bool, List, [], ◌∷◌, ◌++◌, length, take, drop, Option, append_assoc, ap, sym, subst, refl, arith, length-append}
+use Rattle.std.proofs.Common.{◌≡◌, ◌∙◌, ◌+◌, ◌-◌, ◌*◌, ◌/◌, ◌≤◌, ℕ, zero, suc, Bool, List, [], ◌∷◌, ◌++◌, length, take, drop, Option, append_assoc, ap, sym}
+use Rattle.std.proofs.Common.{subst, refl, arith, length-append}
 use Rattle.std.proofs.lemmas.List.{append-nil, take_all, drop_at, take-append-drop}
 use Rattle.std.proofs.lemmas.Grind.{flat_map-append}
 use Rattle.std.proofs.Math.Seq.{take-add}
@@ -78,10 +79,12 @@ next_place before bits at place h =
     let there : at + (place - at) ≡ place = omega arith in
     append_assoc before (take at bits) (part at place bits) ∙ ap (λ l. before ++ l) (sym (take-add at (place - at) bits) ∙ ap (λ n. take n bits) there)
 
-pub reads_next : (from other : Role) (old now : Option (List ℕ)) (d : Deframer) (text : List ℕ) (before bits : List Bool) (at place : ℕ) → other ≡ from → at ≤ place
+pub reads_next : (from other : Role) (old now : Option (List ℕ)) (d : Deframer) (text : List ℕ) (before bits : List Bool) (at place : ℕ) → other ≡ from → at
+    ≤ place
     → Reads other old now d text ((before ++ take at bits) ++ part at place bits) → Reads from old now d text (before ++ take place bits)
 reads_next from other old now d text before bits at place e h r =
-    subst (Reads from old now d text) (next_place before bits at place h) (subst (λ (f : Role). Reads f old now d text ((before ++ take at bits) ++ part at place bits)) e r)
+    subst (Reads from old now d text) (next_place before bits at place h)
+    (subst (λ (f : Role). Reads f old now d text ((before ++ take at bits) ++ part at place bits)) e r)
 
 pub rest_of_bits : (before bits : List Bool) (at : ℕ) → (before ++ take at bits) ++ drop at bits ≡ before ++ bits
 rest_of_bits before bits at = append_assoc before (take at bits) (drop at bits) ∙ ap (λ l. before ++ l) (take-append-drop at bits)
@@ -111,16 +114,24 @@ piece_split done part front left rest piece later input e f h =
     ∙ ap (λ l. done ++ l) (sym (append_assoc part left later))
     ∙ ap (λ l. done ++ (l ++ later)) (sym f) ∙ e
 
-pub piece_read : (done part left piece later input : List ℕ) → done ++ (piece ++ later) ≡ input → piece ≡ part ++ left → left ≡ [] → (done ++ piece) ++ later ≡ input
+pub piece_read : (done part left piece later input : List ℕ) → done ++ (piece ++ later) ≡ input → piece ≡ part ++ left → left ≡ [] → (done ++ piece) ++ later
+    ≡ input
 piece_read done part left piece later input e f h = append_assoc done piece later ∙ e
 
 -- all of a piece was read
 pub reads_piece : (from : Role) (old now : Option (List ℕ)) (d : Deframer) (text done part left piece : List ℕ) → piece ≡ part ++ left → left ≡ []
     → Reads from old now d text (bits_of done ++ bits_of part) → Reads from old now d text (bits_of (done ++ piece))
 reads_piece from old now d text done part left piece f h r =
-    subst (Reads from old now d text) (sym (bits_of-append done part) ∙ ap (λ l. bits_of (done ++ l)) (sym (append-nil part) ∙ ap (λ l. part ++ l) (sym h) ∙ sym f)) r
+    subst (Reads from old now d text) (sym (bits_of-append done part)
+    ∙ ap (λ l. bits_of (done ++ l)) (sym (append-nil part) ∙ ap (λ l. part ++ l) (sym h) ∙ sym f)) r
 
 -- before anything is read
-pub reads_start : (from : Role) (old : Option (List ℕ)) (f : Finder) (input : List ℕ) → f.lines.from ≡ from → Fits f.deframer [] → f.lines.output ≡ [] → ReadsOn from f old old input input
+pub reads_start : (from : Role) (old : Option (List ℕ)) (f : Finder) (input : List ℕ) → f.lines.from ≡ from → Fits f.deframer [] → f.lines.output ≡ []
+    → ReadsOn from f old old input input
 unfolding places_below between
-reads_start from old f input same fits empty = record { role = same; done = []; split = refl; reads = record { fits = fits; tells = none_told old f.lines.output empty } }
+reads_start from old f input same fits empty = record {
+  role = same;
+  done = [];
+  split = refl;
+  reads = record { fits = fits; tells = none_told old f.lines.output empty };
+}

@@ -1,5 +1,6 @@
 -- Bits that are sent octet by octet.
-use Rattle.std.proofs.Common.{◌≡◌, ◌∙◌, ◌+◌, ◌-◌, ◌*◌, ◌/◌, ◌%◌, ◌<◌, ◌≤◌, ℕ, zero, suc, Bool, true, List, [], ◌∷◌, ◌++◌, length, take, drop, Option, Result, Ok, Err, append_assoc, ap, sym, subst, refl, arith, length-append, length-drop, length-take-le}
+use Rattle.std.proofs.Common.{◌≡◌, ◌∙◌, ◌+◌, ◌-◌, ◌*◌, ◌/◌, ◌%◌, ◌<◌, ◌≤◌, ℕ, zero, suc, Bool, true, List, [], ◌∷◌, ◌++◌, length, take, drop, Option, Result}
+use Rattle.std.proofs.Common.{Ok, Err, append_assoc, ap, sym, subst, refl, arith, length-append, length-drop, length-take-le}
 use Rattle.std.specs.Prelude.{replicate, OnOk}
 use Rattle.std.proofs.lemmas.List.{append-nil, drop_at, drop-drop, take_at, take-append-drop}
 use Rattle.x25_bits.specs.FrameCheck.{number_of}
@@ -54,8 +55,10 @@ pub octets_more : (n : ℕ) (bits : List Bool) → octets_by (n + 1) bits ≡ oc
 octets_more n bits = let next : n + 1 ≡ suc n = omega arith in ap (λ k. octets_by k bits) next ∙ octets_snoc n bits
 
 -- told up to here, and an octet behind them
-pub octets_told : (first : List ℕ) (n : ℕ) (bits : List Bool) → (first ++ octets_by n bits) ++ number_of (take 8 (drop (8 * n) bits)) ∷ [] ≡ first ++ octets_by (n + 1) bits
-octets_told first n bits = sym (ap (λ l. first ++ l) (octets_more n bits) ∙ sym (append_assoc first (octets_by n bits) (number_of (take 8 (drop (8 * n) bits)) ∷ [])))
+pub octets_told : (first : List ℕ) (n : ℕ) (bits : List Bool) → (first ++ octets_by n bits) ++ number_of (take 8 (drop (8 * n) bits)) ∷ [] ≡ first
+    ++ octets_by (n + 1) bits
+octets_told first n bits = sym (ap (λ l. first ++ l) (octets_more n bits)
+    ∙ sym (append_assoc first (octets_by n bits) (number_of (take 8 (drop (8 * n) bits)) ∷ [])))
 
 -- the octets behind the first ones
 octets_rest : (n : ℕ) (m : ℕ) (bits : List Bool) → n ≤ m → (more : List ℕ) × (octets_by m bits ≡ octets_by n bits ++ more)
@@ -70,14 +73,16 @@ pub octets_lost : (old now : Option (List ℕ)) (told : List ℕ) (n m octet : �
 octets_lost old now told n m octet bits h e b =
     let rest = octets_rest (n + 1) m bits (omega arith) in
     subst (AppendsPrefix old now)
-    (ap (λ o. ((told ++ octets_by n bits) ++ o ∷ []) ++ rest.0) e ∙ ap (λ l. l ++ rest.0) (octets_told told n bits) ∙ append_assoc told (octets_by (n + 1) bits) rest.0 ∙ ap (λ l. told ++ l) (sym rest.1))
+    (ap (λ o. ((told ++ octets_by n bits) ++ o ∷ []) ++ rest.0) e ∙ ap (λ l. l ++ rest.0) (octets_told told n bits)
+    ∙ append_assoc told (octets_by (n + 1) bits) rest.0 ∙ ap (λ l. told ++ l) (sym rest.1))
     (prefix_more old now ((told ++ octets_by n bits) ++ octet ∷ []) rest.0 b)
 
 few_behind : (bits : List Bool) → length (behind_octets bits) < 8
 few_behind bits = let size = length-drop (8 * (length bits / 8)) bits in omega (arith, size)
 
 module _ (old now next : Option (List ℕ)) (left : List Bool) (text : List ℕ) (bits more : List Bool) (h : Sends old now left text bits) where
-  sent_so_far : (m : List Bool) → (h.told ++ octets_of (left ++ more)) ++ octets_of (filled (behind_octets (left ++ more) ++ m)) ≡ octets_of (filled ((bits ++ more) ++ m))
+  sent_so_far : (m : List Bool) → (h.told ++ octets_of (left ++ more)) ++ octets_of (filled (behind_octets (left ++ more) ++ m))
+      ≡ octets_of (filled ((bits ++ more) ++ m))
   sent_so_far m =
       append_assoc h.told (octets_of (left ++ more)) (octets_of (filled (behind_octets (left ++ more) ++ m)))
       ∙ ap (λ l. h.told ++ l) (sym (filled_behind (left ++ more) m) ∙ ap (λ l. octets_of (filled l)) (append_assoc left more m))
@@ -93,11 +98,14 @@ module _ (old now next : Option (List ℕ)) (left : List Bool) (text : List ℕ)
     same = λ m. ap (λ l. (h.told ++ octets_of (left ++ more)) ++ octets_of (filled (l ++ m))) e ∙ sent_so_far m;
   }
 
-  pub sends_failed : AppendsPrefix old next (h.told ++ octets_of (left ++ more)) → (m : List Bool) → AppendsPrefix old next (octets_of (filled ((bits ++ more) ++ m)))
-  sends_failed b m = subst (AppendsPrefix old next) (sent_so_far m) (prefix_more old next (h.told ++ octets_of (left ++ more)) (octets_of (filled (behind_octets (left ++ more) ++ m))) b)
+  pub sends_failed : AppendsPrefix old next (h.told ++ octets_of (left ++ more)) → (m : List Bool)
+      → AppendsPrefix old next (octets_of (filled ((bits ++ more) ++ m)))
+  sends_failed b m = subst (AppendsPrefix old next) (sent_so_far m)
+      (prefix_more old next (h.told ++ octets_of (left ++ more)) (octets_of (filled (behind_octets (left ++ more) ++ m))) b)
 
 -- nothing more is sent
-pub sends_nothing : (old now : Option (List ℕ)) (left : List Bool) (text : List ℕ) (bits more : List Bool) → more ≡ [] → Sends old now left text bits → Sends old now left text (bits ++ more)
+pub sends_nothing : (old now : Option (List ℕ)) (left : List Bool) (text : List ℕ) (bits more : List Bool) → more ≡ [] → Sends old now left text bits
+    → Sends old now left text (bits ++ more)
 sends_nothing old now left text bits more e h = subst (Sends old now left text) (sym (ap (λ l. bits ++ l) e ∙ append-nil bits)) h
 
 -- the last octet
@@ -108,6 +116,8 @@ all_sent old now left text bits h =
 
 -- what is told of bits is sent
 pub sends_by : {T E : Type 0} (r : Result T E) (was now : Option (List ℕ)) (left stays : List Bool) (waited waits : List ℕ) (more : List Bool)
-    → TellsMore r was now waited waits (octets_of (left ++ more)) → OnOk r (stays ≡ behind_octets (left ++ more)) → SendsLine r was now left stays waited waits more
-sends_by (Ok x) was now left stays waited waits more tells e = λ old bits h. sends_more old was now left waited bits more h stays waits e (tells old h.told h.tells)
+    → TellsMore r was now waited waits (octets_of (left ++ more)) → OnOk r (stays ≡ behind_octets (left ++ more))
+    → SendsLine r was now left stays waited waits more
+sends_by (Ok x) was now left stays waited waits more tells e =
+    λ old bits h. sends_more old was now left waited bits more h stays waits e (tells old h.told h.tells)
 sends_by (Err x) was now left stays waited waits more tells e = λ old bits h. sends_failed old was now left waited bits more h (tells old h.told h.tells)

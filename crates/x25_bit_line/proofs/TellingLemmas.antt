@@ -24,7 +24,8 @@ module _ (old now : Option (List ℕ)) (told : List ℕ) where
       → Tells old now text (told ++ flat_map octet_text (part ++ more))
   more_digits text part more digits e h =
       subst (Tells old now text)
-      (append_assoc told (flat_map octet_text part) digits ∙ ap (λ t. told ++ (flat_map octet_text part ++ t)) e ∙ ap (λ t. told ++ t) (sym (flat_map-append octet_text part more))) h
+      (append_assoc told (flat_map octet_text part) digits ∙ ap (λ t. told ++ (flat_map octet_text part ++ t)) e
+      ∙ ap (λ t. told ++ t) (sym (flat_map-append octet_text part more))) h
 
   pub lost_digits : (octets part left more rest digits : List ℕ) → octets ≡ part ++ left → left ≡ more ++ rest → digits ≡ flat_map octet_text more
       → AppendsPrefix old now ((told ++ flat_map octet_text part) ++ digits) → AppendsPrefix old now (told ++ flat_map octet_text octets)
@@ -39,6 +40,7 @@ module _ (old now : Option (List ℕ)) (told : List ℕ) where
       ∙ ap (λ l. told ++ flat_map octet_text l) (sym e) in
       subst (AppendsPrefix old now) all (prefix_more old now ((told ++ flat_map octet_text part) ++ digits) (flat_map octet_text rest) b)
 
-  pub all_digits : (text octets part left : List ℕ) → octets ≡ part ++ left → left ≡ [] → Tells old now text (told ++ flat_map octet_text part) → Tells old now text (told ++ flat_map octet_text octets)
+  pub all_digits : (text octets part left : List ℕ) → octets ≡ part ++ left → left ≡ [] → Tells old now text (told ++ flat_map octet_text part)
+      → Tells old now text (told ++ flat_map octet_text octets)
   all_digits text octets part left e none h =
       subst (λ l. Tells old now text (told ++ flat_map octet_text l)) (sym (e ∙ ap (λ l. part ++ l) none ∙ append-nil part)) h

@@ -1,5 +1,6 @@
 -- Thirty-two octets at a time: what the four words of the code leave in the register.
-use Rattle.std.proofs.Common.{ℕ, ◌+◌, ◌*◌, ◌/◌, ◌%◌, ◌^◌, ◌<◌, ◌≤◌, ◌≡◌, ◌∙◌, Bool, true, false, List, ◌++◌, length, refl, ap, sym, subst, arith, bit_xor, length-append}
+use Rattle.std.proofs.Common.{ℕ, ◌+◌, ◌*◌, ◌/◌, ◌%◌, ◌^◌, ◌<◌, ◌≤◌, ◌≡◌, ◌∙◌, Bool, true, false, List, ◌++◌, length, refl, ap, sym, subst, arith, bit_xor}
+use Rattle.std.proofs.Common.{length-append}
 use Rattle.std.specs.Prelude.{replicate, drop, slice_index}
 use Rattle.std.proofs.lemmas.Nat.{xor_mod}
 use Rattle.std.proofs.lemmas.List.{drop-drop}
@@ -7,12 +8,14 @@ use Rattle.byteorder.specs.Endian.{little_number}
 use Rattle.x25_bits.specs.FrameCheck.{low_bits, bits_of, add, divisor}
 use Rattle.x25_bits.specs.code.Register.{stepped, fed, words_leave}
 use Rattle.x25_bits.proofs.FcsLemmas.{fed-append, length-fed, length-low_bits, low_bits-xor}
-use Rattle.x25_bits.proofs.LinearLemmas.{IsLinear, IsAdditive, linear_same, linear_sum, linear_left, linear_right, additive_behind, agree, agree_to, same, none, length-none, none_twice, fed_add, fed_apart, fed_none}
+use Rattle.x25_bits.proofs.LinearLemmas.{IsLinear, IsAdditive, linear_same, linear_sum, linear_left, linear_right, additive_behind, agree, agree_to, same, none}
+use Rattle.x25_bits.proofs.LinearLemmas.{length-none, none_twice, fed_add, fed_apart, fed_none}
 use Rattle.x25_bits.proofs.FoldLemmas.{fed_word, word_bits}
 
 -- ---- the sum of words
 
-sum_behind : (r s : List Bool) (x y : ℕ) → length r ≡ 16 → length s ≡ 16 → fed (add r s) (low_bits 64 (bit_xor x y)) ≡ add (fed r (low_bits 64 x)) (fed s (low_bits 64 y))
+sum_behind : (r s : List Bool) (x y : ℕ) → length r ≡ 16 → length s ≡ 16 → fed (add r s) (low_bits 64 (bit_xor x y))
+    ≡ add (fed r (low_bits 64 x)) (fed s (low_bits 64 y))
 sum_behind r s x y h k =
     ap (fed (add r s)) (low_bits-xor 64 x y) ∙ fed_add (low_bits 64 x) (low_bits 64 y) r s h k (length-low_bits 64 x ∙ sym (length-low_bits 64 y))
 

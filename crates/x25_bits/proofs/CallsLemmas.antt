@@ -35,7 +35,8 @@ taken_on at to bits h =
     let there : to ≡ at + (to - at) = omega arith in
     ap (λ n. take n bits) there ∙ take-add at (to - at) bits
 
-pub calls_found : (before bits : List Bool) (at : ℕ) (calls : List Call) → ReadToEnd before bits at calls → flat_map (λ call. call.found) calls ≡ found_more before (drop at bits)
+pub calls_found : (before bits : List Bool) (at : ℕ) (calls : List Call) → ReadToEnd before bits at calls → flat_map (λ call. call.found) calls
+    ≡ found_more before (drop at bits)
 unfolding ReadToEnd
 calls_found before bits at [] h = sym (ap (found_more before) (none_left at bits h) ∙ nothing_more before)
 calls_found before bits at (call ∷ calls) h =
@@ -45,7 +46,8 @@ calls_found before bits at (call ∷ calls) h =
     ∙ sym (more_of_both before first (drop call.to bits))
     ∙ ap (found_more before) (sym (rest_of at call.to bits h.0))
 
-pub calls_read : (before bits : List Bool) (at : ℕ) (calls : List Call) → ReadToEnd before bits at calls → after_calls before bits at calls ≡ before ++ drop at bits
+pub calls_read : (before bits : List Bool) (at : ℕ) (calls : List Call) → ReadToEnd before bits at calls → after_calls before bits at calls ≡ before
+    ++ drop at bits
 unfolding ReadToEnd after_calls
 calls_read before bits at [] h = sym (ap (λ l. before ++ l) (none_left at bits h) ∙ append-nil before)
 calls_read before bits at (call ∷ calls) h =

@@ -1,5 +1,6 @@
 -- The class of a span is told by what is held when its flag closes.
-use Rattle.std.proofs.Common.{ℕ, zero, suc, ◌+◌, ◌-◌, ◌≤◌, ◌≡◌, ◌∙◌, ◌⊎◌, inl, inr, Bool, true, false, not, ◌&&◌, ◌==◌, List, [], ◌∷◌, ◌++◌, length, take, drop, refl, ap, sym, subst, arith, length-append, length-drop, append_assoc}
+use Rattle.std.proofs.Common.{ℕ, zero, suc, ◌+◌, ◌-◌, ◌≤◌, ◌≡◌, ◌∙◌, ◌⊎◌, inl, inr, Bool, true, false, not, ◌&&◌, ◌==◌, List, [], ◌∷◌, ◌++◌, length, take, drop}
+use Rattle.std.proofs.Common.{refl, ap, sym, subst, arith, length-append, length-drop, append_assoc}
 use Rattle.std.specs.Prelude.{nat_lt, if◌then◌else◌}
 use Rattle.std.proofs.lemmas.Bool.{cases_lt}
 use Rattle.std.proofs.Math.Seq.{take-append_seam}
@@ -164,14 +165,16 @@ tail_is r (a ∷ b ∷ c ∷ d ∷ e ∷ f ∷ g ∷ y ∷ tail) h k x = absurd 
 
 pub ends_so : (text : List Bool) → (ups 7 text == 6) ≡ true → (pre : List Bool) × (text ≡ pre ++ flag_start)
 ends_so text x = elim (cases_lt (length text) 7) [
-  | inl low ↦ let no : (not false && ups 7 text == 6) ≡ false = not_six 0 false text low (ups_bound 7 0 text (omega arith) (inl refl)) in let bad : true ≡ false = sym x ∙ no in cc
+  | inl low ↦ let no : (not false && ups 7 text == 6) ≡ false =
+      not_six 0 false text low (ups_bound 7 0 text (omega arith) (inl refl)) in let bad : true ≡ false = sym x ∙ no in cc
   | inr high ↦
       let cut : take (length text - 7) text ++ drop (length text - 7) text ≡ text = take-append-drop (length text - 7) text in
       let size : length (drop (length text - 7) text) ≡ 7 = rw length-drop (omega arith) in
       let same : ups 7 text ≡ ups (ups 7 (take (length text - 7) text)) (drop (length text - 7) text) =
       ap (ups 7) (sym cut) ∙ ups-append 7 (take (length text - 7) text) (drop (length text - 7) text) in
       let tail : drop (length text - 7) text ≡ flag_start =
-      tail_is (ups 7 (take (length text - 7) text)) (drop (length text - 7) text) (ups_small 7 (take (length text - 7) text) (omega arith)) size (ap (λ n. n == 6) (sym same) ∙ x) in
+      tail_is (ups 7 (take (length text - 7) text)) (drop (length text - 7) text) (ups_small 7 (take (length text - 7) text) (omega arith)) size
+      (ap (λ n. n == 6) (sym same) ∙ x) in
       (take (length text - 7) text, sym cut ∙ ap (λ l. take (length text - 7) text ++ l) tail)
 ]
 

@@ -1,5 +1,6 @@
 -- The content of a span, stuffed again, is the span.
-use Rattle.std.proofs.Common.{ℕ, zero, suc, ◌+◌, ◌*◌, ◌/◌, ◌%◌, ◌≤◌, ◌≡◌, ◌∙◌, Bool, true, false, not, ◌&&◌, ◌||◌, ◌==◌, List, [], ◌∷◌, ◌++◌, length, take, drop, refl, ap, sym, subst, arith, append_assoc, get_or, length-drop, ◌<◌}
+use Rattle.std.proofs.Common.{ℕ, zero, suc, ◌+◌, ◌*◌, ◌/◌, ◌%◌, ◌≤◌, ◌≡◌, ◌∙◌, Bool, true, false, not, ◌&&◌, ◌||◌, ◌==◌, List, [], ◌∷◌, ◌++◌, length, take}
+use Rattle.std.proofs.Common.{drop, refl, ap, sym, subst, arith, append_assoc, get_or, length-drop, ◌<◌}
 use Rattle.std.specs.Prelude.{All, nat_lt, if◌then◌else◌}
 use Rattle.std.proofs.lemmas.Bool.{eqb-true}
 use Rattle.std.proofs.lemmas.List.{append-nil, take-append-drop, length-take-le}
@@ -23,7 +24,8 @@ six_from r (b ∷ bits) = (not b && r == 6) || six_from (up r b) bits
 six_append : (r : ℕ) (a b : List Bool) → six_from r (a ++ b) ≡ (six_from r a || six_from (ups r a) b)
 unfolding six_from
 six_append r [] b = refl
-six_append r (x ∷ a) b = ap (λ t. (not x && r == 6) || t) (six_append (up r x) a b) ∙ sym (or_assoc (not x && r == 6) (six_from (up r x) a) (six_from (ups (up r x) a) b))
+six_append r (x ∷ a) b = ap (λ t. (not x && r == 6) || t) (six_append (up r x) a b)
+    ∙ sym (or_assoc (not x && r == 6) (six_from (up r x) a) (six_from (ups (up r x) a) b))
   where
     or_assoc : (p q t : Bool) → ((p || q) || t) ≡ (p || (q || t))
     or_assoc true q t = refl
@@ -109,11 +111,13 @@ by_tests false false false true e x octets h = cc
 by_tests false false false false true x octets h = (refl, refl, refl, cc)
 by_tests false false false false false x octets h = cc
 
-pub content_again : (span : List Bool) → six_from 0 (span ++ false ∷ []) ≡ false → (octets : List ℕ) → class_of span ≡ Content octets → stuff (bits_of octets) ≡ span
+pub content_again : (span : List Bool) → six_from 0 (span ++ false ∷ []) ≡ false → (octets : List ℕ) → class_of span ≡ Content octets → stuff (bits_of octets)
+    ≡ span
 unfolding class_of class_by
 content_again span six octets h =
     let bits = unstuff span in
-    let tests = by_tests (seven_from 0 span) (run_from 0 span == 5) (nat_lt (length bits) 32) (nat_lt 32824 (length bits)) (length bits % 8 == 0) (octets_of bits) octets h in
+    let tests = by_tests (seven_from 0 span) (run_from 0 span == 5) (nat_lt (length bits) 32) (nat_lt 32824 (length bits)) (length bits % 8 == 0)
+    (octets_of bits) octets h in
     let whole : length bits % 8 ≡ 0 = eqb-true _ _ tests.2 in
     ap (λ o. stuff (bits_of o)) tests.3
     ∙ ap stuff (bits_of-octets_by (length bits / 8) bits (omega arith))
@@ -146,7 +150,8 @@ prefix_quiet span more h =
     or_left (six_from 0 (span ++ false ∷ [])) (six_from (ups 0 (span ++ false ∷ [])) more)
     (sym (six_append 0 (span ++ false ∷ []) more) ∙ ap (six_from 0) (append_assoc span (false ∷ []) more) ∙ h)
 
-closed_quiet : (rest : List Bool) (b : Bool) (pre : List Bool) → false ∷ rest ≡ pre ++ flag_start → six_from 0 rest ≡ false → HasNoSix (closed ((false ∷ rest) ++ b ∷ []))
+closed_quiet : (rest : List Bool) (b : Bool) (pre : List Bool) → false ∷ rest ≡ pre ++ flag_start → six_from 0 rest ≡ false
+    → HasNoSix (closed ((false ∷ rest) ++ b ∷ []))
 unfolding six_from
 closed_quiet rest b [] e h =
     let is : rest ≡ true ∷ true ∷ true ∷ true ∷ true ∷ true ∷ [] = cc in
@@ -155,7 +160,8 @@ closed_quiet rest b (p ∷ span) e h =
     let is : rest ≡ span ++ flag_start = cc in
     rw (is, closed_span span b) (prefix_quiet span (true ∷ true ∷ true ∷ true ∷ true ∷ true ∷ []) (rw is at h))
 
-closed_at : (text : List Bool) (b : Bool) → (rest : List Bool) × (text ≡ false ∷ rest) × (six_from 0 rest ≡ false) → ends_flag (text ++ b ∷ []) ≡ true → HasNoSix (closed (text ++ b ∷ []))
+closed_at : (text : List Bool) (b : Bool) → (rest : List Bool) × (text ≡ false ∷ rest) × (six_from 0 rest ≡ false) → ends_flag (text ++ b ∷ []) ≡ true
+    → HasNoSix (closed (text ++ b ∷ []))
 closed_at text b r e =
     let six : (ups 7 (false ∷ r.0) == 6) ≡ true = right_true (not b) (ups 7 (false ∷ r.0) == 6) (sym (flags_by (false ∷ r.0) b) ∙ (rw r.1 at e)) in
     let pre = ends_so (false ∷ r.0) six in
@@ -179,7 +185,8 @@ found_quiet s b quiet = go (ends_flag (s.text ++ b ∷ [])) s.is_open refl refl
     go true false e f = rw (e, f) all_none
     go false o e f = rw e all_none
 
-spans_quiet : (s : State) (bits more : List Bool) → FitsAt s bits (flag_places bits) → Quiet s → All HasNoSix (spans_of bits) → All HasNoSix (spans_of (bits ++ more))
+spans_quiet : (s : State) (bits more : List Bool) → FitsAt s bits (flag_places bits) → Quiet s → All HasNoSix (spans_of bits)
+    → All HasNoSix (spans_of (bits ++ more))
 spans_quiet s bits [] fits quiet h = subst (λ l. All HasNoSix (spans_of l)) (sym (append-nil bits)) h
 spans_quiet s bits (b ∷ more) fits quiet h =
     subst (λ l. All HasNoSix (spans_of l)) (append_assoc bits (b ∷ []) more)

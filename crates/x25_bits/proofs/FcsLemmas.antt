@@ -1,5 +1,6 @@
 -- The register divides: what is fed to it bit by bit leaves the remainder of the long division.
-use Rattle.std.proofs.Common.{ℕ, zero, suc, ◌+◌, ◌-◌, ◌/◌, ◌%◌, ◌^◌, ◌<◌, ◌≤◌, ◌≡◌, ◌∙◌, Bool, true, false, not, List, [], ◌∷◌, ◌++◌, length, map, take, drop, refl, ap, sym, inl, inr, ◌⊎◌, arith, bit_xor, bit_and, length-append, add-one}
+use Rattle.std.proofs.Common.{ℕ, zero, suc, ◌+◌, ◌-◌, ◌/◌, ◌%◌, ◌^◌, ◌<◌, ◌≤◌, ◌≡◌, ◌∙◌, Bool, true, false, not, List, [], ◌∷◌, ◌++◌, length, map, take, drop}
+use Rattle.std.proofs.Common.{refl, ap, sym, inl, inr, ◌⊎◌, arith, bit_xor, bit_and, length-append, add-one}
 use Rattle.std.specs.Prelude.{◌==◌, if◌then◌else◌, replicate}
 use Rattle.std.proofs.lemmas.Nat.{xor_mod, xor_shr, field_of}
 use Rattle.std.proofs.Math.Pow.{mod-mod-pow}
@@ -65,7 +66,8 @@ pub divided-step : (n : ℕ) (r : Bool) (rs : List Bool) (b : Bool) (p : List Bo
 unfolding add divided stepped
 divided-step n r rs b p h = go (xor r b) refl
   where
-    go : (t : Bool) → xor r b ≡ t → divided (suc n) (xor r b ∷ add rs p) ≡ divided n (add (if xor r b then add divisor (rs ++ false ∷ []) else (rs ++ false ∷ [])) p)
+    go : (t : Bool) → xor r b ≡ t → divided (suc n) (xor r b ∷ add rs p)
+        ≡ divided n (add (if xor r b then add divisor (rs ++ false ∷ []) else (rs ++ false ∷ [])) p)
     go true t = rw (t, add_assoc divisor (rs ++ false ∷ []) p, add-zero_behind rs p h) refl
     go false t = rw (t, add-zero_behind rs p h) refl
 

@@ -14,7 +14,8 @@ seen_more v place bits b h e = rw e (ap (seen_from v) (take_more bits place fals
 pub found-append : (v : Seen) (a b : List Bool) → found_from v (a ++ b) ≡ found_from v a ++ found_from (seen_from v a) b
 unfolding found_from seen_from
 found-append v [] b = refl
-found-append v (x ∷ a) b = ap (λ l. seen_found v x ++ l) (found-append (seen_next v x) a b) ∙ sym (append_assoc (seen_found v x) (found_from (seen_next v x) a) (found_from (seen_from (seen_next v x) a) b))
+found-append v (x ∷ a) b = ap (λ l. seen_found v x ++ l) (found-append (seen_next v x) a b)
+    ∙ sym (append_assoc (seen_found v x) (found_from (seen_next v x) a) (found_from (seen_from (seen_next v x) a) b))
 
 pub found_later : (v : Seen) (place : ℕ) (bits : List Bool) (b : Bool) → place < length bits → b ≡ get_or bits place false
     → found_from v (take (place + 1) bits) ≡ found_from v (take place bits) ++ seen_found (seen_from v (take place bits)) b
@@ -29,4 +30,5 @@ unfolding seen_from
 seen_all before bits = sym (seen-append (seen_of []) before bits)
 
 pub found_all : (before bits : List Bool) → found_from (seen_of before) bits ≡ drop (length (found_of before)) (found_of (before ++ bits))
-found_all before bits = sym (ap (drop (length (found_of before))) (found_more before bits) ∙ drop-append_seam (found_of before) (found_from (seen_of before) bits))
+found_all before bits = sym (ap (drop (length (found_of before))) (found_more before bits)
+    ∙ drop-append_seam (found_of before) (found_from (seen_of before) bits))

@@ -1,5 +1,6 @@
 -- What is held bit by bit is what the whole list of bits says.
-use Rattle.std.proofs.Common.{ℕ, zero, suc, ◌+◌, ◌≤◌, ◌≡◌, ◌∙◌, inl, inr, Bool, true, false, Option, Some, None, List, [], ◌∷◌, ◌++◌, drop, take, refl, ap, sym, subst, arith}
+use Rattle.std.proofs.Common.{ℕ, zero, suc, ◌+◌, ◌≤◌, ◌≡◌, ◌∙◌, inl, inr, Bool, true, false, Option, Some, None, List, [], ◌∷◌, ◌++◌, drop, take, refl, ap, sym}
+use Rattle.std.proofs.Common.{subst, arith}
 use Rattle.x25_bits.specs.Deframer.{flag_places}
 use Rattle.x25_bits.specs.Stuffing.{unstuff}
 use Rattle.x25_bits.specs.Found.{seven_from, run_from}
@@ -29,7 +30,8 @@ run_is v (b ∷ bits) = run_is (seen_next v b) bits ∙ ap (λ r. ones_from r bi
 
 -- ---- the open span
 
-inserted_is : (r : ℕ) (i : Bool) (k span : List Bool) → r ≤ 6 → seven_from r span ≡ false → (held_from (holding r i k) span).is_inserted ≡ inserted_from r i span
+inserted_is : (r : ℕ) (i : Bool) (k span : List Bool) → r ≤ 6 → seven_from r span ≡ false → (held_from (holding r i k) span).is_inserted
+    ≡ inserted_from r i span
 unfolding held_from seven_from inserted_from
 inserted_is r i k [] h s = refl
 inserted_is zero i k (true ∷ span) h s = inserted_is 1 i (k ++ true ∷ []) span (omega arith) s

@@ -1,5 +1,6 @@
 -- Eight octets at a time: what the shifts of the code leave in the register.
-use Rattle.std.proofs.Common.{ℕ, zero, suc, ◌+◌, ◌-◌, ◌*◌, ◌%◌, ◌^◌, ◌<◌, ◌≤◌, ◌≡◌, ◌∙◌, Bool, true, false, List, [], ◌∷◌, ◌++◌, length, refl, ap, sym, arith, bit_xor, length-drop}
+use Rattle.std.proofs.Common.{ℕ, zero, suc, ◌+◌, ◌-◌, ◌*◌, ◌%◌, ◌^◌, ◌<◌, ◌≤◌, ◌≡◌, ◌∙◌, Bool, true, false, List, [], ◌∷◌, ◌++◌, length, refl, ap, sym, arith}
+use Rattle.std.proofs.Common.{bit_xor, length-drop}
 use Rattle.std.specs.Prelude.{replicate, slice_index, slice_index_or, take, drop}
 use Rattle.std.proofs.lemmas.List.Concat.{flat_map-cons}
 use Rattle.byteorder.specs.Endian.{little_from, little_number}
@@ -10,7 +11,8 @@ use Rattle.std.proofs.lemmas.Nat.{xor_comm, xor_lt}
 use Rattle.x25_bits.specs.FrameCheck.{low_bits, bits_of, add, divisor}
 use Rattle.x25_bits.specs.code.Register.{stepped, fed}
 use Rattle.x25_bits.proofs.FcsLemmas.{fed-append, length-fed, length-low_bits, low_bits-mod}
-use Rattle.x25_bits.proofs.LinearLemmas.{Linear, linear_left, linear_same, given, plus, left, right, additive_bits, additive_fed, additive_behind, agree, agree_to, same, none, length-none, fed_none, fed_apart, low_bits-left, low_bits-join}
+use Rattle.x25_bits.proofs.LinearLemmas.{Linear, linear_left, linear_same, given, plus, left, right, additive_bits, additive_fed, additive_behind, agree}
+use Rattle.x25_bits.proofs.LinearLemmas.{agree_to, same, none, length-none, fed_none, fed_apart, low_bits-left, low_bits-join}
 
 abbrev taken : Linear
 taken = let near = plus given (left 16 given) in plus (plus near (left 32 near)) (left 44 given)
@@ -64,7 +66,8 @@ reduced_tests = refl
 
 pub reduced_is : (x : ℕ) → x < 2 ^ 64 → low_bits 16 (reduced.0 x) ≡ fed none (low_bits 64 x)
 reduced_is x h =
-    agree (λ x. low_bits 16 (reduced.0 x)) (λ x. fed none (low_bits 64 x)) (additive_bits 16 reduced.0 reduced.1.0) (additive_fed 64 given.0 given.1.0) 64 reduced_tests x h
+    agree (λ x. low_bits 16 (reduced.0 x)) (λ x. fed none (low_bits 64 x)) (additive_bits 16 reduced.0 reduced.1.0) (additive_fed 64 given.0 given.1.0) 64
+    reduced_tests x h
 
 -- the sum of two numbers leaves what they leave
 pub sum_leaves : (a b : ℕ) → fed none (low_bits 64 (bit_xor a b)) ≡ add (fed none (low_bits 64 a)) (fed none (low_bits 64 b))
@@ -100,7 +103,8 @@ ones = low_bits 16 65535
 
 -- what eight octets hold after so many octets of 0 that a register of ones was fed
 abbrev pub starts : List ℕ
-starts = 17519284025447940096 ∷ 3492541511025819648 ∷ 18446462598732840960 ∷ 1118863032424857600 ∷ 17345613964817465344 ∷ 4121638083974135808 ∷ 225461456345235456 ∷ 3497045110653190144 ∷ []
+starts = 17519284025447940096 ∷ 3492541511025819648 ∷ 18446462598732840960 ∷ 1118863032424857600 ∷ 17345613964817465344 ∷ 4121638083974135808
+    ∷ 225461456345235456 ∷ 3497045110653190144 ∷ []
 
 starts_leave : (c : ℕ) → c < 8 → fed none (low_bits 64 (slice_index_or starts c 0)) ≡ fed ones (replicate (8 * c) false)
 unfolding fed stepped low_bits add divisor
@@ -146,7 +150,8 @@ word_bits octets at word h f e =
     let long : length first ≡ 8 = length-take-le 8 rest (rw length-drop (omega arith)) in
     let same_number : little_number 8 rest ≡ little_number 8 first = sym (little_from-take 0 8 8 rest (omega arith)) in
     let bits : low_bits 64 (little_number 8 first) ≡ bits_of first =
-    bits_of_little 8 8 first (omega arith) (omega arith) (λ i k. rw (get_or-take 8 rest i 0 k, get_or-drop at octets i 0) (f (at + i))) ∙ ap bits_of (take_all 8 first (omega arith)) in
+    bits_of_little 8 8 first (omega arith) (omega arith) (λ i k. rw (get_or-take 8 rest i 0 k, get_or-drop at octets i 0) (f (at + i)))
+    ∙ ap bits_of (take_all 8 first (omega arith)) in
     ap bits_of (sym (take-append-drop 8 rest) ∙ ap (λ x. first ++ x) (drop-drop 8 at octets))
     ∙ flat_map-append (low_bits 8) first (drop (at + 8) octets)
     ∙ ap (λ x. x ++ bits_of (drop (at + 8) octets)) (sym bits ∙ ap (low_bits 64) (sym same_number ∙ sym e))
@@ -164,10 +169,12 @@ fed_next_word held next word i rest h f e n =
     ∙ ap (fed register) (sym (word_bits rest (8 * i) word h f n))
 
 -- the first octets and the rest
-pub fed_halves : (r : List Bool) (n : ℕ) (first rest octets : List ℕ) → first ≡ take n octets → rest ≡ drop n octets → fed (fed r (bits_of first)) (bits_of rest) ≡ fed r (bits_of octets)
+pub fed_halves : (r : List Bool) (n : ℕ) (first rest octets : List ℕ) → first ≡ take n octets → rest ≡ drop n octets
+    → fed (fed r (bits_of first)) (bits_of rest) ≡ fed r (bits_of octets)
 fed_halves r n first rest octets front back =
     sym (fed-append r (bits_of first) (bits_of rest))
-    ∙ ap (fed r) (sym (flat_map-append (low_bits 8) first rest) ∙ ap bits_of (ap (λ x. x ++ rest) front ∙ ap (λ x. take n octets ++ x) back ∙ take-append-drop n octets))
+    ∙ ap (fed r) (sym (flat_map-append (low_bits 8) first rest)
+    ∙ ap bits_of (ap (λ x. x ++ rest) front ∙ ap (λ x. take n octets ++ x) back ∙ take-append-drop n octets))
 
 pub fed_parts : (held n : ℕ) (first rest octets : List ℕ) → first ≡ take n octets → rest ≡ drop n octets
     → fed none (low_bits 64 held) ≡ fed ones (bits_of first) → fed (fed none (low_bits 64 held)) (bits_of rest) ≡ fed ones (bits_of octets)

@@ -6,7 +6,8 @@ use Rattle.x25_bits.specs.Deframer.{flag_places, spans_of, places_below}
 use Rattle.x25_bits.proofs.SpanSteps.{State, start, FitsAt, stepped, found, closed, ends_flag}
 use Rattle.x25_bits.proofs.SpanLemmas.{law_fits, law_spans}
 use Rattle.x25_bits.specs.Found.{reported, found_of}
-use Rattle.x25_bits.specs.code.Held.{none_held, fresh, held_next, held_from, held_of, closing, Seen, none_seen, ends, seen_next, seen_found, seen_from, found_from, seen_of}
+use Rattle.x25_bits.specs.code.Held.{none_held, fresh, held_next, held_from, held_of, closing, Seen, none_seen, ends, seen_next, seen_found, seen_from}
+use Rattle.x25_bits.specs.code.Held.{found_from, seen_of}
 use Rattle.x25_bits.proofs.RunLemmas.{flags_held, held-append}
 use Rattle.x25_bits.proofs.ClosingLemmas.{closes_held}
 
@@ -32,7 +33,12 @@ begins_more s b h o = let r = h o in (r.0 ++ b ∷ [], ap (λ l. l ++ b ∷ []) 
 
 next_so : (s : State) (v : Seen) (b t : Bool) → ends_flag (s.text ++ b ∷ []) ≡ t → ends v b ≡ t → Matches s v → Matches (stepped s b) (seen_next v b)
 next_so s v b true e f m = rw (e, f) (record { same = ap (λ h. record { is_open = true; held = h }) held_fresh; begins = λ o. ([], refl) })
-next_so s v b false e f m = rw (e, f) (record { same = ap (λ (w : Seen). record w { held = held_next w.held b }) m.same ∙ ap (λ h. record { is_open = s.is_open; held = h }) (sym (held_snoc s.text b)); begins = begins_more s b m.begins })
+next_so s v b false e f m = rw (e, f)
+    (record {
+      same = ap (λ (w : Seen). record w { held = held_next w.held b }) m.same
+          ∙ ap (λ h. record { is_open = s.is_open; held = h }) (sym (held_snoc s.text b));
+      begins = begins_more s b m.begins;
+    })
 
 same_ends : (s : State) (v : Seen) (b : Bool) → Matches s v → ends_flag (s.text ++ b ∷ []) ≡ ends v b
 same_ends s v b m = flags_held s.text b ∙ ap (λ (w : Seen). ends w b) (sym m.same)

@@ -1,5 +1,6 @@
 -- What is found in bits between two flags, and of several such one after another.
-use Rattle.std.proofs.Common.{ℕ, suc, ◌≡◌, ◌∙◌, Bool, true, false, not, ◌&&◌, List, [], ◌∷◌, ◌++◌, length, map, drop, refl, ap, sym, arith, append_assoc, length-append}
+use Rattle.std.proofs.Common.{ℕ, suc, ◌≡◌, ◌∙◌, Bool, true, false, not, ◌&&◌, List, [], ◌∷◌, ◌++◌, length, map, drop, refl, ap, sym, arith, append_assoc}
+use Rattle.std.proofs.Common.{length-append}
 use Rattle.std.proofs.lemmas.Bool.{and_parts}
 use Rattle.std.specs.Prelude.{All}
 use Rattle.std.specs.List.{flat_map, list_all}
@@ -106,7 +107,8 @@ pub found_thrice : (ends bits : List Bool) (none one two three : List Class) →
     → three ≡ two ++ drop (length (found_of (ends ++ bits))) (found_of (ends ++ bits ++ ends))
     → three ≡ found_of (between_flags bits)
 found_thrice ends bits none one two three e n f g h =
-    let first : one ≡ found_of ends = f ∙ ap (λ l. l ++ drop (length (found_of [])) (found_of ends)) n ∙ ap (λ (l : List Class). drop (length l) (found_of ends)) found_nothing in
+    let first : one ≡ found_of ends = f ∙ ap (λ l. l ++ drop (length (found_of [])) (found_of ends)) n
+    ∙ ap (λ (l : List Class). drop (length l) (found_of ends)) found_nothing in
     let second : two ≡ found_of (ends ++ bits) = g ∙ ap (λ l. l ++ drop (length (found_of ends)) (found_of (ends ++ bits))) first ∙ found_step ends bits in
     let third : three ≡ found_of (ends ++ bits ++ ends) =
     h ∙ ap (λ l. l ++ drop (length (found_of (ends ++ bits))) (found_of (ends ++ bits ++ ends))) second ∙ found_step (ends ++ bits) ends in
@@ -123,7 +125,8 @@ found_next bits more =
     flag_cuts (flag ++ bits) (flag ++ more)
     ∙ ap (λ l. found_of (between_flags bits) ++ l) (flag_cuts flag more ∙ ap (λ l. l ++ found_of (flag ++ more)) two_flags)
 
-pub contents_parted : (pieces : List (List Bool)) → sealed_contents (flat_map between_flags pieces) ≡ flat_map (λ bits. sealed_contents (between_flags bits)) pieces
+pub contents_parted : (pieces : List (List Bool)) → sealed_contents (flat_map between_flags pieces)
+    ≡ flat_map (λ bits. sealed_contents (between_flags bits)) pieces
 contents_parted [] = ap (flat_map sealed_octets) found_nothing
 contents_parted (bits ∷ []) = ap sealed_contents (append-nil (between_flags bits)) ∙ sym (append-nil (sealed_contents (between_flags bits)))
 contents_parted (bits ∷ next ∷ pieces) =
@@ -217,7 +220,8 @@ lost_one before after bits f g h =
 pub lost_by_harmless : (before after : List (List ℕ)) (bits : List Bool) → All IsFrame before → All IsFrame after
     → sealed_contents (flat_map framed before ++ between_flags bits ++ flat_map framed after) ≡ before ++ after → IsHarmless bits
 lost_by_harmless before after bits f g h =
-    all_unsealed (spans_of (between_flags bits)) (nothing_between before (sealed_contents (between_flags bits)) after (sym (contents_with before after bits f g) ∙ h))
+    all_unsealed (spans_of (between_flags bits))
+    (nothing_between before (sealed_contents (between_flags bits)) after (sym (contents_with before after bits f g) ∙ h))
 
 first_of_one : (c : Class) (found : List Class) → Unsealed c → is_sealed (first_content found) ≡ false → is_sealed (first_content (c ∷ found)) ≡ false
 unfolding first_content
@@ -232,7 +236,8 @@ unfolding first_content is_sealed
 first_unsealed [] h = refl
 first_unsealed ([] ∷ spans) h = first_unsealed spans (all_tail UnsealedSpan [] spans h)
 first_unsealed ((b ∷ span) ∷ spans) h =
-    first_of_one (class_of (b ∷ span)) (flat_map reported spans) (all_head UnsealedSpan (b ∷ span) spans h) (first_unsealed spans (all_tail UnsealedSpan (b ∷ span) spans h))
+    first_of_one (class_of (b ∷ span)) (flat_map reported spans) (all_head UnsealedSpan (b ∷ span) spans h)
+    (first_unsealed spans (all_tail UnsealedSpan (b ∷ span) spans h))
 
 pub first_of_harmless : (bits : List Bool) → IsHarmless bits → is_sealed (first_content (found_of (between_flags bits))) ≡ false
 first_of_harmless bits h = first_unsealed (spans_of (between_flags bits)) h

@@ -1,5 +1,6 @@
 -- An idle line: an octet of it leaves all as it is.
-use Rattle.std.proofs.Common.{ℕ, zero, suc, ◌+◌, ◌-◌, ◌*◌, ◌^◌, ◌%◌, ◌<◌, ◌≤◌, ◌≡◌, ◌∙◌, Bool, true, false, ◌==◌, min, List, [], ◌∷◌, ◌++◌, length, take, drop, get_or, refl, ap, sym, arith}
+use Rattle.std.proofs.Common.{ℕ, zero, suc, ◌+◌, ◌-◌, ◌*◌, ◌^◌, ◌%◌, ◌<◌, ◌≤◌, ◌≡◌, ◌∙◌, Bool, true, false, ◌==◌, min, List, [], ◌∷◌, ◌++◌, length, take, drop}
+use Rattle.std.proofs.Common.{get_or, refl, ap, sym, arith}
 use Rattle.std.specs.Prelude.{slice_index_or, Option, Some, None, IfSome}
 use Rattle.std.proofs.lemmas.Nat.{one_shl, pow_pos}
 use Rattle.std.proofs.lemmas.Bool.{eqb-true}
@@ -114,7 +115,8 @@ low_kept n w x [] bits h k e size weight some r first test = absurd (omega arith
 low_kept n w x (o ∷ octets) bits h k e size weight some r first test =
     let same : o % w ≡ x % w = ap (λ y. y % w) first ∙ eqb-true (r % w) (x % w) test in
     let power : w ≡ 2 ^ n = weight ∙ one_shl n 8 h in
-    sym e ∙ take_first n o (bits_of octets) (omega arith) ∙ low_of n o x (ap (λ p. o % p) (sym power) ∙ same ∙ ap (λ p. x % p) power) ∙ ap (λ l. low_bits l x) size
+    sym e ∙ take_first n o (bits_of octets) (omega arith) ∙ low_of n o x (ap (λ p. o % p) (sym power) ∙ same ∙ ap (λ p. x % p) power)
+    ∙ ap (λ l. low_bits l x) size
 
 pub low_none : (n x : ℕ) (bits : List Bool) → n ≡ length bits → n ≡ 0 → bits ≡ low_bits (length bits) x
 unfolding low_bits

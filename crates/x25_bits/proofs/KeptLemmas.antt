@@ -1,5 +1,6 @@
 -- What a flag finds, by the unstuffed bits that are held.
-use Rattle.std.proofs.Common.{ℕ, ◌-◌, ◌/◌, ◌%◌, ◌<◌, ◌≤◌, ◌≡◌, ◌≢◌, ◌∙◌, Bool, true, false, ◌==◌, List, [], ◌∷◌, ◌++◌, length, take, refl, ap, sym, arith, length-append, eq-eqb}
+use Rattle.std.proofs.Common.{ℕ, ◌-◌, ◌/◌, ◌%◌, ◌<◌, ◌≤◌, ◌≡◌, ◌≢◌, ◌∙◌, Bool, true, false, ◌==◌, List, [], ◌∷◌, ◌++◌, length, take, refl, ap, sym, arith}
+use Rattle.std.proofs.Common.{length-append, eq-eqb}
 use Rattle.std.specs.Prelude.{nat_lt, if◌then◌else◌}
 use Rattle.std.proofs.lemmas.List.{length-take, take-append-le, take_all}
 use Rattle.std.proofs.lemmas.Bool.Decides.{nat_tests}
@@ -69,13 +70,16 @@ found_mid all h k =
     let d : nat_lt 32824 (length all - 6) ≡ false = grind (arith, nat_tests) in
     rw (a, length_found all (omega arith), b, d) refl
 
-pub found_ragged : (kept all : List Bool) → kept ≡ take 32831 all → 32 ≤ length kept - 6 → length kept - 6 ≤ 32824 → (length kept - 6) % 8 ≢ 0 → Ragged ∷ [] ≡ kept_found all
+pub found_ragged : (kept all : List Bool) → kept ≡ take 32831 all → 32 ≤ length kept - 6 → length kept - 6 ≤ 32824 → (length kept - 6) % 8 ≢ 0 → Ragged ∷ []
+    ≡ kept_found all
 found_ragged kept all e h k m =
     let size : length kept ≡ length all = ap length (whole_kept kept all e (omega arith)) in
     let odd : ((length all - 6) % 8 == 0) ≡ false = rw (← size) (grind (arith, nat_tests)) in
-    sym (found_mid all (omega arith) (omega arith) ∙ ap (λ b. (if b then Content (octets_by ((length all - 6) / 8) (take (length all - 6) all)) else Ragged) ∷ []) odd)
+    sym (found_mid all (omega arith) (omega arith)
+    ∙ ap (λ b. (if b then Content (octets_by ((length all - 6) / 8) (take (length all - 6) all)) else Ragged) ∷ []) odd)
 
-pub found_content : (kept all : List Bool) (octets : List ℕ) → kept ≡ take 32831 all → 32 ≤ length kept - 6 → length kept - 6 ≤ 32824 → (length kept - 6) % 8 ≡ 0
+pub found_content : (kept all : List Bool) (octets : List ℕ) → kept ≡ take 32831 all → 32 ≤ length kept - 6 → length kept - 6 ≤ 32824 → (length kept - 6) % 8
+    ≡ 0
     → octets ≡ octets_of kept → Content octets ∷ [] ≡ kept_found all
 found_content kept all octets e h k m o =
     let same = whole_kept kept all e (omega arith) in
@@ -84,5 +88,6 @@ found_content kept all octets e h k m o =
     let count : (length all - 6) / 8 ≡ length all / 8 = omega arith in
     let taken : octets_by ((length all - 6) / 8) (take (length all - 6) all) ≡ octets_of all =
     octets_by-take ((length all - 6) / 8) (length all - 6) all (omega arith) ∙ ap (λ n. octets_by n all) count in
-    sym (found_mid all (omega arith) (omega arith) ∙ ap (λ b. (if b then Content (octets_by ((length all - 6) / 8) (take (length all - 6) all)) else Ragged) ∷ []) even
+    sym (found_mid all (omega arith) (omega arith)
+    ∙ ap (λ b. (if b then Content (octets_by ((length all - 6) / 8) (take (length all - 6) all)) else Ragged) ∷ []) even
     ∙ ap (λ x. Content x ∷ []) (taken ∙ ap octets_of (sym same) ∙ sym o))

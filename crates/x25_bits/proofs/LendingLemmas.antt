@@ -1,5 +1,6 @@
 -- What is lent at a flag, and of bits that are read.
-use Rattle.std.proofs.Common.{ℕ, ◌+◌, ◌<◌, ◌≤◌, ◌≡◌, ◌∙◌, Bool, true, false, Option, Some, None, List, [], ◌++◌, length, refl, ap, sym, subst, arith, get_or, ◌==◌, ◌&&◌, not}
+use Rattle.std.proofs.Common.{ℕ, ◌+◌, ◌<◌, ◌≤◌, ◌≡◌, ◌∙◌, Bool, true, false, Option, Some, None, List, [], ◌++◌, length, refl, ap, sym, subst, arith, get_or}
+use Rattle.std.proofs.Common.{◌==◌, ◌&&◌, not}
 use Rattle.std.specs.Prelude.{if◌then◌else◌, is_some}
 use Rattle.x25_bits.specs.laws.Cuts.{found_more as found_more_of}
 use Rattle.x25_bits.specs.code.Fits.{Fits}
@@ -58,8 +59,10 @@ closes_some d v k r same fits o is e =
 ends_so : (d : Deframer) (v : Seen) (b t : Bool) → FitsSeen d v → (not b && d.scan.run == 6) ≡ t → ends v b ≡ t
 ends_so d v b t fits e = ap (λ n. not b && n == 6) (sym fits.run) ∙ e
 
-pub step_closes : (d : Deframer) (v : Seen) (b : Bool) (r : Option Scan) (kept : List Bool) → FitsSeen d v → (not b && d.scan.run == 6) ≡ true → Lends r kept (closed_by v) → Lends r kept (seen_found v b)
-step_closes d v b r kept fits e lends = let at : ends v b ≡ true = ends_so d v b true fits e in subst (Lends r kept) (sym (if_true (ends v b) (closed_by v) [] at)) lends
+pub step_closes : (d : Deframer) (v : Seen) (b : Bool) (r : Option Scan) (kept : List Bool) → FitsSeen d v → (not b && d.scan.run == 6) ≡ true
+    → Lends r kept (closed_by v) → Lends r kept (seen_found v b)
+step_closes d v b r kept fits e lends = let at : ends v b ≡ true = ends_so d v b true fits e in
+    subst (Lends r kept) (sym (if_true (ends v b) (closed_by v) [] at)) lends
 
 pub step_passes : (d : Deframer) (v : Seen) (b : Bool) → FitsSeen d v → (not b && d.scan.run == 6) ≡ false → seen_found v b ≡ []
 step_passes d v b fits e = if_false (ends v b) (closed_by v) [] (ends_so d v b false fits e)
@@ -77,18 +80,21 @@ reads_none d at bits = record {
 }
 
 -- one bit more
-pub bit_fits : (d e f : Deframer) (at place : ℕ) (bits : List Bool) (b : Bool) → Reads d at place bits e → at ≤ place → place < length bits → b ≡ get_or bits place false
+pub bit_fits : (d e f : Deframer) (at place : ℕ) (bits : List Bool) (b : Bool) → Reads d at place bits e → at ≤ place → place < length bits → b
+    ≡ get_or bits place false
     → ((v : Seen) → FitsSeen e v → FitsSeen f (seen_next v b))
     → (v : Seen) → FitsSeen d v → FitsSeen f (seen_from v (part at (place + 1) bits))
 bit_fits d e f at place bits b reads low high is fits v h =
     subst (FitsSeen f) (sym (read_seen v at place bits b low high is)) (fits (seen_from v (part at place bits)) (reads.fits v h))
 
-bit_found : (d e : Deframer) (at place : ℕ) (bits : List Bool) (b : Bool) → Reads d at place bits e → at ≤ place → place < length bits → b ≡ get_or bits place false
+bit_found : (d e : Deframer) (at place : ℕ) (bits : List Bool) (b : Bool) → Reads d at place bits e → at ≤ place → place < length bits → b
+    ≡ get_or bits place false
     → (v : Seen) → FitsSeen d v → seen_found (seen_from v (part at place bits)) b ≡ found_from v (part at (place + 1) bits)
 bit_found d e at place bits b reads low high is v h =
     sym (read_found v at place bits b low high is ∙ ap (λ l. l ++ seen_found (seen_from v (part at place bits)) b) (reads.none v h))
 
-pub bit_lends : (d e : Deframer) (r : Option Scan) (at place : ℕ) (bits kept : List Bool) (b : Bool) → Reads d at place bits e → at ≤ place → place < length bits → b ≡ get_or bits place false
+pub bit_lends : (d e : Deframer) (r : Option Scan) (at place : ℕ) (bits kept : List Bool) (b : Bool) → Reads d at place bits e → at ≤ place
+    → place < length bits → b ≡ get_or bits place false
     → ((v : Seen) → FitsSeen e v → Lends r kept (seen_found v b))
     → (v : Seen) → FitsSeen d v → Lends r kept (found_from v (part at (place + 1) bits))
 bit_lends d e r at place bits kept b reads low high is lends v h =
@@ -98,13 +104,15 @@ is_nothing : (r : Option Scan) → is_some r ≡ false → r ≡ None
 is_nothing None e = refl
 is_nothing (Some s) e = let bad : true ≡ false = e in cc
 
-pub reads_more : (d e f : Deframer) (r : Option Scan) (at place : ℕ) (bits kept : List Bool) (b : Bool) → Reads d at place bits e → at ≤ place → place < length bits → b ≡ get_or bits place false
+pub reads_more : (d e f : Deframer) (r : Option Scan) (at place : ℕ) (bits kept : List Bool) (b : Bool) → Reads d at place bits e → at ≤ place
+    → place < length bits → b ≡ get_or bits place false
     → ((v : Seen) → FitsSeen e v → FitsSeen f (seen_next v b))
     → ((v : Seen) → FitsSeen e v → Lends r kept (seen_found v b))
     → is_some r ≡ false → Reads d at (place + 1) bits f
 reads_more d e f r at place bits kept b reads low high is fits lends nothing = record {
   fits = bit_fits d e f at place bits b reads low high is fits;
-  none = λ v h. subst (λ o. Lends o kept (found_from v (part at (place + 1) bits))) (is_nothing r nothing) (bit_lends d e r at place bits kept b reads low high is lends v h);
+  none = λ v h. subst (λ o. Lends o kept (found_from v (part at (place + 1) bits))) (is_nothing r nothing)
+      (bit_lends d e r at place bits kept b reads low high is lends v h);
 }
 
 -- more bits, in which nothing is found
@@ -126,12 +134,14 @@ pub all_fit : (d f : Deframer) (at place : ℕ) (bits before : List Bool) → ((
 all_fit d f at place bits before fits h =
     fits_seen f (before ++ part at place bits) (subst (FitsSeen f) (seen_all before (part at place bits)) (fits (seen_of before) (seen_fits d before h)))
 
-pub all_lend : (d : Deframer) (r : Option Scan) (at place : ℕ) (bits kept before : List Bool) → ((v : Seen) → FitsSeen d v → Lends r kept (found_from v (part at place bits)))
+pub all_lend : (d : Deframer) (r : Option Scan) (at place : ℕ) (bits kept before : List Bool)
+    → ((v : Seen) → FitsSeen d v → Lends r kept (found_from v (part at place bits)))
     → Fits d before → Lends r kept (found_more_of before (part at place bits))
 all_lend d r at place bits kept before lends h =
     subst (Lends r kept) (found_all before (part at place bits)) (lends (seen_of before) (seen_fits d before h))
 
 -- nothing is found up to a place that is no later
-pub none_first : (d e : Deframer) (at n place : ℕ) (bits before : List Bool) → Reads d at place bits e → n ≤ place → Fits d before → found_more_of before (part at n bits) ≡ []
+pub none_first : (d e : Deframer) (at n place : ℕ) (bits before : List Bool) → Reads d at place bits e → n ≤ place → Fits d before
+    → found_more_of before (part at n bits) ≡ []
 none_first d e at n place bits before reads h fits =
     sym (found_all before (part at n bits)) ∙ found_before (seen_of before) at n place bits h (reads.none (seen_of before) (seen_fits d before fits))

@@ -1,5 +1,6 @@
 -- Bits filled up to whole octets.
-use Rattle.std.proofs.Common.{ℕ, zero, suc, ◌+◌, ◌-◌, ◌/◌, ◌%◌, ◌<◌, ◌≤◌, ◌≡◌, ◌∙◌, Bool, true, List, [], ◌∷◌, ◌++◌, length, get_or, refl, ap, sym, arith, length-append, append_assoc}
+use Rattle.std.proofs.Common.{ℕ, zero, suc, ◌+◌, ◌-◌, ◌/◌, ◌%◌, ◌<◌, ◌≤◌, ◌≡◌, ◌∙◌, Bool, true, List, [], ◌∷◌, ◌++◌, length, get_or, refl, ap, sym, arith}
+use Rattle.std.proofs.Common.{length-append, append_assoc}
 use Rattle.std.specs.Prelude.{replicate}
 use Rattle.std.proofs.lemmas.List.{append-nil, length-replicate}
 use Rattle.x25_bits.specs.FrameCheck.{bits_of}
@@ -28,8 +29,10 @@ bits_of_filled bits =
     bits_of-octets_by (length (filled bits) / 8) (filled bits) (omega arith)
 
 -- the octets of a line behind others
-pub line_is : (old bits : List ℕ) (new : List ℕ) (frame : List Bool) → bits ≡ octets_of (filled frame) → new ≡ old ++ bits → bits_of new ≡ bits_of old ++ filled frame
-line_is old bits new frame e f = ap bits_of f ∙ bits_of-append old bits ∙ ap (λ l. bits_of old ++ bits_of l) e ∙ ap (λ l. bits_of old ++ l) (bits_of_filled frame)
+pub line_is : (old bits : List ℕ) (new : List ℕ) (frame : List Bool) → bits ≡ octets_of (filled frame) → new ≡ old ++ bits → bits_of new ≡ bits_of old
+    ++ filled frame
+line_is old bits new frame e f = ap bits_of f ∙ bits_of-append old bits ∙ ap (λ l. bits_of old ++ bits_of l) e
+    ∙ ap (λ l. bits_of old ++ l) (bits_of_filled frame)
 
 pub line_found : (before all : List Bool) (octets : List ℕ) → ((k : ℕ) → get_or octets k 0 < 256) → 4 ≤ length octets → length octets ≤ 4103
     → all ≡ before ++ filled (framed octets) → found_of all ≡ found_of (before ++ flag) ++ Content octets ∷ []

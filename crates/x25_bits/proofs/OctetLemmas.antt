@@ -1,5 +1,6 @@
 -- The bits of octets.
-use Rattle.std.proofs.Common.{ℕ, zero, suc, ◌+◌, ◌-◌, ◌*◌, ◌/◌, ◌%◌, ◌^◌, ◌<◌, ◌≤◌, ◌≡◌, ◌∙◌, ◌⊎◌, inl, inr, Bool, true, false, ◌==◌, nat_eq, bit_and, List, [], ◌∷◌, ◌++◌, length, take, drop, get_or, refl, ap, sym, arith, length-append, append_assoc, add-one}
+use Rattle.std.proofs.Common.{ℕ, zero, suc, ◌+◌, ◌-◌, ◌*◌, ◌/◌, ◌%◌, ◌^◌, ◌<◌, ◌≤◌, ◌≡◌, ◌∙◌, ◌⊎◌, inl, inr, Bool, true, false, ◌==◌, nat_eq, bit_and, List, []}
+use Rattle.std.proofs.Common.{◌∷◌, ◌++◌, length, take, drop, get_or, refl, ap, sym, arith, length-append, append_assoc, add-one}
 use Rattle.std.specs.Prelude.{if◌then◌else◌}
 use Rattle.std.specs.Int.{from_bool}
 use Rattle.std.proofs.lemmas.Nat.{one_shl, mod_below, pow_pos, shr-shr}
@@ -35,7 +36,8 @@ pub bit_set : (k n w r : ℕ) (b : Bool) → k < 8 → b ≡ true → w ≡ (1 *
 bit_set k n w r b h t e f = let weight : w ≡ 2 ^ k = e ∙ one_shl k 8 h in rw t (bit_written k n r true (f ∙ ap (λ x. n % x + x) weight))
 
 pub bit_clear : (k n w r : ℕ) (b : Bool) → k < 8 → b ≡ false → w ≡ (1 * 2 ^ k) % 256 → r ≡ n % w → low_bits (k + 1) r ≡ low_bits k n ++ b ∷ []
-bit_clear k n w r b h t e f = let weight : w ≡ 2 ^ k = e ∙ one_shl k 8 h in let same : n % 2 ^ k ≡ n % 2 ^ k + 0 = omega arith in rw t (bit_written k n r false (f ∙ ap (λ x. n % x) weight ∙ same))
+bit_clear k n w r b h t e f = let weight : w ≡ 2 ^ k = e ∙ one_shl k 8 h in let same : n % 2 ^ k ≡ n % 2 ^ k + 0 = omega arith in
+    rw t (bit_written k n r false (f ∙ ap (λ x. n % x) weight ∙ same))
 
 take_low : (j k n : ℕ) → j ≤ k → take j (low_bits k n) ≡ low_bits j n
 unfolding low_bits
@@ -65,7 +67,13 @@ bits_written zero k y b (o ∷ octets) h s e =
 bits_written (suc i) k y b (o ∷ octets) h s e =
     let new : 8 * suc i + k + 1 ≡ 8 + (8 * i + k + 1) = omega arith in
     let old : 8 * suc i + k ≡ 8 + (8 * i + k) = omega arith in
-    rw (new, old, take_behind (8 * i + k + 1) o (bits_of (set octets i y)), take_behind (8 * i + k) o (bits_of octets), bits_written i k y b octets (omega arith) s e)
+    rw (
+      new,
+      old,
+      take_behind (8 * i + k + 1) o (bits_of (set octets i y)),
+      take_behind (8 * i + k) o (bits_of octets),
+      bits_written i k y b octets (omega arith) s e,
+    )
     (sym (append_assoc (low_bits 8 o) (take (8 * i + k) (bits_of octets)) (b ∷ [])))
 
 one_more : (j : ℕ) → 1 + j ≡ suc j
@@ -75,7 +83,8 @@ pub bits_of-append : (a b : List ℕ) → bits_of (a ++ b) ≡ bits_of a ++ bits
 bits_of-append [] b = refl
 bits_of-append (o ∷ a) b = ap (λ l. low_bits 8 o ++ l) (bits_of-append a b) ∙ sym (append_assoc (low_bits 8 o) (bits_of a) (bits_of b))
 
-pub place_written : (place y : ℕ) (b : Bool) (octets : List ℕ) → place / 8 < length octets → low_bits (place % 8 + 1) y ≡ low_bits (place % 8) (get_or octets (place / 8) 0) ++ b ∷ []
+pub place_written : (place y : ℕ) (b : Bool) (octets : List ℕ) → place / 8 < length octets → low_bits (place % 8 + 1) y
+    ≡ low_bits (place % 8) (get_or octets (place / 8) 0) ++ b ∷ []
     → take (place + 1) (bits_of (set octets (place / 8) y)) ≡ take place (bits_of octets) ++ b ∷ []
 place_written place y b octets h e =
     let at : 8 * (place / 8) + place % 8 ≡ place = omega arith in
@@ -115,7 +124,8 @@ bit_at_place zero j (o ∷ octets) h s =
 bit_at_place (suc i) j (o ∷ octets) h s =
     let size = length-low_bits 8 o in
     let there : 8 * suc i + j ≡ length (low_bits 8 o) + (8 * i + j) = omega arith in
-    ap (λ n. get_or (low_bits 8 o ++ bits_of octets) n false) there ∙ get_or-append-add (low_bits 8 o) (bits_of octets) (8 * i + j) false ∙ bit_at_place i j octets (omega arith) s
+    ap (λ n. get_or (low_bits 8 o ++ bits_of octets) n false) there ∙ get_or-append-add (low_bits 8 o) (bits_of octets) (8 * i + j) false
+    ∙ bit_at_place i j octets (omega arith) s
 
 -- the bit at a place, as the code reads it
 pub bit_read : (place : ℕ) (octets : List ℕ) → place < 8 * length octets
@@ -171,7 +181,8 @@ octets_by-take (suc m) n bits h =
     rw (first, rest, octets_by-take m (n - 8) (drop 8 bits) (omega arith)) refl
 
 -- the octets that the first bits fill
-pub octets_filled : (count : ℕ) (octets : List ℕ) → ((k : ℕ) → get_or octets k 0 < 256) → count ≤ 8 * length octets → take (count / 8) octets ≡ octets_by (count / 8) (take count (bits_of octets))
+pub octets_filled : (count : ℕ) (octets : List ℕ) → ((k : ℕ) → get_or octets k 0 < 256) → count ≤ 8 * length octets → take (count / 8) octets
+    ≡ octets_by (count / 8) (take count (bits_of octets))
 octets_filled count octets h s = sym (octets_by-take (count / 8) count (bits_of octets) (omega arith) ∙ octets_by-bits_of (count / 8) octets h (omega arith))
 
 -- as many bits as are seen
@@ -207,7 +218,8 @@ octet_written zero k o x y (a ∷ b ∷ octets) h s f e count c =
     ap (λ n. take n (bits_of (x ∷ y ∷ octets))) new
     ∙ take_two (k + count) x y (a % 2 ^ k + o * 2 ^ k) (bits_of octets) (omega arith) f e
     ∙ low_bits-join k count (a % 2 ^ k) o (mod_below a (2 ^ k) (pow_pos k))
-    ∙ ap (λ l. l ++ low_bits count o) (low_bits-mod k a ∙ sym (take_first k a (bits_of (b ∷ octets)) (omega arith)) ∙ ap (λ n. take n (bits_of (a ∷ b ∷ octets))) (sym old))
+    ∙ ap (λ l. l ++ low_bits count o) (low_bits-mod k a ∙ sym (take_first k a (bits_of (b ∷ octets)) (omega arith))
+    ∙ ap (λ n. take n (bits_of (a ∷ b ∷ octets))) (sym old))
 octet_written (suc i) k o x y (a ∷ octets) h s f e count c =
     let new : 8 * suc i + k + count ≡ 8 + (8 * i + k + count) = omega arith in
     let old : 8 * suc i + k ≡ 8 + (8 * i + k) = omega arith in
@@ -218,8 +230,10 @@ octet_written (suc i) k o x y (a ∷ octets) h s f e count c =
     ∙ ap (λ l. l ++ low_bits count o) (sym (take_behind (8 * i + k) a (bits_of octets)) ∙ ap (λ n. take n (bits_of (a ∷ octets))) (sym old))
 
 -- the bits before an octet that is written behind them, and its first ones
-pub place_octet : (place o x y : ℕ) (octets : List ℕ) → place / 8 + 1 < length octets → x < 256 → x + y * 256 ≡ get_or octets (place / 8) 0 % 2 ^ (place % 8) + o * 2 ^ (place % 8)
-    → (count : ℕ) → count ≤ 8 → take (place + count) (bits_of (set (set octets (place / 8) x) (place / 8 + 1) y)) ≡ take place (bits_of octets) ++ low_bits count o
+pub place_octet : (place o x y : ℕ) (octets : List ℕ) → place / 8 + 1 < length octets → x < 256 → x + y * 256 ≡ get_or octets (place / 8) 0 % 2 ^ (place % 8)
+    + o * 2 ^ (place % 8)
+    → (count : ℕ) → count ≤ 8 → take (place + count) (bits_of (set (set octets (place / 8) x) (place / 8 + 1) y)) ≡ take place (bits_of octets)
+    ++ low_bits count o
 place_octet place o x y octets h f e count c =
     let at : 8 * (place / 8) + place % 8 ≡ place = omega arith in
     let next : place / 8 + 1 ≡ suc (place / 8) = omega arith in
@@ -252,7 +266,8 @@ sum_fits (suc (suc (suc (suc (suc (suc (suc zero))))))) x y h a b = omega arith
 sum_fits (suc (suc (suc (suc (suc (suc (suc (suc k)))))))) x y h a b = absurd (omega arith)
 
 -- the first bits are no others where octets stand behind
-pub take_grown : (count : ℕ) (octets grown more : List ℕ) → count ≤ 8 * length octets → grown ≡ octets ++ more → take count (bits_of grown) ≡ take count (bits_of octets)
+pub take_grown : (count : ℕ) (octets grown more : List ℕ) → count ≤ 8 * length octets → grown ≡ octets ++ more → take count (bits_of grown)
+    ≡ take count (bits_of octets)
 take_grown count octets grown more h e =
     let size = length-bits_of octets in
     ap (λ o. take count (bits_of o)) e ∙ ap (take count) (bits_of-append octets more) ∙ take-append-le count (bits_of octets) (bits_of more) (omega arith)
@@ -275,7 +290,8 @@ drop_low (suc j) k n =
     let next : n / 2 / 2 ^ j ≡ n / 2 ^ suc j = shr-shr n 1 j ∙ ap (λ m. n / 2 ^ m) (one_more j) in
     ap (λ m. drop (suc j) (low_bits m n)) more ∙ drop_low j k (n / 2) ∙ ap (low_bits k) next
 
-low_at : (i j k : ℕ) (octets : List ℕ) → i < length octets → j + k ≤ 8 → take k (drop (8 * i + j) (bits_of octets)) ≡ take k (drop j (low_bits 8 (get_or octets i 0)))
+low_at : (i j k : ℕ) (octets : List ℕ) → i < length octets → j + k ≤ 8 → take k (drop (8 * i + j) (bits_of octets))
+    ≡ take k (drop j (low_bits 8 (get_or octets i 0)))
 low_at i j k octets h s =
     let bits = bits_of octets in
     sym (ap (take k) (drop-drop j (8 * i) bits))

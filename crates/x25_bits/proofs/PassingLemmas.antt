@@ -1,5 +1,6 @@
 -- Bits in which no flag ends and no seventh 1 bit comes.
-use Rattle.std.proofs.Common.{ℕ, ◌+◌, ◌-◌, ◌*◌, ◌<◌, ◌≤◌, ◌≡◌, ◌∙◌, Bool, true, false, not, ◌==◌, ◌&&◌, List, [], ◌∷◌, ◌++◌, length, take, drop, get_or, refl, ap, sym, subst, arith, append_assoc, length-append}
+use Rattle.std.proofs.Common.{ℕ, ◌+◌, ◌-◌, ◌*◌, ◌<◌, ◌≤◌, ◌≡◌, ◌∙◌, Bool, true, false, not, ◌==◌, ◌&&◌, List, [], ◌∷◌, ◌++◌, length, take, drop, get_or, refl}
+use Rattle.std.proofs.Common.{ap, sym, subst, arith, append_assoc, length-append}
 use Rattle.std.specs.Prelude.{if◌then◌else◌, ◌||◌}
 use Rattle.std.proofs.lemmas.List.{append-nil, take_all}
 use Rattle.x25_bits.specs.FrameCheck.{bits_of, low_bits}
@@ -38,7 +39,8 @@ unfolding ones_from
 ones_from-append run [] b = refl
 ones_from-append run (x ∷ a) b = ones_from-append (up run x) a b
 
-inserted_after-append : (run : ℕ) (last : Bool) (a b : List Bool) → inserted_after run last (a ++ b) ≡ inserted_after (ones_from run a) (inserted_after run last a) b
+inserted_after-append : (run : ℕ) (last : Bool) (a b : List Bool) → inserted_after run last (a ++ b)
+    ≡ inserted_after (ones_from run a) (inserted_after run last a) b
 unfolding ones_from inserted_after
 inserted_after-append run last [] b = refl
 inserted_after-append run last (x ∷ a) b = inserted_after-append (up run x) (if x then last else run == 5) a b
@@ -50,7 +52,8 @@ if_more false x l m n e = e
 kept_from-append : (run : ℕ) (a b : List Bool) → kept_from run (a ++ b) ≡ kept_from run a ++ kept_from (ones_from run a) b
 unfolding ones_from kept_from
 kept_from-append run [] b = refl
-kept_from-append run (x ∷ a) b = if_more (keeps run x) x (kept_from (up run x) (a ++ b)) (kept_from (up run x) a) (kept_from (ones_from (up run x) a) b) (kept_from-append (up run x) a b)
+kept_from-append run (x ∷ a) b = if_more (keeps run x) x (kept_from (up run x) (a ++ b)) (kept_from (up run x) a) (kept_from (ones_from (up run x) a) b)
+    (kept_from-append (up run x) a b)
 
 -- ---- what is seen
 
@@ -73,7 +76,8 @@ no_abort false false s e = refl
 next_passes : (o : Bool) (r : ℕ) (a i : Bool) (k : List Bool) (b : Bool) → (r == 6) ≡ false
     → seen_next (seen o r a i k) b ≡ seen o (up r b) a (if b then i else r == 5) (if keeps r b then k ++ b ∷ [] else k)
 next_passes o r a i k b e =
-    ap (λ t. if t then record { is_open = true; held = record { run = 0; is_aborted = false; is_inserted = false; kept = [] } } else seen o (up r b) (a || (b && r == 6)) (if b then i else r == 5) (if keeps r b then k ++ b ∷ [] else k)) (no_end b (r == 6) e)
+    ap (λ t. if t then record { is_open = true; held = record { run = 0; is_aborted = false; is_inserted = false; kept = [] } }
+    else seen o (up r b) (a || (b && r == 6)) (if b then i else r == 5) (if keeps r b then k ++ b ∷ [] else k)) (no_end b (r == 6) e)
     ∙ ap (λ t. seen o (up r b) t (if b then i else r == 5) (if keeps r b then k ++ b ∷ [] else k)) (no_abort a b (r == 6) e)
 
 found_passes_one : (v : Seen) (b : Bool) → (v.held.run == 6) ≡ false → seen_found v b ≡ []
@@ -104,7 +108,8 @@ found_passes o r a i k (b ∷ bits) h =
 
 -- ---- of the code
 
-kept_so : (n : ℕ) (kept after all more : List Bool) → kept ≡ take n all → length kept < n → length kept + length more ≤ n → after ≡ kept ++ more → after ≡ take n (all ++ more)
+kept_so : (n : ℕ) (kept after all more : List Bool) → kept ≡ take n all → length kept < n → length kept + length more ≤ n → after ≡ kept ++ more → after
+    ≡ take n (all ++ more)
 kept_so n kept after all more e h k a =
     let whole : kept ≡ all = e ∙ take_short n all (rw e at h) in
     let size = length-append all more in
@@ -115,7 +120,8 @@ pub content_found : (d : Deframer) (bits : List Bool) → passes d.scan.run bits
 content_found d bits quiet v f =
     found_passes v.is_open v.held.run v.held.is_aborted v.held.is_inserted v.held.kept bits (ap (λ r. passes r bits) (sym f.run) ∙ quiet)
 
-pub content_fits : (d e : Deframer) (n : ℕ) (is_inserted : Bool) (bits : List Bool) → d.scan.is_open ≡ true → d.scan.is_aborted ≡ false → length d.kept < 32831 → length e.kept ≤ 32831
+pub content_fits : (d e : Deframer) (n : ℕ) (is_inserted : Bool) (bits : List Bool) → d.scan.is_open ≡ true → d.scan.is_aborted ≡ false → length d.kept < 32831
+    → length e.kept ≤ 32831
     → PassesOn n is_inserted d.scan.run d.scan.is_inserted bits
     → e.scan.run ≡ n → e.scan.is_open ≡ d.scan.is_open → e.scan.is_aborted ≡ d.scan.is_aborted → e.scan.is_inserted ≡ is_inserted
     → e.kept ≡ d.kept ++ kept_from d.scan.run bits
@@ -131,11 +137,13 @@ content_fits d e n is_inserted bits opens going less few h run is_open aborted i
       is_open = is_open ∙ f.is_open;
       run = run ∙ h.ones ∙ ap (λ r. ones_from r bits) f.run;
       aborted = λ a. aborted ∙ f.aborted a;
-      inserted = λ a b. inserted ∙ h.inserted ∙ ap (λ r. inserted_after r d.scan.is_inserted bits) f.run ∙ ap (λ i. inserted_after v.held.run i bits) (f.inserted opened on);
+      inserted = λ a b. inserted ∙ h.inserted ∙ ap (λ r. inserted_after r d.scan.is_inserted bits) f.run
+          ∙ ap (λ i. inserted_after v.held.run i bits) (f.inserted opened on);
       kept = λ a b. kept_so 32831 d.kept e.kept v.held.kept (kept_from v.held.run bits) (f.kept opened on) less room behind;
     })
 
-pub passed_found : (d : Deframer) (p : Passed) (bits : List Bool) → Passes p d.scan.run d.scan.is_inserted bits → (v : Seen) → FitsSeen d v → found_from v bits ≡ []
+pub passed_found : (d : Deframer) (p : Passed) (bits : List Bool) → Passes p d.scan.run d.scan.is_inserted bits → (v : Seen) → FitsSeen d v → found_from v bits
+    ≡ []
 passed_found d p bits h v f =
     found_passes v.is_open v.held.run v.held.is_aborted v.held.is_inserted v.held.kept bits (ap (λ r. passes r bits) (sym f.run) ∙ h.quiet)
 
@@ -156,7 +164,8 @@ passed_fits d e p bits opens going few count h run is_open aborted inserted kept
       is_open = is_open ∙ f.is_open;
       run = run ∙ h.ones ∙ ap (λ r. ones_from r bits) f.run;
       aborted = λ a. aborted ∙ f.aborted a;
-      inserted = λ a b. inserted ∙ h.inserted ∙ ap (λ r. inserted_after r d.scan.is_inserted bits) f.run ∙ ap (λ i. inserted_after v.held.run i bits) (f.inserted opened on);
+      inserted = λ a b. inserted ∙ h.inserted ∙ ap (λ r. inserted_after r d.scan.is_inserted bits) f.run
+          ∙ ap (λ i. inserted_after v.held.run i bits) (f.inserted opened on);
       kept = λ a b. kept_so 32831 d.kept e.kept v.held.kept (kept_from v.held.run bits) (f.kept opened on) less room
           (kept ∙ ap (λ l. d.kept ++ l) more);
     })
@@ -172,10 +181,12 @@ pub passes_more : (n : ℕ) (b : Bool) (run : ℕ) (last : Bool) (bits more : Li
 passes_more n b run last bits more p h k = record {
   quiet = passes-append run bits more h.quiet (ap (λ r. passes r more) (sym h.ones) ∙ k.quiet);
   ones = k.ones ∙ ap (λ r. ones_from r more) h.ones ∙ sym (ones_from-append run bits more);
-  inserted = k.inserted ∙ ap (λ r. inserted_after r b more) h.ones ∙ ap (λ l. inserted_after (ones_from run bits) l more) h.inserted ∙ sym (inserted_after-append run last bits more);
+  inserted = k.inserted ∙ ap (λ r. inserted_after r b more) h.ones ∙ ap (λ l. inserted_after (ones_from run bits) l more) h.inserted
+      ∙ sym (inserted_after-append run last bits more);
 }
 
-pub kept_more : (n : ℕ) (b : Bool) (run : ℕ) (last : Bool) (bits more before after next : List Bool) (p : Passed) → PassesOn n b run last bits → Passes p n b more
+pub kept_more : (n : ℕ) (b : Bool) (run : ℕ) (last : Bool) (bits more before after next : List Bool) (p : Passed) → PassesOn n b run last bits
+    → Passes p n b more
     → after ≡ before ++ kept_from run bits → next ≡ after ++ low_bits p.count p.kept → next ≡ before ++ kept_from run (bits ++ more)
 kept_more n b run last bits more before after next p h k e f =
     f ∙ ap (λ l. l ++ low_bits p.count p.kept) e ∙ append_assoc before (kept_from run bits) (low_bits p.count p.kept)
@@ -187,7 +198,8 @@ unfolding kept_from
 kept_none run before = sym (append-nil before)
 
 -- of whole octets, one more
-pub octet_more : (at i : ℕ) (octets : List ℕ) → at ≤ i → i < length octets → part (8 * at) (8 * (i + 1)) (bits_of octets) ≡ part (8 * at) (8 * i) (bits_of octets) ++ low_bits 8 (get_or octets i 0)
+pub octet_more : (at i : ℕ) (octets : List ℕ) → at ≤ i → i < length octets → part (8 * at) (8 * (i + 1)) (bits_of octets)
+    ≡ part (8 * at) (8 * i) (bits_of octets) ++ low_bits 8 (get_or octets i 0)
 octet_more at i octets low high =
     let eight : 8 * (i + 1) - 8 * i ≡ 8 = omega arith in
     part_join (8 * at) (8 * i) (8 * (i + 1)) (bits_of octets) (omega arith) (omega arith)
@@ -199,5 +211,6 @@ pub whole_part : (d e : Deframer) (place at end : ℕ) (octets : List ℕ) → p
     → (v : Seen) → FitsSeen d v → FitsSeen e (seen_from v (part place (8 * end) (bits_of octets)))
 whole_part d e place at end octets same h v f = subst (λ n. FitsSeen e (seen_from v (part n (8 * end) (bits_of octets)))) (sym same) (h v f)
 
-pub whole_quiet : (run place at end : ℕ) (octets : List ℕ) → place ≡ 8 * at → passes run (part (8 * at) (8 * end) (bits_of octets)) ≡ true → passes run (part place (8 * end) (bits_of octets)) ≡ true
+pub whole_quiet : (run place at end : ℕ) (octets : List ℕ) → place ≡ 8 * at → passes run (part (8 * at) (8 * end) (bits_of octets)) ≡ true
+    → passes run (part place (8 * end) (bits_of octets)) ≡ true
 whole_quiet run place at end octets same h = ap (λ n. passes run (part n (8 * end) (bits_of octets))) same ∙ h

@@ -1,5 +1,6 @@
 -- What is put is found.
-use Rattle.std.proofs.Common.{ℕ, zero, suc, ◌*◌, ◌/◌, ◌%◌, ◌<◌, ◌≤◌, ◌≡◌, ◌∙◌, Bool, true, false, List, [], ◌∷◌, ◌++◌, length, get_or, refl, ap, sym, arith, append_assoc}
+use Rattle.std.proofs.Common.{ℕ, zero, suc, ◌*◌, ◌/◌, ◌%◌, ◌<◌, ◌≤◌, ◌≡◌, ◌∙◌, Bool, true, false, List, [], ◌∷◌, ◌++◌, length, get_or, refl, ap, sym, arith}
+use Rattle.std.proofs.Common.{append_assoc}
 use Rattle.std.specs.Prelude.{nat_lt}
 use Rattle.std.proofs.lemmas.List.{append-nil, take_all}
 use Rattle.std.proofs.lemmas.Bool.Decides.{nat_tests}
@@ -51,7 +52,8 @@ pub found_at_start : (bits : List Bool) → found_of bits ≡ found_from none_se
 unfolding seen_from places_below between
 found_at_start bits = found_more [] bits
 
-class_content : (octets : List ℕ) → ((k : ℕ) → get_or octets k 0 < 256) → 4 ≤ length octets → length octets ≤ 4103 → by_kept (bits_of octets) ≡ Content octets ∷ []
+class_content : (octets : List ℕ) → ((k : ℕ) → get_or octets k 0 < 256) → 4 ≤ length octets → length octets ≤ 4103 → by_kept (bits_of octets) ≡ Content octets
+    ∷ []
 unfolding class_by
 class_content octets small low high =
     let n = length octets in
@@ -64,7 +66,8 @@ class_content octets small low high =
     let all : octets_by n (bits_of octets) ≡ octets = octets_by-bits_of n octets small (omega arith) ∙ take_all n octets (omega arith) in
     rw (size, a, b, d, e, f, all) refl
 
-pub put_found : (octets : List ℕ) → ((k : ℕ) → get_or octets k 0 < 256) → 4 ≤ length octets → length octets ≤ 4103 → found_of (framed octets) ≡ Content octets ∷ []
+pub put_found : (octets : List ℕ) → ((k : ℕ) → get_or octets k 0 < 256) → 4 ≤ length octets → length octets ≤ 4103 → found_of (framed octets) ≡ Content octets
+    ∷ []
 put_found octets small low high =
     found_at_start (framed octets)
     ∙ ap (found_from none_seen) (append_assoc flag (stuffed_from 0 (bits_of octets)) flag)

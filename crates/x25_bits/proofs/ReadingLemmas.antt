@@ -11,7 +11,8 @@ use Rattle.x25_bits.proofs.FeedLemmas.{seen_more, found-append, found_later}
 pub part_same : (at n : ℕ) (all bits : List Bool) → at ≤ length bits → n ≤ length bits → take (length bits) all ≡ bits → part at n all ≡ part at n bits
 part_same at n all bits h k e =
     let split : length bits ≡ at + (length bits - at) = omega arith in
-    sym (ap (λ l. take (n - at) (drop at (take l all))) split ∙ ap (take (n - at)) (drop-take at (length bits - at) all) ∙ take-take (n - at) (length bits - at) (drop at all) (omega arith))
+    sym (ap (λ l. take (n - at) (drop at (take l all))) split ∙ ap (take (n - at)) (drop-take at (length bits - at) all)
+    ∙ take-take (n - at) (length bits - at) (drop at all) (omega arith))
     ∙ ap (part at n) e
 
 pub part_none : (at : ℕ) (bits : List Bool) → part at at bits ≡ []
@@ -48,7 +49,8 @@ found_before v at n p bits h e =
     let long = take (p - at) (drop at bits) in
     let short : take (n - at) long ≡ part at n bits = take-take (n - at) (p - at) (drop at bits) (omega arith) in
     let split : take (n - at) long ++ drop (n - at) long ≡ long = take-append-drop (n - at) long in
-    ap (found_from v) (sym short) ∙ left_none (found_from v (take (n - at) long)) _ (sym (found-append v (take (n - at) long) (drop (n - at) long)) ∙ ap (found_from v) split ∙ e)
+    ap (found_from v) (sym short) ∙ left_none (found_from v (take (n - at) long))
+    _ (sym (found-append v (take (n - at) long) (drop (n - at) long)) ∙ ap (found_from v) split ∙ e)
 
 -- one part behind another
 pub part_join : (at place next : ℕ) (bits : List Bool) → at ≤ place → place ≤ next → part at next bits ≡ part at place bits ++ part place next bits

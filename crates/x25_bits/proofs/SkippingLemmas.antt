@@ -37,7 +37,8 @@ unfolding found_from low_bits
 seven_none i k = refl
 
 -- the state seen, where the deframer says so
-seen_is : (d : Deframer) (v : Seen) (r : ℕ) (a : Bool) → FitsSeen d v → d.scan.is_open ≡ true → d.scan.run ≡ r → d.scan.is_aborted ≡ a → v ≡ seen true r a v.held.is_inserted v.held.kept
+seen_is : (d : Deframer) (v : Seen) (r : ℕ) (a : Bool) → FitsSeen d v → d.scan.is_open ≡ true → d.scan.run ≡ r → d.scan.is_aborted ≡ a → v
+    ≡ seen true r a v.held.is_inserted v.held.kept
 seen_is d v r a f o e h =
     let opened : v.is_open ≡ true = sym f.is_open ∙ o in
     let run : v.held.run ≡ r = sym f.run ∙ e in
@@ -46,34 +47,42 @@ seen_is d v r a f o e h =
     ∙ ap (λ x. seen true x v.held.is_aborted v.held.is_inserted v.held.kept) run
     ∙ ap (λ x. seen true r x v.held.is_inserted v.held.kept) aborted
 
-flag_part : (place : ℕ) (octets : List ℕ) → place % 8 ≡ 0 → place / 8 < length octets → get_or octets (place / 8) 0 ≡ 126 → part place (place + 7) (bits_of octets) ≡ low_bits 7 126
+flag_part : (place : ℕ) (octets : List ℕ) → place % 8 ≡ 0 → place / 8 < length octets → get_or octets (place / 8) 0 ≡ 126
+    → part place (place + 7) (bits_of octets) ≡ low_bits 7 126
 flag_part place octets e inside flag = part_first place 7 octets e (omega arith) inside ∙ ap (low_bits 7) flag
 
-seven_part : (place : ℕ) (octets : List ℕ) → place % 8 ≡ 1 → place / 8 < length octets → get_or octets (place / 8) 0 / 2 ≡ 127 → part place (place + 7) (bits_of octets) ≡ low_bits 7 127
+seven_part : (place : ℕ) (octets : List ℕ) → place % 8 ≡ 1 → place / 8 < length octets → get_or octets (place / 8) 0 / 2 ≡ 127
+    → part place (place + 7) (bits_of octets) ≡ low_bits 7 127
 seven_part place octets e inside ones =
     part_low place 7 octets (omega (e, arith)) inside ∙ ap (λ n. low_bits 7 (get_or octets (place / 8) 0 / 2 ^ n)) e ∙ ap (low_bits 7) ones
 
 pub flag_skips : (d : Deframer) (place : ℕ) (octets : List ℕ) (s : Scan) → place % 8 ≡ 0 → place / 8 < length octets → get_or octets (place / 8) 0 ≡ 126
-    → d.scan.is_open ≡ true → d.scan.run ≡ 7 → d.scan.is_aborted ≡ true → IsOver s 6 → (v : Seen) → FitsSeen d v → Skips s (seen_from v (part place (place + 7) (bits_of octets)))
+    → d.scan.is_open ≡ true → d.scan.run ≡ 7 → d.scan.is_aborted ≡ true → IsOver s 6 → (v : Seen) → FitsSeen d v
+    → Skips s (seen_from v (part place (place + 7) (bits_of octets)))
 flag_skips d place octets s e inside flag o r a h v f =
     subst (λ l. Skips s (seen_from v l)) (sym (flag_part place octets e inside flag))
     (subst (λ w. Skips s (seen_from w (low_bits 7 126))) (sym (seen_is d v 7 true f o r a)) (flag_over s v.held.is_inserted v.held.kept h))
 
 pub flag_nothing : (d : Deframer) (place : ℕ) (octets : List ℕ) → place % 8 ≡ 0 → place / 8 < length octets → get_or octets (place / 8) 0 ≡ 126
-    → d.scan.is_open ≡ true → d.scan.run ≡ 7 → d.scan.is_aborted ≡ true → (v : Seen) → FitsSeen d v → found_from v (part place (place + 7) (bits_of octets)) ≡ []
+    → d.scan.is_open ≡ true → d.scan.run ≡ 7 → d.scan.is_aborted ≡ true → (v : Seen) → FitsSeen d v → found_from v (part place (place + 7) (bits_of octets))
+    ≡ []
 flag_nothing d place octets e inside flag o r a v f =
-    ap (found_from v) (flag_part place octets e inside flag) ∙ ap (λ w. found_from w (low_bits 7 126)) (seen_is d v 7 true f o r a) ∙ flag_none v.held.is_inserted v.held.kept
+    ap (found_from v) (flag_part place octets e inside flag) ∙ ap (λ w. found_from w (low_bits 7 126)) (seen_is d v 7 true f o r a)
+    ∙ flag_none v.held.is_inserted v.held.kept
 
 pub seven_skips : (d : Deframer) (place : ℕ) (octets : List ℕ) (s : Scan) → place % 8 ≡ 1 → place / 8 < length octets → get_or octets (place / 8) 0 / 2 ≡ 127
-    → d.scan.is_open ≡ true → d.scan.run ≡ 0 → d.scan.is_aborted ≡ false → IsOver s 7 → (v : Seen) → FitsSeen d v → Skips s (seen_from v (part place (place + 7) (bits_of octets)))
+    → d.scan.is_open ≡ true → d.scan.run ≡ 0 → d.scan.is_aborted ≡ false → IsOver s 7 → (v : Seen) → FitsSeen d v
+    → Skips s (seen_from v (part place (place + 7) (bits_of octets)))
 seven_skips d place octets s e inside ones o r a h v f =
     subst (λ l. Skips s (seen_from v l)) (sym (seven_part place octets e inside ones))
     (subst (λ w. Skips s (seen_from w (low_bits 7 127))) (sym (seen_is d v 0 false f o r a)) (seven_over s v.held.is_inserted v.held.kept h))
 
 pub seven_nothing : (d : Deframer) (place : ℕ) (octets : List ℕ) → place % 8 ≡ 1 → place / 8 < length octets → get_or octets (place / 8) 0 / 2 ≡ 127
-    → d.scan.is_open ≡ true → d.scan.run ≡ 0 → d.scan.is_aborted ≡ false → (v : Seen) → FitsSeen d v → found_from v (part place (place + 7) (bits_of octets)) ≡ []
+    → d.scan.is_open ≡ true → d.scan.run ≡ 0 → d.scan.is_aborted ≡ false → (v : Seen) → FitsSeen d v → found_from v (part place (place + 7) (bits_of octets))
+    ≡ []
 seven_nothing d place octets e inside ones o r a v f =
-    ap (found_from v) (seven_part place octets e inside ones) ∙ ap (λ w. found_from w (low_bits 7 127)) (seen_is d v 0 false f o r a) ∙ seven_none v.held.is_inserted v.held.kept
+    ap (found_from v) (seven_part place octets e inside ones) ∙ ap (λ w. found_from w (low_bits 7 127)) (seen_is d v 0 false f o r a)
+    ∙ seven_none v.held.is_inserted v.held.kept
 
 -- a deframer with that scan
 pub skipped_fits : (e : Deframer) (v : Seen) → Skips e.scan v → FitsSeen e v

@@ -1,5 +1,6 @@
 -- One more bit closes at most one span.
-use Rattle.std.proofs.Common.{ℕ, zero, suc, ◌+◌, ◌-◌, ◌<◌, ◌≤◌, ◌≡◌, ◌∙◌, ◌⊎◌, inl, inr, Bool, true, false, not, ◌&&◌, List, [], ◌∷◌, ◌++◌, length, take, drop, refl, ap, sym, arith, length-append, length-drop}
+use Rattle.std.proofs.Common.{ℕ, zero, suc, ◌+◌, ◌-◌, ◌<◌, ◌≤◌, ◌≡◌, ◌∙◌, ◌⊎◌, inl, inr, Bool, true, false, not, ◌&&◌, List, [], ◌∷◌, ◌++◌, length, take, drop}
+use Rattle.std.proofs.Common.{refl, ap, sym, arith, length-append, length-drop}
 use Rattle.std.specs.Prelude.{if◌then◌else◌}
 use Rattle.std.proofs.lemmas.Bool.{cases_lt}
 use Rattle.std.proofs.lemmas.List.{take-append-le, append-nil, drop-drop, drop-append-le, nil_from_length}
@@ -265,7 +266,8 @@ closed_is bits b l h =
     let text : drop (l + 7) bits ++ b ∷ [] ≡ drop (l + 7) (bits ++ b ∷ []) = sym (drop-append-le (l + 7) bits (b ∷ []) (omega arith)) in
     let text_size : length (drop (l + 7) (bits ++ b ∷ [])) ≡ length (bits ++ b ∷ []) - (l + 7) = length-drop (l + 7) (bits ++ b ∷ []) in
     let count : length (drop (l + 7) (bits ++ b ∷ [])) - 9 ≡ length bits - 7 - (l + 8) = omega arith in
-    let behind : drop 1 (drop (l + 7) (bits ++ b ∷ [])) ≡ drop (l + 8) (bits ++ b ∷ []) = drop_one (l + 7) (bits ++ b ∷ []) ∙ ap (λ n. drop n (bits ++ b ∷ [])) (let e : suc (l + 7) ≡ l + 8 = omega arith in e) in
+    let behind : drop 1 (drop (l + 7) (bits ++ b ∷ [])) ≡ drop (l + 8) (bits ++ b ∷ []) =
+    drop_one (l + 7) (bits ++ b ∷ []) ∙ ap (λ n. drop n (bits ++ b ∷ [])) (let e : suc (l + 7) ≡ l + 8 = omega arith in e) in
     ap closed text ∙ ap (λ n. take n (drop 1 (drop (l + 7) (bits ++ b ∷ [])))) count ∙ ap (take (length bits - 7 - (l + 8))) behind
 
 pub spans_next : (s : State) (bits : List Bool) (b : Bool) (places : List ℕ) → AreFlags bits places → FitsAt s bits places
@@ -279,12 +281,14 @@ spans_next s bits b places flags fits = go (ends_flag (bits ++ b ∷ [])) refl p
         let inside = flag_fits bits (last_or i places) (last_is bits i places flags.0 flags.1) in
         rw (ends_same s bits b (i ∷ places) flags fits, e, fits)
         (between_snoc (bits ++ b ∷ []) i (length bits - 7) places
-        ∙ ap (λ spans. spans ++ take (length bits - 7 - (last_or i places + 8)) (drop (last_or i places + 8) (bits ++ b ∷ [])) ∷ []) (between_kept bits b (i ∷ places) flags)
+        ∙ ap (λ spans. spans ++ take (length bits - 7 - (last_or i places + 8)) (drop (last_or i places + 8) (bits ++ b ∷ [])) ∷ [])
+        (between_kept bits b (i ∷ places) flags)
         ∙ ap (λ span. between bits (i ∷ places) ++ span ∷ []) (sym (closed_is bits b (last_or i places) inside)))
     go false e places flags fits =
         rw (ends_same s bits b places flags fits, e, append-nil places, append-nil (between bits places)) (between_kept bits b places flags)
 
-pub law_fits : (s : State) (bits : List Bool) (b : Bool) → FitsAt s bits (flag_places bits) → FitsAt (stepped s b) (bits ++ b ∷ []) (flag_places (bits ++ b ∷ []))
+pub law_fits : (s : State) (bits : List Bool) (b : Bool) → FitsAt s bits (flag_places bits)
+    → FitsAt (stepped s b) (bits ++ b ∷ []) (flag_places (bits ++ b ∷ []))
 law_fits s bits b fits = rw (places_snoc bits b) (fits_next s bits b (flag_places bits) (are_below bits (length bits)) fits)
 
 pub law_spans : (s : State) (bits : List Bool) (b : Bool) → FitsAt s bits (flag_places bits) → spans_of (bits ++ b ∷ []) ≡ spans_of bits ++ found s b

@@ -1,5 +1,6 @@
 -- Some bits of one octet that pass: from behind a flag to the octet's end, or up to a flag's last 0.
-use Rattle.std.proofs.Common.{ℕ, zero, suc, ◌+◌, ◌-◌, ◌*◌, ◌/◌, ◌%◌, ◌^◌, ◌<◌, ◌≤◌, ◌≡◌, ◌∙◌, Bool, true, false, List, ◌∷◌, ◌++◌, length, take, drop, get_or, refl, ap, sym, subst, arith, length-append}
+use Rattle.std.proofs.Common.{ℕ, zero, suc, ◌+◌, ◌-◌, ◌*◌, ◌/◌, ◌%◌, ◌^◌, ◌<◌, ◌≤◌, ◌≡◌, ◌∙◌, Bool, true, false, List, ◌∷◌, ◌++◌, length, take, drop, get_or}
+use Rattle.std.proofs.Common.{refl, ap, sym, subst, arith, length-append}
 use Rattle.std.specs.Prelude.{replicate}
 use Rattle.std.proofs.Math.Nat.{div-one}
 use Rattle.x25_bits.specs.FrameCheck.{bits_of, low_bits}
@@ -56,7 +57,8 @@ kept_split j c n bits h =
     let size : c ≡ j + (c - j) = omega (more, arith) in
     (more, sym (drop_low j (c - j) n) ∙ ap (λ m. drop j (low_bits m n)) (sym size) ∙ ap (drop j) h ∙ zeros_dropped j bits)
 
-kept_behind : (j o : ℕ) (q : Passed) → j ≤ 8 → Passes q 0 false (low_bits 8 (o / 2 ^ j * 2 ^ j % 256)) → low_bits q.count q.kept ≡ replicate j false ++ kept_from 0 (low_bits (8 - j) (o / 2 ^ j))
+kept_behind : (j o : ℕ) (q : Passed) → j ≤ 8 → Passes q 0 false (low_bits 8 (o / 2 ^ j * 2 ^ j % 256)) → low_bits q.count q.kept ≡ replicate j false
+    ++ kept_from 0 (low_bits (8 - j) (o / 2 ^ j))
 kept_behind j o q h pass = pass.kept ∙ ap (kept_from 0) (zeros_first j o h) ∙ zeros_kept j (low_bits (8 - j) (o / 2 ^ j))
 
 pub rest_few : (j o : ℕ) (q : Passed) → j ≤ 8 → Passes q 0 false (low_bits 8 (o / 2 ^ j * 2 ^ j % 256)) → j ≤ q.count
@@ -69,7 +71,8 @@ rest_passes j o q p h pass kept count run inserted =
     let first = zeros_first j o h in
     record {
       quiet = zeros_quiet j bits (ap (passes 0) (sym first) ∙ pass.quiet);
-      kept = ap (λ x. low_bits p.count x) kept ∙ ap (λ x. low_bits x (q.kept / 2 ^ j)) count ∙ (kept_split j q.count q.kept (kept_from 0 bits) (kept_behind j o q h pass)).1;
+      kept = ap (λ x. low_bits p.count x) kept ∙ ap (λ x. low_bits x (q.kept / 2 ^ j)) count
+          ∙ (kept_split j q.count q.kept (kept_from 0 bits) (kept_behind j o q h pass)).1;
       ones = run ∙ pass.ones ∙ ap (ones_from 0) first ∙ zeros_ones j bits;
       inserted = inserted ∙ pass.inserted ∙ ap (inserted_after 0 false) first ∙ zeros_inserted j bits;
     }
@@ -81,7 +84,8 @@ abbrev pub Leaves : Passed → ℕ → ℕ → Bool → Type 0
 Leaves p kept count inserted = (p.kept ≡ kept) × (p.count ≡ count) × (p.run ≡ 6) × (p.is_inserted ≡ inserted)
 
 leaves_so : (p : Passed) (kept count : ℕ) (inserted : Bool) (run : ℕ) (was : Bool) (bits : List Bool) → Leaves p kept count inserted
-    → passes run bits ≡ true → low_bits count kept ≡ kept_from run bits → 6 ≡ ones_from run bits → inserted ≡ inserted_after run was bits → Passes p run was bits
+    → passes run bits ≡ true → low_bits count kept ≡ kept_from run bits → 6 ≡ ones_from run bits → inserted ≡ inserted_after run was bits
+    → Passes p run was bits
 leaves_so p kept count inserted run was bits l a b c d = record {
   quiet = a;
   kept = ap (λ x. low_bits p.count x) l.0 ∙ ap (λ x. low_bits x kept) l.1 ∙ b;
@@ -99,12 +103,18 @@ AllOnes r o = o * 2 ^ (r + 2) % 256 ≡ 252 * 2 ^ r % 256
 
 pub ones_pass : (r o : ℕ) (was : Bool) (p : Passed) → r ≤ 5 → AllOnes r o → Leaves p (31 / 2 ^ r) (5 - r) was → Passes p r was (low_bits (6 - r) o)
 unfolding passes kept_from ones_from inserted_after low_bits
-ones_pass zero o was p h e l = let d : o % 64 ≡ 63 = omega (e, arith) in subst (Passes p 0 was) (full 6 o 63 d) (leaves_so p 31 5 was 0 was (low_bits 6 63) l refl refl refl refl)
-ones_pass (suc zero) o was p h e l = let d : o % 32 ≡ 31 = omega (e, arith) in subst (Passes p 1 was) (full 5 o 31 d) (leaves_so p 15 4 was 1 was (low_bits 5 31) l refl refl refl refl)
-ones_pass (suc (suc zero)) o was p h e l = let d : o % 16 ≡ 15 = omega (e, arith) in subst (Passes p 2 was) (full 4 o 15 d) (leaves_so p 7 3 was 2 was (low_bits 4 15) l refl refl refl refl)
-ones_pass (suc (suc (suc zero))) o was p h e l = let d : o % 8 ≡ 7 = omega (e, arith) in subst (Passes p 3 was) (full 3 o 7 d) (leaves_so p 3 2 was 3 was (low_bits 3 7) l refl refl refl refl)
-ones_pass (suc (suc (suc (suc zero)))) o was p h e l = let d : o % 4 ≡ 3 = omega (e, arith) in subst (Passes p 4 was) (full 2 o 3 d) (leaves_so p 1 1 was 4 was (low_bits 2 3) l refl refl refl refl)
-ones_pass (suc (suc (suc (suc (suc zero))))) o was p h e l = let d : o % 2 ≡ 1 = omega (e, arith) in subst (Passes p 5 was) (full 1 o 1 d) (leaves_so p 0 0 was 5 was (low_bits 1 1) l refl refl refl refl)
+ones_pass zero o was p h e l = let d : o % 64 ≡ 63 = omega (e, arith) in
+    subst (Passes p 0 was) (full 6 o 63 d) (leaves_so p 31 5 was 0 was (low_bits 6 63) l refl refl refl refl)
+ones_pass (suc zero) o was p h e l = let d : o % 32 ≡ 31 = omega (e, arith) in
+    subst (Passes p 1 was) (full 5 o 31 d) (leaves_so p 15 4 was 1 was (low_bits 5 31) l refl refl refl refl)
+ones_pass (suc (suc zero)) o was p h e l = let d : o % 16 ≡ 15 = omega (e, arith) in
+    subst (Passes p 2 was) (full 4 o 15 d) (leaves_so p 7 3 was 2 was (low_bits 4 15) l refl refl refl refl)
+ones_pass (suc (suc (suc zero))) o was p h e l = let d : o % 8 ≡ 7 = omega (e, arith) in
+    subst (Passes p 3 was) (full 3 o 7 d) (leaves_so p 3 2 was 3 was (low_bits 3 7) l refl refl refl refl)
+ones_pass (suc (suc (suc (suc zero)))) o was p h e l = let d : o % 4 ≡ 3 = omega (e, arith) in
+    subst (Passes p 4 was) (full 2 o 3 d) (leaves_so p 1 1 was 4 was (low_bits 2 3) l refl refl refl refl)
+ones_pass (suc (suc (suc (suc (suc zero))))) o was p h e l =
+    let d : o % 2 ≡ 1 = omega (e, arith) in subst (Passes p 5 was) (full 1 o 1 d) (leaves_so p 0 0 was 5 was (low_bits 1 1) l refl refl refl refl)
 ones_pass (suc (suc (suc (suc (suc (suc r)))))) o was p h e l = absurd (omega arith)
 
 pub flag_pass : (r : ℕ) (was : Bool) (p : Passed) → r ≤ 4 → Leaves p 62 6 false → Passes p r was (low_bits 7 126)
@@ -117,7 +127,8 @@ flag_pass (suc (suc (suc (suc zero)))) was p h l = leaves_so p 62 6 false 4 was 
 flag_pass (suc (suc (suc (suc (suc r))))) was p h l = absurd (omega arith)
 
 -- a part of a line that lies in one octet
-pub part_first : (place k : ℕ) (octets : List ℕ) → place % 8 ≡ 0 → k ≤ 8 → place / 8 < length octets → take (place + k - place) (drop place (bits_of octets)) ≡ low_bits k (get_or octets (place / 8) 0)
+pub part_first : (place k : ℕ) (octets : List ℕ) → place % 8 ≡ 0 → k ≤ 8 → place / 8 < length octets → take (place + k - place) (drop place (bits_of octets))
+    ≡ low_bits k (get_or octets (place / 8) 0)
 part_first place k octets e few inside =
     let o = get_or octets (place / 8) 0 in
     let one : o / 2 ^ (place % 8) ≡ o = ap (λ n. o / 2 ^ n) e ∙ div-one o in

@@ -24,7 +24,11 @@ use Rattle.x25_c.specs.contracts.unboxed.Unboxed as Unboxed
 
 -- the box of a station that is held
 abbrev pub boxed : Bx
-boxed = record { row = Held.the_row; laws = held.the_row_laws; al = record { row = Heap.the_row; laws = heap.the_row_laws; g = ghosts; d = dict; drops = impl [] tnil dnil } }
+boxed = record {
+  row = Held.the_row;
+  laws = held.the_row_laws;
+  al = record { row = Heap.the_row; laws = heap.the_row_laws; g = ghosts; d = dict; drops = impl [] tnil dnil };
+}
 
 abbrev pub its_pieces : Slot 0
 its_pieces = plain (λ _. Unboxed.the_row Held.the_row Heap.the_row ghosts)

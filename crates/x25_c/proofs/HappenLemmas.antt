@@ -45,21 +45,28 @@ module _ (at : code_station.Station) (step : code_step.Step) (new : Held) (pulls
   entered stay (Did did) same = ap (λ entries. map plain_entry entries.items) stay ∙ same
   entered stay (Refused e) same = tt
 
-  timed : ((c : Settings) (s : Station) → FitsStation c at s → new.step.timer ≡ timer_pulled step.timer s (pulled c s).near) → (s : Station) (event : StationEvent) (o : Outcome) → Leaves c at accepted o → Refuses accepted o
+  timed : ((c : Settings) (s : Station) → FitsStation c at s → new.step.timer ≡ timer_pulled step.timer s (pulled c s).near)
+      → (s : Station) (event : StationEvent) (o : Outcome) → Leaves c at accepted o → Refuses accepted o
       → clock.IsTimer s (is_firing event) step.timer accepted o → IsTimer c s event new.step.timer accepted o
   timed timer s event (Did did) fits refused same = timer c did.near fits ∙ ap (λ first. timer_pulled first did.near (pulled c did.near).near) same
   timed timer s event (Refused e) fits refused same = absurd refused
 
-pub is_both : (old new : Held) (at : code_station.Station) (step : code_step.Step) (event : StationEvent) → Does old.station at step accepted (λ c s. outcome c s event)
-    → clock.TellsTimer old.station step.timer accepted (is_firing event) (λ c s. outcome c s event) → (length step.frames ≤ 9 → Pulls at new.station step.frames new.step.frames)
-    → (length step.frames ≤ 9 → (c : Settings) (s : Station) → FitsStation c at s → new.step.timer ≡ timer_pulled step.timer s (pulled c s).near) → new.step.entries ≡ step.entries → (may_lack_at event ≡ false → (c : Settings) (s : Station) → FitsStation c old.station s → RefusesOnly accepted (outcome c s event)) → new.end ≡ old.end → new.time ≡ old.time
-    → ((c : Settings) (s : Station) → FitsStation c new.station s → Heeds old.time (seen c s new.step (comes event)) old.clock new.clock) → HappensTo old new accepted event
+pub is_both : (old new : Held) (at : code_station.Station) (step : code_step.Step) (event : StationEvent)
+    → Does old.station at step accepted (λ c s. outcome c s event)
+    → clock.TellsTimer old.station step.timer accepted (is_firing event) (λ c s. outcome c s event)
+    → (length step.frames ≤ 9 → Pulls at new.station step.frames new.step.frames)
+    → (length step.frames ≤ 9 → (c : Settings) (s : Station) → FitsStation c at s → new.step.timer ≡ timer_pulled step.timer s (pulled c s).near)
+    → new.step.entries ≡ step.entries → (may_lack_at event ≡ false → (c : Settings) (s : Station) → FitsStation c old.station s
+    → RefusesOnly accepted (outcome c s event)) → new.end ≡ old.end → new.time ≡ old.time
+    → ((c : Settings) (s : Station) → FitsStation c new.station s → Heeds old.time (seen c s new.step (comes event)) old.clock new.clock)
+    → HappensTo old new accepted event
 is_both old new at step event does timer pulls times entries only end now heeds = record {
   end = end;
   state = λ c s fits. left at step new (pulls does.few_frames) c (outcome c s event) (does.state c s fits);
   frames = λ c s fits. sent at step new (pulls does.few_frames) c (outcome c s event) (does.state c s fits) (does.frames c s fits);
   entries = λ c s fits. entered at step new (pulls does.few_frames) c entries (outcome c s event) (does.entries c s fits);
-  timer = λ c s fits. timed at step new (pulls does.few_frames) c (times does.few_frames) s event (outcome c s event) (does.state c s fits) (does.refused c s fits) (timer c s fits);
+  timer = λ c s fits. timed at step new (pulls does.few_frames) c (times does.few_frames) s event (outcome c s event) (does.state c s fits)
+      (does.refused c s fits) (timer c s fits);
   refused = does.refused;
   only = only;
   stays = λ c s fits. tt;
@@ -97,7 +104,8 @@ pub is_refused : (old new : Held) (e : StationError) (event : StationEvent) → 
     → ((c : Settings) (s : Station) → FitsStation c old.station s → Refuses {T = Unit} (Err e) (outcome c s event))
     → (may_lack_at event ≡ false → (c : Settings) (s : Station) → FitsStation c old.station s → RefusesOnly {T = Unit} (Err e) (outcome c s event))
     → ((c : Settings) (s : Station) → FitsStation c old.station s → FitsStation c new.station s)
-    → IsEmpty new.step → ((c : Settings) (s : Station) → FitsStation c old.station s → new.step.timer ≡ standing s) → new.time ≡ old.time → new.clock ≡ old.clock → HappensTo old new (Err e) event
+    → IsEmpty new.step → ((c : Settings) (s : Station) → FitsStation c old.station s → new.step.timer ≡ standing s) → new.time ≡ old.time → new.clock
+    ≡ old.clock → HappensTo old new (Err e) event
 is_refused old new e event end refused only stays empty timer now unheeded = record {
   end = end;
   state = λ c s fits. none_left new e c (outcome c s event);
@@ -115,16 +123,19 @@ is_refused old new e event end refused only stays empty timer now unheeded = rec
 
 -- an event of a station that stands for what another stood for
 module _ (old mid new : Held) (event : StationEvent) (now : mid.time ≡ old.time) (clock : mid.clock ≡ old.clock) where
-  heeded_from : (r : Result Unit StationError) → OnOk r ((c : Settings) (s : Station) → FitsStation c new.station s → Heeds mid.time (seen c s new.step (comes event)) mid.clock new.clock)
+  heeded_from : (r : Result Unit StationError)
+      → OnOk r ((c : Settings) (s : Station) → FitsStation c new.station s → Heeds mid.time (seen c s new.step (comes event)) mid.clock new.clock)
       → OnOk r ((c : Settings) (s : Station) → FitsStation c new.station s → Heeds old.time (seen c s new.step (comes event)) old.clock new.clock)
-  heeded_from (Ok u) heeds = λ c s fits. subst (λ n. Heeds n (seen c s new.step (comes event)) old.clock new.clock) now (subst (λ v. Heeds mid.time (seen c s new.step (comes event)) v new.clock) clock (heeds c s fits))
+  heeded_from (Ok u) heeds = λ c s fits. subst (λ n. Heeds n (seen c s new.step (comes event)) old.clock new.clock) now
+      (subst (λ v. Heeds mid.time (seen c s new.step (comes event)) v new.clock) clock (heeds c s fits))
   heeded_from (Err e) none = tt
 
   unheeded_from : (r : Result Unit StationError) → OnErr r (new.clock ≡ mid.clock) → OnErr r (new.clock ≡ old.clock)
   unheeded_from (Ok u) none = tt
   unheeded_from (Err e) same = same ∙ clock
 
-pub from_still : (old mid new : Held) (r : Result Unit StationError) (event : StationEvent) → FitsStill old.station mid.station → mid.end ≡ old.end → mid.time ≡ old.time → mid.clock ≡ old.clock → HappensTo mid new r event
+pub from_still : (old mid new : Held) (r : Result Unit StationError) (event : StationEvent) → FitsStill old.station mid.station → mid.end ≡ old.end → mid.time
+    ≡ old.time → mid.clock ≡ old.clock → HappensTo mid new r event
     → HappensTo old new r event
 from_still old mid new r event still end now clock h = record {
   end = h.end ∙ end;

@@ -1,5 +1,6 @@
 -- The items in the places of two lists, one behind the other.
-use Rattle.std.proofs.Common.{◌≡◌, ◌∙◌, ◌⊎◌, ℕ, ◌<◌, ◌≤◌, ◌+◌, List, [], ◌∷◌, ◌++◌, length, map, drop, get_or, Some, None, refl, arith, ap, sym, inl, inr, true≢false}
+use Rattle.std.proofs.Common.{◌≡◌, ◌∙◌, ◌⊎◌, ℕ, ◌<◌, ◌≤◌, ◌+◌, List, [], ◌∷◌, ◌++◌, length, map, drop, get_or, Some, None, refl, arith, ap, sym, inl, inr}
+use Rattle.std.proofs.Common.{true≢false}
 use Rattle.std.specs.Prelude.{slice_get, is_some, suc, zero}
 use Rattle.std.specs.Option.{option_map}
 use Rattle.std.proofs.lemmas.List.{length-append, length-map}
@@ -16,7 +17,8 @@ in_second (x ∷ xs) ys zero n at = absurd (omega arith)
 in_second (x ∷ xs) ys (suc i) n at = in_second xs ys i n (omega arith)
 
 -- in no place of a list
-none_there : {X : Type 0} (xs : List X) (i : ℕ) → slice_get xs i ≡ None → ((x : X) × (i < length xs) × (slice_get xs i ≡ Some x) × (get_or xs i x ≡ x)) ⊎ ((length xs ≤ i) × (slice_get xs i ≡ None)) → length xs ≤ i
+none_there : {X : Type 0} (xs : List X) (i : ℕ) → slice_get xs i ≡ None → ((x : X) × (i < length xs) × (slice_get xs i ≡ Some x) × (get_or xs i x ≡ x))
+    ⊎ ((length xs ≤ i) × (slice_get xs i ≡ None)) → length xs ≤ i
 none_there xs i missing (inl found) = absurd (true≢false (sym (ap is_some found.2) ∙ ap is_some missing))
 none_there xs i missing (inr past) = past.0
 

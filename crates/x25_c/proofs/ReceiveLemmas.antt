@@ -1,5 +1,6 @@
 -- Frames that come one behind another: what was answered before, and one frame more.
-use Rattle.std.proofs.Common.{◌≡◌, ◌∙◌, ℕ, zero, suc, ◌+◌, ◌-◌, ◌<◌, ◌≤◌, false, List, length, take, drop, get_or, None, ap, sym, refl, subst, arith, inl, inr, true≢false}
+use Rattle.std.proofs.Common.{◌≡◌, ◌∙◌, ℕ, zero, suc, ◌+◌, ◌-◌, ◌<◌, ◌≤◌, false, List, length, take, drop, get_or, None, ap, sym, refl, subst, arith, inl, inr}
+use Rattle.std.proofs.Common.{true≢false}
 use Rattle.std.specs.Prelude.{Result, Ok, Err, OnOk, is_err, sum}
 use Rattle.std.proofs.lemmas.List.{append-nil, map-append}
 use Rattle.std.proofs.lemmas.List.Sums.{sum_by_more}
@@ -30,35 +31,51 @@ pub earlier_is : (h : Held) → part_of h.step ≡ no_answer → part_before h.e
 earlier_is h none = sym (whole_parts h ∙ ap (and_then (part_before h.earlier)) none ∙ and_nothing (part_before h.earlier))
 
 module _ (octets counts : List ℕ) (place : ℕ) (old self kept new : Held) where
-  behind : whole_of kept ≡ whole_of self → part_of kept.step ≡ no_answer → new.earlier ≡ kept.earlier → whole_of new ≡ and_then (whole_of self) (part_of new.step)
-  behind same none earlier = whole_parts new ∙ ap (λ before. and_then (part_before before) (part_of new.step)) earlier ∙ ap (λ w. and_then w (part_of new.step)) (earlier_is kept none ∙ same)
+  behind : whole_of kept ≡ whole_of self → part_of kept.step ≡ no_answer → new.earlier ≡ kept.earlier → whole_of new
+      ≡ and_then (whole_of self) (part_of new.step)
+  behind same none earlier = whole_parts new ∙ ap (λ before. and_then (part_before before) (part_of new.step)) earlier
+      ∙ ap (λ w. and_then w (part_of new.step)) (earlier_is kept none ∙ same)
 
   -- one frame more was taken
-  pub one_more : Received octets counts place old self (whole_of self) → whole_of kept ≡ whole_of self → part_of kept.step ≡ no_answer → FitsStill self.station kept.station → kept.end ≡ self.end
-      → kept.time ≡ self.time → kept.clock ≡ self.clock → HappensTo kept new (Ok tt) (Comes (frame_at octets counts place)) → new.earlier ≡ kept.earlier → Received octets counts (place + 1) old new (whole_of new)
+  pub one_more : Received octets counts place old self (whole_of self) → whole_of kept ≡ whole_of self → part_of kept.step ≡ no_answer
+      → FitsStill self.station kept.station → kept.end ≡ self.end
+      → kept.time ≡ self.time → kept.clock ≡ self.clock → HappensTo kept new (Ok tt) (Comes (frame_at octets counts place)) → new.earlier ≡ kept.earlier
+      → Received octets counts (place + 1) old new (whole_of new)
   one_more before same none still end now clock happens earlier =
       let next : suc place ≡ place + 1 = omega arith in
-      subst (λ n. Received octets counts n old new (whole_of new)) next (self, whole_of self, before, from_still self kept new (Ok tt) (Comes (frame_at octets counts place)) still end now clock happens, behind same none earlier)
+      subst (λ n. Received octets counts n old new (whole_of new)) next (
+        self,
+        whole_of self,
+        before,
+        from_still self kept new (Ok tt) (Comes (frame_at octets counts place)) still end now clock happens,
+        behind same none earlier,
+      )
 
 -- the same from a station that stood for as much
-pub from_before : (octets counts : List ℕ) (n : ℕ) (old first new : Held) (w : Whole) → FitsStill old.station first.station → first.end ≡ old.end → IsClocked old first → Received octets counts n first new w → Received octets counts n old new w
-from_before octets counts zero old first new w still end clocked r = ((λ c s fits. r.0 c s (still c s fits)), r.1 ∙ end, r.2, record { clock = r.3.clock ∙ clocked.clock; time = r.3.time ∙ clocked.time })
-from_before octets counts (suc n) old first new w still end clocked r = (r.0, r.1, from_before octets counts n old first r.0 r.1 still end clocked r.2, r.3, r.4)
+pub from_before : (octets counts : List ℕ) (n : ℕ) (old first new : Held) (w : Whole) → FitsStill old.station first.station → first.end ≡ old.end
+    → IsClocked old first → Received octets counts n first new w → Received octets counts n old new w
+from_before octets counts zero old first new w still end clocked r =
+    ((λ c s fits. r.0 c s (still c s fits)), r.1 ∙ end, r.2, record { clock = r.3.clock ∙ clocked.clock; time = r.3.time ∙ clocked.time })
+from_before octets counts (suc n) old first new w still end clocked r =
+    (r.0, r.1, from_before octets counts n old first r.0 r.1 still end clocked r.2, r.3, r.4)
 
 pub where_ok : {A E : Type 0} (r : Result A E) (P : Type 0) → is_err r ≡ false → OnOk r P → P
 where_ok (Ok a) P good p = p
 where_ok (Err e) P good p = absurd (true≢false good)
 
 -- the octets of the frame that is next
-pub its_octets : (octets counts : List ℕ) (place at n : ℕ) → at ≡ sum (take place counts) → n ≡ get_or counts place 0 → take (at + n - at) (drop at octets) ≡ frame_at octets counts place
+pub its_octets : (octets counts : List ℕ) (place at n : ℕ) → at ≡ sum (take place counts) → n ≡ get_or counts place 0 → take (at + n - at) (drop at octets)
+    ≡ frame_at octets counts place
 its_octets octets counts place at n here long =
     let many : at + n - at ≡ n = omega arith in
     ap (λ m. take m (drop at octets)) (many ∙ long) ∙ ap (λ a. take (get_or counts place 0) (drop a octets)) here
 
-pub sum_more : (counts : List ℕ) (place at : ℕ) → place < length counts → at ≡ sum (take place counts) → at + get_or counts place 0 ≡ sum (take (place + 1) counts)
+pub sum_more : (counts : List ℕ) (place at : ℕ) → place < length counts → at ≡ sum (take place counts) → at + get_or counts place 0
+    ≡ sum (take (place + 1) counts)
 sum_more counts place at there here = ap (λ a. a + get_or counts place 0) here ∙ sym (sum_by_more (λ x. x) counts place 0 there)
 
-module _ (octets counts : List ℕ) (place at : ℕ) (old self : Held) (there : place < length counts) (here : at ≡ sum (take place counts)) (before : Received octets counts place old self (whole_of self)) where
+module _ (octets counts : List ℕ) (place at : ℕ) (old self : Held) (there : place < length counts) (here : at ≡ sum (take place counts))
+    (before : Received octets counts place old self (whole_of self)) where
   next_is : place + 1 ≡ suc place
   next_is = omega arith
 
@@ -76,7 +93,8 @@ module _ (octets counts : List ℕ) (place at : ℕ) (old self : Held) (there : 
   )
 
   -- no memory for what was answered before
-  pub ends_full : (kept : Held) → whole_of kept ≡ whole_of self → kept.station ≡ self.station → kept.end ≡ self.end → IsClocked self kept → kept.passed ≡ None → ReceivesAll octets counts old kept place 70
+  pub ends_full : (kept : Held) → whole_of kept ≡ whole_of self → kept.station ≡ self.station → kept.end ≡ self.end → IsClocked self kept → kept.passed ≡ None
+      → ReceivesAll octets counts old kept place 70
   unfolding ReceivesAll
   ends_full kept same station end clocked passed = (
     self,
@@ -89,7 +107,15 @@ module _ (octets counts : List ℕ) (place at : ℕ) (old self : Held) (there : 
   )
 
 -- all were taken
-pub ends_all : (octets counts : List ℕ) (place : ℕ) (old self : Held) → place ≡ length counts → Received octets counts place old self (whole_of self) → self.passed ≡ None → ReceivesAll octets counts old self (length counts) 0
+pub ends_all : (octets counts : List ℕ) (place : ℕ) (old self : Held) → place ≡ length counts → Received octets counts place old self (whole_of self)
+    → self.passed ≡ None → ReceivesAll octets counts old self (length counts) 0
 unfolding ReceivesAll
-ends_all octets counts place old self all before passed =
-    (self, subst (λ n. Received octets counts n old self (whole_of self)) all before, (λ c s fits. fits), refl, inl (refl, refl), record { clock = refl; time = refl }, passed)
+ends_all octets counts place old self all before passed = (
+  self,
+  subst (λ n. Received octets counts n old self (whole_of self)) all before,
+  (λ c s fits. fits),
+  refl,
+  inl (refl, refl),
+  record { clock = refl; time = refl },
+  passed,
+)

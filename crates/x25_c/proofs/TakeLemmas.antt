@@ -1,8 +1,10 @@
 -- Items that are taken one by one, from the first on.
-use Rattle.std.proofs.Common.{◌≡◌, ◌∙◌, ℕ, ◌+◌, ◌-◌, ◌<◌, ◌≤◌, List, [], ◌∷◌, ◌++◌, length, map, take, drop, get_or, Some, None, ap, sym, refl, arith, inl, inr, ◌⊎◌, true≢false, set}
+use Rattle.std.proofs.Common.{◌≡◌, ◌∙◌, ℕ, ◌+◌, ◌-◌, ◌<◌, ◌≤◌, List, [], ◌∷◌, ◌++◌, length, map, take, drop, get_or, Some, None, ap, sym, refl, arith, inl, inr}
+use Rattle.std.proofs.Common.{◌⊎◌, true≢false, set}
 use Rattle.std.specs.Prelude.{slice_get, is_some}
 use Rattle.std.specs.List.{flat_map}
-use Rattle.std.proofs.lemmas.List.{take_more, take_more_set, map_more, drop-set-lt, drop-drop, length-set, length-append, length-take-le, length-drop, take-append-drop, append-nil}
+use Rattle.std.proofs.lemmas.List.{take_more, take_more_set, map_more, drop-set-lt, drop-drop, length-set, length-append, length-take-le, length-drop}
+use Rattle.std.proofs.lemmas.List.{take-append-drop, append-nil}
 use Rattle.std.proofs.lemmas.Option.{slice_get_within, get_or_from_slice_get, slice_get_cases}
 use Rattle.std.proofs.lemmas.Grind.{flat_map-append, drop_more_same}
 use Rattle.std.proofs.lemmas.Slice.{take-put_mid, drop-put_mid}
@@ -43,20 +45,34 @@ module _ {I E : Type 0} (event : I → E) (user : I → List ℕ) (items : List 
       ∙ flat_map-append user (take k items) (get_or items k x ∷ [])
       ∙ ap (λ y. octets k ++ (user y ++ [])) (get_or_from_slice_get items k x x at) ∙ ap (λ os. octets k ++ os) (append-nil (user x))
 
-  pub one_more : (k at n : ℕ) (x : I) (e : E) (os : List ℕ) (old now : List E) (before room : List ℕ) → AreTaken k at old now before room → slice_get items k ≡ Some x → e ≡ event x → os ≡ user x
+  pub one_more : (k at n : ℕ) (x : I) (e : E) (os : List ℕ) (old now : List E) (before room : List ℕ) → AreTaken k at old now before room → slice_get items k
+      ≡ Some x → e ≡ event x → os ≡ user x
       → k < length now → n ≡ length os → length os ≤ length room - at → AreTaken (k + 1) (at + length os) old (set now k e) before (put_mid at n room os)
   one_more k at n x e os old now before room t found same octets_same within long fits =
       let there = slice_get_within items k x found in
       let inside : at ≤ length room = omega (arith, t.fits, t.as_long) in record {
         there = omega arith;
-        events = take_more_set now k e within ∙ ap (λ es. es ++ e ∷ []) t.events ∙ ap (λ y. map event (take k items) ++ y ∷ []) (same ∙ ap event (sym (get_or_from_slice_get items k x x found))) ∙ sym (map_more event items k x there);
+        events = take_more_set now k e within ∙ ap (λ es. es ++ e ∷ []) t.events
+            ∙ ap (λ y. map event (take k items) ++ y ∷ []) (same ∙ ap event (sym (get_or_from_slice_get items k x x found)))
+            ∙ sym (map_more event items k x there);
         rest = drop-set-lt (k + 1) now k e (omega arith) ∙ drop_more_same now old k t.rest;
-        filled = ap (λ i. i + length os) t.filled ∙ sym (length-append (octets k) os) ∙ ap (λ o. length (octets k ++ o)) octets_same ∙ ap length (sym (more k x found));
+        filled = ap (λ i. i + length os) t.filled ∙ sym (length-append (octets k) os) ∙ ap (λ o. length (octets k ++ o)) octets_same
+            ∙ ap length (sym (more k x found));
         fits = omega (arith, t.as_long);
         front = take-put_mid at n room os (at + length os) refl inside ∙ ap (λ o. o ++ os) t.front ∙ ap (λ o. octets k ++ o) octets_same ∙ sym (more k x found);
-        back = drop-put_mid at n room os (at + length os) (omega (arith, long)) inside (sym long) ∙ sym (drop-drop (length os) at room) ∙ ap (drop (length os)) t.back ∙ drop-drop (length os) at before;
+        back = drop-put_mid at n room os (at + length os) (omega (arith, long)) inside (sym long) ∙ sym (drop-drop (length os) at room)
+            ∙ ap (drop (length os)) t.back ∙ drop-drop (length os) at before;
         as_many = length-set now k e ∙ t.as_many;
-        as_long = omega (arith, t.as_long, long, length-append (take at room) (os ++ drop n (drop at room)), length-append os (drop n (drop at room)), length-take-le at room inside, length-drop n (drop at room), length-drop at room);
+        as_long = omega (
+          arith,
+          t.as_long,
+          long,
+          length-append (take at room) (os ++ drop n (drop at room)),
+          length-append os (drop n (drop at room)),
+          length-take-le at room inside,
+          length-drop n (drop at room),
+          length-drop at room,
+        );
       }
 
   pub events_are : (k at : ℕ) (old now : List E) (before room : List ℕ) → AreTaken k at old now before room → now ≡ map event (take k items) ++ drop k old
@@ -66,12 +82,14 @@ module _ {I E : Type 0} (event : I → E) (user : I → List ℕ) (items : List 
   octets_are k at old now before room t =
       sym (take-append-drop at room) ∙ ap (λ os. os ++ drop at room) t.front ∙ ap (λ os. octets k ++ os) (t.back ∙ ap (λ i. drop i before) t.filled)
 
-  gone : (k : ℕ) → k ≤ length items → slice_get items k ≡ None → ((x : I) × (k < length items) × (slice_get items k ≡ Some x) × (get_or items k x ≡ x)) ⊎ ((length items ≤ k) × (slice_get items k ≡ None)) → k ≡ length items
+  gone : (k : ℕ) → k ≤ length items → slice_get items k ≡ None → ((x : I) × (k < length items) × (slice_get items k ≡ Some x) × (get_or items k x ≡ x))
+      ⊎ ((length items ≤ k) × (slice_get items k ≡ None)) → k ≡ length items
   gone k few missing (inl found) = absurd (true≢false (sym (ap is_some found.2) ∙ ap is_some missing))
   gone k few missing (inr past) = omega (arith, past.0)
 
   pub all_gone : (k : ℕ) → k ≤ length items → slice_get items k ≡ None → k ≡ length items
   all_gone k few missing = gone k few missing (slice_get_cases items k).1
 
-  pub too_long : (k at : ℕ) (x : I) (old now : List E) (before room : List ℕ) → AreTaken k at old now before room → slice_get items k ≡ Some x → length room - at < length (user x) → length before < length (octets (k + 1))
+  pub too_long : (k at : ℕ) (x : I) (old now : List E) (before room : List ℕ) → AreTaken k at old now before room → slice_get items k ≡ Some x
+      → length room - at < length (user x) → length before < length (octets (k + 1))
   too_long k at x old now before room t found over = omega (arith, t.as_long, t.fits, t.filled, length-append (octets k) (user x), ap length (more k x found))

@@ -17,7 +17,8 @@ asked c v (Ok p) (Refused e) h = absurd (cc)
 asked c v (Err f) (Refused e) h = ap with_packet h
 
 -- and so is one for which memory may be missing
-pub asked_or_lacks : (c : CircuitSettings) (v : code.Circuit) (r : Result Requested CircuitError) (o : Outcome) → SendsOrLacks c v r o → AnswersRequest c v (with_packet r) o
+pub asked_or_lacks : (c : CircuitSettings) (v : code.Circuit) (r : Result Requested CircuitError) (o : Outcome) → SendsOrLacks c v r o
+    → AnswersRequest c v (with_packet r) o
 asked_or_lacks c v (Ok p) (Done next packet) h = (h.0, sym h.1)
 asked_or_lacks c v (Err e) (Done next packet) h = h
 asked_or_lacks c v (Ok p) (Refused e) h = absurd (cc)

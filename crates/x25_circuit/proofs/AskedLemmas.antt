@@ -1,5 +1,6 @@
 -- How many messages ask for confirmation, of what was sent and what waits.
-use Rattle.std.proofs.Common.{◌≡◌, ℕ, zero, suc, ◌+◌, ◌≤◌, List, [], ◌∷◌, ◌++◌, length, take, drop, map, slice_get, Some, Bool, true, false, nat_le, if◌then◌else◌, refl, sym, ap, subst, ◌∙◌, arith}
+use Rattle.std.proofs.Common.{◌≡◌, ℕ, zero, suc, ◌+◌, ◌≤◌, List, [], ◌∷◌, ◌++◌, length, take, drop, map, slice_get, Some, Bool, true, false, nat_le}
+use Rattle.std.proofs.Common.{if◌then◌else◌, refl, sym, ap, subst, ◌∙◌, arith}
 use Rattle.std.proofs.lemmas.List.{drop-drop, drop-map}
 use Rattle.std.specs.Int.{from_bool}
 use Rattle.x25_bits.specs.Bits.{bit}
@@ -26,7 +27,8 @@ asked_if false marks user part rest h = omega (arith, h)
 
 pub asked_cut : (n size : ℕ) (marks : Marks) (user : List ℕ) → asked_in (cut_from n size marks user) ≡ bit marks.d
 asked_cut zero size marks user = omega arith
-asked_cut (suc n) size marks user = asked_if (nat_le (length user) size) marks user (take size user) (cut_from n size marks (drop size user)) (asked_cut n size marks (drop size user))
+asked_cut (suc n) size marks user = asked_if (nat_le (length user) size) marks user (take size user) (cut_from n size marks (drop size user))
+    (asked_cut n size marks (drop size user))
 
 pub bit_few : (b : Bool) → bit b ≤ 1
 bit_few true = omega arith
@@ -57,7 +59,8 @@ first_asks [] b e = absurd (cc)
 first_asks (p ∷ ps) b e = let same : asks p ≡ b = cc in ap (λ (a : Bool). bit a + asked_in ps) (sym same)
 
 -- one more, of which the sender kept whether it asks
-pub asked_next : (n : ℕ) (sent : List Piece) (b : Bool) → slice_get (drop n (map asks sent)) 0 ≡ Some b → bit b + asked_in (drop (n + 1) sent) ≡ asked_in (drop n sent)
+pub asked_next : (n : ℕ) (sent : List Piece) (b : Bool) → slice_get (drop n (map asks sent)) 0 ≡ Some b → bit b + asked_in (drop (n + 1) sent)
+    ≡ asked_in (drop n sent)
 asked_next n sent b e =
     subst (λ (ps : List Piece). bit b + asked_in ps ≡ asked_in (drop n sent)) (drop-drop 1 n sent)
     (first_asks (drop n sent) b (ap (λ (bs : List Bool). slice_get bs 0) (sym (drop-map asks n sent)) ∙ e))
@@ -81,7 +84,8 @@ d_of_piece : (marks : Marks) (m : Bool) (user : List ℕ) → d_of (piece_of mar
 d_of_piece marks true user = refl
 d_of_piece marks false user = refl
 
-asks_by : (b : Bool) (marks : Marks) (user part : List ℕ) → asks (if b then Last marks user else More (with_q marks.q) part) ≡ d_of (if b then Last marks user else More (with_q marks.q) part)
+asks_by : (b : Bool) (marks : Marks) (user part : List ℕ) → asks (if b then Last marks user else More (with_q marks.q) part)
+    ≡ d_of (if b then Last marks user else More (with_q marks.q) part)
 asks_by true marks user part = refl
 asks_by false marks user part = refl
 
@@ -89,5 +93,6 @@ asks_by_d : (size : ℕ) (ms : List Message) → asks (first_cut size ms) ≡ d_
 asks_by_d size [] = refl
 asks_by_d size (m ∷ ms) = asks_by (nat_le (length m.user) size) m.marks m.user (take size m.user)
 
-pub asks_as_marked : (size : ℕ) (ms : List Message) (marks : Marks) (m : Bool) (user : List ℕ) → piece_of marks m user ≡ first_cut size ms → asks (piece_of marks m user) ≡ marks.d
+pub asks_as_marked : (size : ℕ) (ms : List Message) (marks : Marks) (m : Bool) (user : List ℕ) → piece_of marks m user ≡ first_cut size ms
+    → asks (piece_of marks m user) ≡ marks.d
 asks_as_marked size ms marks m user e = ap asks e ∙ asks_by_d size ms ∙ sym (ap d_of e) ∙ d_of_piece marks m user

@@ -1,10 +1,12 @@
 -- The packets of a message carry it.
-use Rattle.std.proofs.Common.{◌≡◌, ℕ, zero, suc, ◌+◌, ◌≤◌, List, [], ◌∷◌, ◌++◌, length, take, drop, None, Bool, true, false, nat_le, if◌then◌else◌, refl, sym, ap, ◌∙◌, arith, append_assoc, append-nil}
+use Rattle.std.proofs.Common.{◌≡◌, ℕ, zero, suc, ◌+◌, ◌≤◌, List, [], ◌∷◌, ◌++◌, length, take, drop, None, Bool, true, false, nat_le, if◌then◌else◌, refl, sym}
+use Rattle.std.proofs.Common.{ap, ◌∙◌, arith, append_assoc, append-nil}
 use Rattle.std.proofs.lemmas.Bool.{le-leb, leb-true, leb-false}
 use Rattle.std.proofs.lemmas.List.{length-drop, length-take-le, take-append-drop, length-append}
 use Rattle.x25_packet.specs.declared.marks.Marks.{Marks}
 use Rattle.x25_packet.specs.Marks.{with_q}
-use Rattle.x25_circuit.specs.Message.{Message, Piece, More, Last, Partial, no_part, joined, joining, completed, carried_from, carried, same_q, may_have_q, ground_of, AreSound, cut, cut_from}
+use Rattle.x25_circuit.specs.Message.{Message, Piece, More, Last, Partial, no_part, joined, joining, completed, carried_from, carried, same_q, may_have_q}
+use Rattle.x25_circuit.specs.Message.{ground_of, AreSound, cut, cut_from}
 use Rattle.x25_circuit.specs.laws.MessageLaws.{CutCarries, CutIsSound, SendAdds, SendStaysWhole, TakeAdds}
 
 joining_append : (j : Partial) (ps rs : List Piece) → joining j (ps ++ rs) ≡ joining (joining j ps) rs
@@ -34,18 +36,21 @@ carried_by : (b : Bool) (j : Partial) (marks : Marks) (user part : List ℕ) (ps
 carried_by true j marks user part ps e = refl
 carried_by false j marks user part ps e = e
 
-cut_carried : (n size : ℕ) (marks : Marks) (user : List ℕ) (j : Partial) → carried_from j (cut_from n size marks user) ≡ record { marks = marks; user = j.user ++ user } ∷ []
+cut_carried : (n size : ℕ) (marks : Marks) (user : List ℕ) (j : Partial) → carried_from j (cut_from n size marks user)
+    ≡ record { marks = marks; user = j.user ++ user } ∷ []
 cut_carried zero size marks user j = refl
 cut_carried (suc n) size marks user j =
     carried_by (nat_le (length user) size) j marks user (take size user) (cut_from n size marks (drop size user))
     (cut_carried n size marks (drop size user) (joined j (More (with_q marks.q) (take size user)))
-    ∙ ap (λ (xs : List ℕ). record { marks = marks; user = xs } ∷ []) (append_assoc j.user (take size user) (drop size user) ∙ ap (λ (xs : List ℕ). j.user ++ xs) (take-append-drop size user)))
+    ∙ ap (λ (xs : List ℕ). record { marks = marks; user = xs } ∷ [])
+    (append_assoc j.user (take size user) (drop size user) ∙ ap (λ (xs : List ℕ). j.user ++ xs) (take-append-drop size user)))
 
 pub cut_carries : CutCarries
 cut_carries size marks user = cut_carried (length user) size marks user no_part
 
 pub take_adds : TakeAdds
-take_adds taken piece = carried_append no_part taken (piece ∷ []) ∙ ap (λ (ms : List Message). carried taken ++ ms) (append-nil (completed (joining no_part taken) piece))
+take_adds taken piece = carried_append no_part taken (piece ∷ [])
+    ∙ ap (λ (ms : List Message). carried taken ++ ms) (append-nil (completed (joining no_part taken) piece))
 
 pub send_adds : SendAdds
 send_adds size marks user sent rest whole =
@@ -66,7 +71,8 @@ same_as_itself : (q : Bool) → same_q q q ≡ true
 same_as_itself true = refl
 same_as_itself false = refl
 
-sound_ground : (longest size : ℕ) (j : Partial) (n : ℕ) (q : Bool) → n ≤ size → length j.user + n ≤ longest → may_have_q j.begun q ≡ true → ground_of longest size j n q ≡ None
+sound_ground : (longest size : ℕ) (j : Partial) (n : ℕ) (q : Bool) → n ≤ size → length j.user + n ≤ longest → may_have_q j.begun q ≡ true
+    → ground_of longest size j n q ≡ None
 sound_ground longest size j n q a b e = rw (le-leb _ _ a, le-leb _ _ b, e) refl
 
 sound_by : (b : Bool) (longest size : ℕ) (j : Partial) (marks : Marks) (user : List ℕ) (ps : List Piece) → nat_le (length user) size ≡ b
@@ -79,7 +85,8 @@ sound_by false longest size j marks user ps e short same rest =
     let taken = length-take-le size user (omega (arith, more)) in
     (sound_ground longest size j (length (take size user)) marks.q (omega (arith, taken)) (omega (arith, taken, more, short)) same, rest e)
 
-cut_sound : (n longest size : ℕ) (marks : Marks) (user : List ℕ) (j : Partial) → length user ≤ n → 1 ≤ size → length j.user + length user ≤ longest → may_have_q j.begun marks.q ≡ true
+cut_sound : (n longest size : ℕ) (marks : Marks) (user : List ℕ) (j : Partial) → length user ≤ n → 1 ≤ size → length j.user + length user ≤ longest
+    → may_have_q j.begun marks.q ≡ true
     → AreSound longest size j (cut_from n size marks user)
 cut_sound zero longest size marks user j few some short same = (sound_ground longest size j (length user) marks.q (omega (arith, few, some)) short same, tt)
 cut_sound (suc n) longest size marks user j few some short same =

@@ -1,5 +1,6 @@
 -- How messages are cut and joined.
-use Rattle.std.proofs.Common.{◌≡◌, ℕ, zero, suc, ◌+◌, ◌≤◌, ◌<◌, List, [], ◌∷◌, ◌++◌, length, take, drop, Bool, true, false, nat_le, if◌then◌else◌, refl, sym, ap, ◌∙◌, arith, add_assoc, append_assoc, append-nil}
+use Rattle.std.proofs.Common.{◌≡◌, ℕ, zero, suc, ◌+◌, ◌≤◌, ◌<◌, List, [], ◌∷◌, ◌++◌, length, take, drop, Bool, true, false, nat_le, if◌then◌else◌, refl, sym}
+use Rattle.std.proofs.Common.{ap, ◌∙◌, arith, add_assoc, append_assoc, append-nil}
 use Rattle.std.proofs.lemmas.Bool.{le-leb, leb-false}
 use Rattle.std.proofs.lemmas.List.{length-drop}
 use Rattle.x25_packet.specs.declared.marks.Marks.{Marks}
@@ -29,7 +30,8 @@ wholes_all size (m ∷ ms) =
 
 pub cut_all_push : (size : ℕ) (ms : List Message) (m : Message) → cut_all size (ms ++ m ∷ []) ≡ cut_all size ms ++ cut size m.marks m.user
 cut_all_push size [] m = append-nil (cut size m.marks m.user)
-cut_all_push size (n ∷ ms) m = ap (λ (ps : List Piece). cut size n.marks n.user ++ ps) (cut_all_push size ms m) ∙ sym (append_assoc (cut size n.marks n.user) (cut_all size ms) (cut size m.marks m.user))
+cut_all_push size (n ∷ ms) m = ap (λ (ps : List Piece). cut size n.marks n.user ++ ps) (cut_all_push size ms m)
+    ∙ sym (append_assoc (cut size n.marks n.user) (cut_all size ms) (cut size m.marks m.user))
 
 pub joining_push : (j : Partial) (ps : List Piece) (p : Piece) → joining j (ps ++ p ∷ []) ≡ joined (joining j ps) p
 joining_push j [] p = refl

@@ -1,5 +1,6 @@
 -- What a sender counts, and keeps of each packet.
-use Rattle.std.proofs.Common.{◌≡◌, ℕ, ◌+◌, ◌-◌, ◌<◌, ◌≤◌, Bool, IsErr, IfOk, OnOk, Result, Ok, Err, is_ok, true, refl, List, [], ◌∷◌, ◌++◌, map, length, drop, slice_get, min, Some, sym, ap, subst, ◌∙◌, add_assoc, arith}
+use Rattle.std.proofs.Common.{◌≡◌, ℕ, ◌+◌, ◌-◌, ◌<◌, ◌≤◌, Bool, IsErr, IfOk, OnOk, Result, Ok, Err, is_ok, true, refl, List, [], ◌∷◌, ◌++◌, map, length, drop}
+use Rattle.std.proofs.Common.{slice_get, min, Some, sym, ap, subst, ◌∙◌, add_assoc, arith}
 use Rattle.std.proofs.lemmas.List.{length-drop, length-map, map-append}
 use Rattle.std.specs.Int.{from_bool}
 use Rattle.x25_bits.specs.Bits.{bit}
@@ -20,7 +21,8 @@ use Rattle.x25_circuit.proofs.AskedLemmas.{asked_append, asked_cut, asked_few, a
 use Rattle.x25_circuit.proofs.TalkLemmas.{acked_fits, waits_are}
 
 -- one packet more is sent, which isn't refused while there is room
-pub numbers_sent : (old new : Held Bool) (r : Result Seq WindowError) (n : ℕ) (sent : List Piece) (p : Piece) (b : Bool) → ((w : Sending Bool) → Fits old w → OnOk r (Fits new (offered w b)))
+pub numbers_sent : (old new : Held Bool) (r : Result Seq WindowError) (n : ℕ) (sent : List Piece) (p : Piece) (b : Bool)
+    → ((w : Sending Bool) → Fits old w → OnOk r (Fits new (offered w b)))
     → (IsErr r → length old.items ≡ old.window) → length old.items < 7 → FitsNumbers old n sent → asks p ≡ b → FitsNumbers new n (sent ++ p ∷ [])
 numbers_sent old new (Ok ps) n sent p b step full few fits same = record {
   state = offered fits.state b;
@@ -33,7 +35,8 @@ numbers_sent old new (Err e) n sent p b step full few fits same = absurd (let h 
 
 -- ---- packets that are acknowledged
 
-pub numbers_acked : (old new : Held Bool) (n count : ℕ) (sent : List Piece) → ((w : Sending Bool) → Fits old w → Fits new (acknowledged w (w.acked + count))) → FitsNumbers old n sent
+pub numbers_acked : (old new : Held Bool) (n count : ℕ) (sent : List Piece) → ((w : Sending Bool) → Fits old w → Fits new (acknowledged w (w.acked + count)))
+    → FitsNumbers old n sent
     → FitsNumbers new (n + count) sent
 numbers_acked old new n count sent step fits = record {
   state = acknowledged fits.state (fits.state.acked + count);
@@ -44,7 +47,8 @@ numbers_acked old new n count sent step fits = record {
 }
 
 -- one more, which is handed out
-pub numbers_released : (old new : Held Bool) (n count : ℕ) (sent : List Piece) → ((w : Sending Bool) → Fits old w → Fits new (acknowledged w (w.acked + 1))) → FitsNumbers old (n + count) sent
+pub numbers_released : (old new : Held Bool) (n count : ℕ) (sent : List Piece) → ((w : Sending Bool) → Fits old w → Fits new (acknowledged w (w.acked + 1)))
+    → FitsNumbers old (n + count) sent
     → FitsNumbers new (n + (count + 1)) sent
 numbers_released old new n count sent step fits =
     subst (λ (m : ℕ). FitsNumbers new m sent) (add_assoc n count 1) (numbers_acked old new (n + count) 1 sent step fits)
@@ -57,7 +61,8 @@ released_asks h n count sent b fits first =
     (asked_next (n + count) sent b (ap (λ (bs : List Bool). slice_get bs 0) (sym kept) ∙ first))
 
 -- so many, by a P(R)
-resolved_by : (h : Held Bool) (n count pr : ℕ) (sent : List Piece) → ((w : Sending Bool) → Fits h w → w.acked + count ≡ resolved w.acked pr) → FitsNumbers h n sent → n + count ≡ resolved n pr
+resolved_by : (h : Held Bool) (n count pr : ℕ) (sent : List Piece) → ((w : Sending Bool) → Fits h w → w.acked + count ≡ resolved w.acked pr)
+    → FitsNumbers h n sent → n + count ≡ resolved n pr
 resolved_by h n count pr sent is fits = subst (λ (m : ℕ). m + count ≡ resolved m pr) fits.acked (is fits.state fits.fits)
 
 -- where confirmation isn't asked, of whatever is sent or waits
@@ -68,12 +73,15 @@ pub acked_unasked : (size : ℕ) (v : Transfer) (t : Talk) (sender : Held Bool) 
 acked_unasked size v t sender (Ok count) pr step is ok none fits =
     let fewer = asked_fewer t.acked count (t.sent ++ t.rest) in
     subst (λ (n : ℕ). FitsTalk size (record v { sender = sender }) (with_acked n t)) (resolved_by v.sender t.acked count pr t.sent is fits.numbers)
-    (acked_fits size v t sender (t.acked + count) v.unconfirmed fits (numbers_acked v.sender sender t.acked count t.sent step fits.numbers) (omega (arith, fewer, none, fits.unconfirmed)))
+    (acked_fits size v t sender (t.acked + count) v.unconfirmed fits (numbers_acked v.sender sender t.acked count t.sent step fits.numbers)
+    (omega (arith, fewer, none, fits.unconfirmed)))
 acked_unasked size v t sender (Err e) pr step is ok none fits = absurd (cc)
 
 pub acked_asked : (size : ℕ) (v : Transfer) (t : Talk) (sender : Held Bool) (count asked pr unconfirmed : ℕ)
-    → ((w : Sending Bool) → Fits v.sender w → w.acked + count ≡ resolved w.acked pr) → ((w : Sending Bool) → Fits v.sender w → Acknowledges w pr (w.acked + count))
-    → asked + asked_in (drop (t.acked + count) t.sent) ≡ asked_in (drop t.acked t.sent) → unconfirmed ≡ v.unconfirmed - asked → FitsNumbers sender (t.acked + count) t.sent → FitsTalk size v t
+    → ((w : Sending Bool) → Fits v.sender w → w.acked + count ≡ resolved w.acked pr)
+    → ((w : Sending Bool) → Fits v.sender w → Acknowledges w pr (w.acked + count))
+    → asked + asked_in (drop (t.acked + count) t.sent) ≡ asked_in (drop t.acked t.sent) → unconfirmed ≡ v.unconfirmed - asked
+    → FitsNumbers sender (t.acked + count) t.sent → FitsTalk size v t
     → FitsTalk size (record v { sender = sender; unconfirmed = unconfirmed }) (with_acked (resolved t.acked pr) t)
 acked_asked size v t sender count asked pr unconfirmed is valid less left numbers fits =
     let within = (valid fits.numbers.state fits.numbers.fits).high in
@@ -81,12 +89,14 @@ acked_asked size v t sender count asked pr unconfirmed is valid less left number
     let high : t.acked + count ≤ length t.sent = omega (arith, within, given, fits.numbers.acked) in
     let before = drop_sent t.acked t.sent t.rest (omega (arith, high)) in
     let after = drop_sent (t.acked + count) t.sent t.rest high in
-    subst (λ (n : ℕ). FitsTalk size (record v { sender = sender; unconfirmed = unconfirmed }) (with_acked n t)) (resolved_by v.sender t.acked count pr t.sent is fits.numbers)
+    subst (λ (n : ℕ). FitsTalk size (record v { sender = sender; unconfirmed = unconfirmed }) (with_acked n t))
+    (resolved_by v.sender t.acked count pr t.sent is fits.numbers)
     (acked_fits size v t sender (t.acked + count) unconfirmed fits numbers (omega (arith, before, after, less, left, fits.unconfirmed)))
 
 -- ---- how many ask
 
-sent_more : (size : ℕ) (v : Transfer) (t : Talk) (rest : List Piece) → FitsTalk size v t → asked_in (drop t.acked (t.sent ++ rest)) ≡ asked_in (drop t.acked t.sent) + asked_in rest
+sent_more : (size : ℕ) (v : Transfer) (t : Talk) (rest : List Piece) → FitsTalk size v t → asked_in (drop t.acked (t.sent ++ rest))
+    ≡ asked_in (drop t.acked t.sent) + asked_in rest
 sent_more size v t rest fits =
     let sound = fits.numbers.fits.sound in
     drop_sent t.acked t.sent rest (omega (arith, sound.place_low, sound.place_high, ap length fits.numbers.sent ∙ length-map t.sent asks, fits.numbers.acked))
@@ -102,7 +112,8 @@ unconfirmed_few size v t fits =
     omega (arith, fits.unconfirmed, sent_more size v t t.rest fits, sent_few size v t fits, asked_few t.rest, waits_are size v t fits)
 
 -- a message more waits
-pub asked_more : (size : ℕ) (v : Transfer) (t : Talk) (marks : Marks) (user : List ℕ) (byte unconfirmed : ℕ) → length (waiting v.queue) < 8 → byte ≡ from_bool marks.d
+pub asked_more : (size : ℕ) (v : Transfer) (t : Talk) (marks : Marks) (user : List ℕ) (byte unconfirmed : ℕ) → length (waiting v.queue) < 8 → byte
+    ≡ from_bool marks.d
     → unconfirmed ≡ min (v.unconfirmed + byte) 255 → FitsTalk size v t → unconfirmed ≡ asked_in (drop t.acked (t.sent ++ (t.rest ++ cut size marks user)))
 asked_more size v t marks user byte unconfirmed few is sum fits =
     omega (

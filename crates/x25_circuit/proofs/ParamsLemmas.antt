@@ -1,5 +1,6 @@
 -- Packet sizes and windows that are proposed, said and answered.
-use Rattle.std.proofs.Common.{◌≡◌, ◌≤◌, ℕ, List, [], ◌∷◌, ◌++◌, Option, Some, None, Result, Ok, Err, Bool, true, false, ◌==◌, ◌&&◌, ◌||◌, nat_le, if◌then◌else◌, refl, sym, ap, ◌∙◌, arith, lit≤}
+use Rattle.std.proofs.Common.{◌≡◌, ◌≤◌, ℕ, List, [], ◌∷◌, ◌++◌, Option, Some, None, Result, Ok, Err, Bool, true, false, ◌==◌, ◌&&◌, ◌||◌, nat_le, if◌then◌else◌}
+use Rattle.std.proofs.Common.{refl, sym, ap, ◌∙◌, arith, lit≤}
 use Rattle.std.proofs.lemmas.Bool.{le-leb, leb-true, leb-false, eqb-true, eq-eqb, and_parts, and_from, or_left, or_right}
 use Rattle.std.proofs.Math.Nat.{pow-le-pow_right}
 use Rattle.x25_packet.specs.declared.error.PacketError.{PacketError}
@@ -9,7 +10,8 @@ use Rattle.x25_packet.specs.declared.facilities.Directions.{Directions}
 use Rattle.x25_packet.specs.Facilities.{AreWithin, IfGiven, facilities_of, facility, field_of, is_within, last, with_sizes, windows_of as windows_in}
 use Rattle.x25_circuit.specs.declared.params.Params.{Params}
 use Rattle.x25_circuit.specs.Params.{in_brief, in_full, may_propose, is_toward, sizes_of, windows_of, params_of, news, said_of, said_or, said_by, terms_of}
-use Rattle.x25_circuit.specs.laws.ParamsLaws.{FieldIsSaid, FullIsReadAlike, FullSaysAll, NoFieldIsKnown, KnownIsNoField, FieldIsAllowed, SaidIsAllowed, ProposalIsAnswer, DefaultIsAnswer, AnswerIsAllowed, AreTerms, TermsAreAllowed}
+use Rattle.x25_circuit.specs.laws.ParamsLaws.{FieldIsSaid, FullIsReadAlike, FullSaysAll, NoFieldIsKnown, KnownIsNoField, FieldIsAllowed, SaidIsAllowed}
+use Rattle.x25_circuit.specs.laws.ParamsLaws.{ProposalIsAnswer, DefaultIsAnswer, AnswerIsAllowed, AreTerms, TermsAreAllowed}
 
 -- ---- tests
 
@@ -56,21 +58,25 @@ toward_itself : (usual n : ℕ) → is_toward usual n n ≡ true
 toward_itself usual n = toward_by (nat_le usual n) usual n refl where
   toward_by : (b : Bool) (usual n : ℕ) → nat_le usual n ≡ b → is_toward usual n n ≡ true
   toward_by true usual n e = or_left (is_within usual n n) (is_within n usual n) (is_inside usual n n (leb-true _ _ e) (omega arith))
-  toward_by false usual n e = or_right (is_within usual n n) (is_within n usual n) (is_inside n usual n (omega arith) (let h = leb-false _ _ e in omega (arith, h)))
+  toward_by false usual n e = or_right (is_within usual n n) (is_within n usual n)
+      (is_inside n usual n (omega arith) (let h = leb-false _ _ e in omega (arith, h)))
 
 toward_usual : (usual n : ℕ) → is_toward usual n usual ≡ true
 toward_usual usual n = toward_by (nat_le usual n) usual n refl where
   toward_by : (b : Bool) (usual n : ℕ) → nat_le usual n ≡ b → is_toward usual n usual ≡ true
   toward_by true usual n e = or_left (is_within usual n usual) (is_within n usual usual) (is_inside usual n usual (omega arith) (leb-true _ _ e))
-  toward_by false usual n e = or_right (is_within usual n usual) (is_within n usual usual) (is_inside n usual usual (let h = leb-false _ _ e in omega (arith, h)) (omega arith))
+  toward_by false usual n e = or_right (is_within usual n usual) (is_within n usual usual)
+      (is_inside n usual usual (let h = leb-false _ _ e in omega (arith, h)) (omega arith))
 
 pub proposal_is_answer : ProposalIsAnswer
 proposal_is_answer p =
-    and_from _ _ (toward_itself 7 p.size_called) (and_from _ _ (toward_itself 7 p.size_calling) (and_from _ _ (toward_itself 2 p.win_called) (toward_itself 2 p.win_calling)))
+    and_from _ _ (toward_itself 7 p.size_called)
+    (and_from _ _ (toward_itself 7 p.size_calling) (and_from _ _ (toward_itself 2 p.win_called) (toward_itself 2 p.win_calling)))
 
 pub default_is_answer : DefaultIsAnswer
 default_is_answer p =
-    and_from _ _ (toward_usual 7 p.size_called) (and_from _ _ (toward_usual 7 p.size_calling) (and_from _ _ (toward_usual 2 p.win_called) (toward_usual 2 p.win_calling)))
+    and_from _ _ (toward_usual 7 p.size_called)
+    (and_from _ _ (toward_usual 7 p.size_calling) (and_from _ _ (toward_usual 2 p.win_called) (toward_usual 2 p.win_calling)))
 
 toward_inside : (least most usual proposed answered : ℕ) → least ≤ usual → usual ≤ most → is_within least most proposed ≡ true
     → is_toward usual proposed answered ≡ true → is_within least most answered ≡ true
@@ -86,7 +92,8 @@ toward_inside least most usual proposed answered f g inside toward =
 pub answer_is_allowed : AnswerIsAllowed
 answer_is_allowed p q allowed answers =
     let inside = are_inside p allowed in
-    let a = and_parts (is_toward 7 p.size_called q.size_called) (is_toward 7 p.size_calling q.size_calling && (is_toward 2 p.win_called q.win_called && is_toward 2 p.win_calling q.win_calling)) answers in
+    let a = and_parts (is_toward 7 p.size_called q.size_called)
+    (is_toward 7 p.size_calling q.size_calling && (is_toward 2 p.win_called q.win_called && is_toward 2 p.win_calling q.win_calling)) answers in
     let b = and_parts (is_toward 7 p.size_calling q.size_calling) (is_toward 2 p.win_called q.win_called && is_toward 2 p.win_calling q.win_calling) a.1 in
     let d = and_parts (is_toward 2 p.win_called q.win_called) (is_toward 2 p.win_calling q.win_calling) b.1 in
     inside_is_allowed q (record {
@@ -102,10 +109,12 @@ answer_is_allowed p q allowed answers =
 abbrev BothWithin : ℕ → ℕ → Directions → Type 0
 BothWithin least most d = (is_within least most d.called && is_within least most d.calling) ≡ true
 
-pub both_within : (least most a b : ℕ) → is_within least most a ≡ true → is_within least most b ≡ true → BothWithin least most (record { called = a; calling = b })
+pub both_within : (least most a b : ℕ) → is_within least most a ≡ true → is_within least most b ≡ true
+    → BothWithin least most (record { called = a; calling = b })
 both_within least most a b e f = and_from (is_within least most a) (is_within least most b) e f
 
-news_by : (b : Bool) (known said : Directions) → (said.called == known.called && said.calling == known.calling) ≡ b → said_or known (if b then None else Some said) ≡ said
+news_by : (b : Bool) (known said : Directions) → (said.called == known.called && said.calling == known.calling) ≡ b
+    → said_or known (if b then None else Some said) ≡ said
 news_by true known said e =
     let h = and_parts (said.called == known.called) (said.calling == known.calling) e in
     let f = eqb-true said.called known.called h.0 in let g = eqb-true said.calling known.calling h.1 in
@@ -142,8 +151,10 @@ field_is_said known proposal allowed =
     let windows = said_of all (windows_of known) (windows_of said) in
     ap (said_by known)
     (field_is_read sizes windows
-    (said_given all (sizes_of known) (sizes_of said) (BothWithin 4 12) (both_within 4 12 said.size_called said.size_calling inside.size_called inside.size_calling))
-    (said_given all (windows_of known) (windows_of said) (BothWithin 1 7) (both_within 1 7 said.win_called said.win_calling inside.win_called inside.win_calling)))
+    (said_given all (sizes_of known) (sizes_of said) (BothWithin 4 12)
+    (both_within 4 12 said.size_called said.size_calling inside.size_called inside.size_calling))
+    (said_given all (windows_of known) (windows_of said) (BothWithin 1 7)
+    (both_within 1 7 said.win_called said.win_calling inside.win_called inside.win_calling)))
     ∙ ap (λ (d : Directions). params_of d (said_or (windows_of known) windows)) (said_is all (sizes_of known) (sizes_of said))
     ∙ ap (params_of (sizes_of said)) (said_is all (windows_of known) (windows_of said))
 
@@ -162,7 +173,8 @@ no_news : (d : Directions) → news d d ≡ None
 no_news d = rw (eq-eqb d.called d.called refl, eq-eqb d.calling d.calling refl) refl
 
 pub known_is_no_field : KnownIsNoField
-known_is_no_field known = ap (λ (s : Option Directions). field_of (record { packet_size = s; window_size = news (windows_of known) (windows_of known) })) (no_news (sizes_of known))
+known_is_no_field known = ap (λ (s : Option Directions). field_of (record { packet_size = s; window_size = news (windows_of known) (windows_of known) }))
+    (no_news (sizes_of known))
     ∙ ap (λ (w : Option Directions). field_of (record { packet_size = None; window_size = w })) (no_news (windows_of known))
 
 -- a field that says what may be proposed may stand in a packet
@@ -172,13 +184,16 @@ field_is_allowed known proposal allowed =
     let inside = are_inside said allowed in (
       record { packet_size = said_of all (sizes_of known) (sizes_of said); window_size = said_of all (windows_of known) (windows_of said) },
       record {
-        sizes = said_given all (sizes_of known) (sizes_of said) (AreWithin 4 12) (are_within 4 12 said.size_called said.size_calling inside.size_called inside.size_calling);
-        windows = said_given all (windows_of known) (windows_of said) (AreWithin 1 7) (are_within 1 7 said.win_called said.win_calling inside.win_called inside.win_calling);
+        sizes = said_given all (sizes_of known) (sizes_of said) (AreWithin 4 12)
+            (are_within 4 12 said.size_called said.size_calling inside.size_called inside.size_calling);
+        windows = said_given all (windows_of known) (windows_of said) (AreWithin 1 7)
+            (are_within 1 7 said.win_called said.win_calling inside.win_called inside.win_calling);
       },
       refl,
     )
   where
-    are_within : (least most a b : ℕ) → is_within least most a ≡ true → is_within least most b ≡ true → AreWithin least most (record { called = a; calling = b })
+    are_within : (least most a b : ℕ) → is_within least most a ≡ true → is_within least most b ≡ true
+        → AreWithin least most (record { called = a; calling = b })
     are_within least most a b e f = record {
       called_least = within_least least most a e;
       called_most = within_most least most a e;
@@ -210,7 +225,8 @@ windows_read (code ∷ called ∷ calling ∷ rest) =
     (λ e. by_test WindowsRead (is_within 1 7 called && is_within 1 7 calling) (last (Some d) rest) (Err BadParameter) (last_read d rest) (λ f. tt))
     (λ e. tt)
 
-sizes_read : (sizes : Option Directions) (windows : Result (Option Directions) PacketError) → IfGiven sizes (BothWithin 4 12) → WindowsRead windows → FieldRead (with_sizes sizes windows)
+sizes_read : (sizes : Option Directions) (windows : Result (Option Directions) PacketError) → IfGiven sizes (BothWithin 4 12) → WindowsRead windows
+    → FieldRead (with_sizes sizes windows)
 sizes_read sizes (Ok windows) f g = (f, g)
 sizes_read sizes (Err e) f g = tt
 
@@ -232,7 +248,8 @@ field_read (code ∷ called ∷ calling ∷ rest) =
     (λ f. sizes_read (Some d) (windows_in rest) f (windows_read rest)) (λ f. tt))
     (λ e. sizes_read None (windows_in (code ∷ called ∷ calling ∷ rest)) tt (windows_read (code ∷ called ∷ calling ∷ rest)))
 
-or_within : (least most : ℕ) (known : Directions) (said : Option Directions) → BothWithin least most known → IfGiven said (BothWithin least most) → BothWithin least most (said_or known said)
+or_within : (least most : ℕ) (known : Directions) (said : Option Directions) → BothWithin least most known → IfGiven said (BothWithin least most)
+    → BothWithin least most (said_or known said)
 or_within least most known None f g = f
 or_within least most known (Some d) f g = g
 
@@ -242,8 +259,12 @@ read_is_allowed known (Ok facilities) allowed h =
     let inside = are_inside known allowed in
     let s = said_or (sizes_of known) facilities.packet_size in
     let w = said_or (windows_of known) facilities.window_size in
-    let a = and_parts (is_within 4 12 s.called) (is_within 4 12 s.calling) (or_within 4 12 (sizes_of known) facilities.packet_size (both_within 4 12 known.size_called known.size_calling inside.size_called inside.size_calling) h.0) in
-    let b = and_parts (is_within 1 7 w.called) (is_within 1 7 w.calling) (or_within 1 7 (windows_of known) facilities.window_size (both_within 1 7 known.win_called known.win_calling inside.win_called inside.win_calling) h.1) in
+    let a = and_parts (is_within 4 12 s.called) (is_within 4 12 s.calling)
+    (or_within 4 12 (sizes_of known) facilities.packet_size (both_within 4 12 known.size_called known.size_calling inside.size_called inside.size_calling)
+    h.0) in
+    let b = and_parts (is_within 1 7 w.called) (is_within 1 7 w.calling)
+    (or_within 1 7 (windows_of known) facilities.window_size (both_within 1 7 known.win_called known.win_calling inside.win_called inside.win_calling) h.1)
+    in
     inside_is_allowed (params_of s w) (record { size_called = a.0; size_calling = a.1; win_called = b.0; win_calling = b.1 })
 
 pub said_is_allowed : SaidIsAllowed

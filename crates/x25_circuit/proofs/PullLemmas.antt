@@ -1,10 +1,11 @@
 -- The next data packet of a circuit.
-use Rattle.std.proofs.Common.{arith, ◌≡◌, ℕ, ◌+◌, ◌%◌, Bool, true, false, ◌&&◌, nat_lt, List, [], ◌∷◌, length, Option, Some, None, IfSome, IfNone, inl, inr, refl, sym, ap, subst, ◌∙◌}
+use Rattle.std.proofs.Common.{arith, ◌≡◌, ℕ, ◌+◌, ◌%◌, Bool, true, false, ◌&&◌, nat_lt, List, [], ◌∷◌, length, Option, Some, None, IfSome, IfNone, inl, inr}
+use Rattle.std.proofs.Common.{refl, sym, ap, subst, ◌∙◌}
 use Rattle.x25_packet.specs.Packet.{user_data}
 use Rattle.x25_packet.specs.declared.marks.Marks.{Marks}
 use Rattle.x25_circuit.specs.declared.circuit.Circuit as code
 use Rattle.x25_circuit.specs.declared.state.State.{State}
-use Rattle.x25_circuit.specs.declared.state.State.TheVariants.{Free, Calling, Arriving, Collision, Open, Resetting, Clearing}
+use Rattle.x25_circuit.specs.declared.state.State.TheVariants.{Open}
 use Rattle.x25_circuit.specs.declared.terms.Terms.{Terms}
 use Rattle.x25_circuit.specs.declared.transfer.Transfer.{Transfer}
 use Rattle.x25_circuit.specs.declared.transfer.Header.{Header}
@@ -21,19 +22,15 @@ use Rattle.x25_circuit.proofs.TalkLemmas.{with_transfer}
 
 -- where no message waits
 pulls_none : (c : CircuitSettings) (x : Circuit) (s : State) → x.talk.rest ≡ [] → pull_in c x s ≡ pulls_nothing x
-pulls_none c x Free e = refl
-pulls_none c x Calling e = refl
-pulls_none c x Arriving e = refl
-pulls_none c x Collision e = refl
 pulls_none c x Open e = ap (λ (ps : List Piece). pull_open c x x.talk ps) e
-pulls_none c x Resetting e = refl
-pulls_none c x Clearing e = refl
+pulls_none c x s e = refl
 
 nothing_waits : (messages : List Message) → length messages ≡ 0 → messages ≡ []
 nothing_waits [] e = refl
 nothing_waits (m ∷ messages) e = absurd (omega arith)
 
-pub pulls_empty : (c : CircuitSettings) (v : code.Circuit) (x : Circuit) → FitsCircuit c v x → length (waiting v.transfer.queue) ≡ 0 → pulled c x ≡ pulls_nothing x
+pub pulls_empty : (c : CircuitSettings) (v : code.Circuit) (x : Circuit) → FitsCircuit c v x → length (waiting v.transfer.queue) ≡ 0 → pulled c x
+    ≡ pulls_nothing x
 pulls_empty c v x fits none = pulls_none c x x.state (fits.talk.rest ∙ ap (cut_all (outgoing x).size) (nothing_waits _ none))
 
 -- the circuit after a packet was sent, and the packet
@@ -61,11 +58,14 @@ data_packet_of : (ps pr : ℕ) (marks : Marks) (m : Bool) (user : List ℕ) → 
 data_packet_of ps pr marks true user = refl
 data_packet_of ps pr marks false user = refl
 
-pub pulls_next : (c : CircuitSettings) (v : code.Circuit) (x : Circuit) (u : Transfer) (made : has_memory v.state ≡ true → u.partial.made ≡ true) (header : Header) → FitsCircuit c v x → x.state ≡ Open
-    → IsSent (outgoing x).window (outgoing x).size x.talk u header → u.partial.longest ≡ v.transfer.partial.longest → FitsCircuit c (record v { transfer = u; made = made }) (pulled c x).next
+pub pulls_next : (c : CircuitSettings) (v : code.Circuit) (x : Circuit) (u : Transfer) (made : has_memory v.state ≡ true → u.partial.made ≡ true)
+    (header : Header) → FitsCircuit c v x → x.state ≡ Open
+    → IsSent (outgoing x).window (outgoing x).size x.talk u header → u.partial.longest ≡ v.transfer.partial.longest
+    → FitsCircuit c (record v { transfer = u; made = made }) (pulled c x).next
 pulls_next c v x u made header fits is_open sent kept =
     let piece = piece_of header.marks header.m u.queue.cutter.lent in
-    subst (λ (p : Pulled). FitsCircuit c (record v { transfer = u; made = made }) p.next) (sym (pulled_is c x piece sent.others is_open sent.first sent.allowed))
+    subst (λ (p : Pulled). FitsCircuit c (record v { transfer = u; made = made }) p.next)
+    (sym (pulled_is c x piece sent.others is_open sent.first sent.allowed))
     (with_transfer c v x u made _ fits sent.fits kept)
 
 pub pulls_packet : (c : CircuitSettings) (x : Circuit) (u : Transfer) (header : Header) → x.state ≡ Open
@@ -75,10 +75,13 @@ pulls_packet c x u header is_open sent =
     let e = pulled_is c x piece sent.others is_open sent.first sent.allowed in
     rw (sent.ps, sent.pr) (ap Some (sym (data_packet_of _ _ header.marks header.m u.queue.cutter.lent)) ∙ ap (λ (p : Pulled). p.packet) (sym e))
 
-pub holds_next : (c : CircuitSettings) (v : code.Circuit) (x : Circuit) (u : Transfer) (made : has_memory v.state ≡ true → u.partial.made ≡ true) → FitsCircuit c v x → x.state ≡ Open
-    → IsHeld (outgoing x).window x.talk → FitsTalk (outgoing x).size u x.talk → u.partial.longest ≡ v.transfer.partial.longest → FitsCircuit c (record v { transfer = u; made = made }) (pulled c x).next
+pub holds_next : (c : CircuitSettings) (v : code.Circuit) (x : Circuit) (u : Transfer) (made : has_memory v.state ≡ true → u.partial.made ≡ true)
+    → FitsCircuit c v x → x.state ≡ Open
+    → IsHeld (outgoing x).window x.talk → FitsTalk (outgoing x).size u x.talk → u.partial.longest ≡ v.transfer.partial.longest
+    → FitsCircuit c (record v { transfer = u; made = made }) (pulled c x).next
 holds_next c v x u made fits is_open held talk kept =
-    subst (λ (p : Pulled). FitsCircuit c (record v { transfer = u; made = made }) p.next) (sym (nothing_is c x is_open held)) (with_transfer c v x u made x.talk fits talk kept)
+    subst (λ (p : Pulled). FitsCircuit c (record v { transfer = u; made = made }) p.next) (sym (nothing_is c x is_open held))
+    (with_transfer c v x u made x.talk fits talk kept)
 
 pub holds_packet : (c : CircuitSettings) (x : Circuit) → x.state ≡ Open → IsHeld (outgoing x).window x.talk → (pulled c x).packet ≡ None
 holds_packet c x is_open held = ap (λ (p : Pulled). p.packet) (nothing_is c x is_open held)
@@ -86,7 +89,8 @@ holds_packet c x is_open held = ap (λ (p : Pulled). p.packet) (nothing_is c x i
 -- ---- by what the transfer sends
 
 -- the transfer by the terms that the code has
-pub own_talk : (c : CircuitSettings) (v : code.Circuit) (x : Circuit) (terms : Terms) → FitsCircuit c v x → terms.size ≡ (outgoing x).size → FitsTalk terms.size v.transfer x.talk
+pub own_talk : (c : CircuitSettings) (v : code.Circuit) (x : Circuit) (terms : Terms) → FitsCircuit c v x → terms.size ≡ (outgoing x).size
+    → FitsTalk terms.size v.transfer x.talk
 own_talk c v x terms fits e = subst (λ (n : ℕ). FitsTalk n v.transfer x.talk) (sym e) fits.talk
 
 sent_by_terms : (x : Circuit) (terms : Terms) (u : Transfer) (h : Header) → terms.window ≡ (outgoing x).window → terms.size ≡ (outgoing x).size
@@ -94,15 +98,19 @@ sent_by_terms : (x : Circuit) (terms : Terms) (u : Transfer) (h : Header) → te
 sent_by_terms x terms u h f g sent =
     subst (λ (n : ℕ). IsSent (outgoing x).window n x.talk u h) g (subst (λ (n : ℕ). IsSent n terms.size x.talk u h) f sent)
 
-pub advances_next : (c : CircuitSettings) (v : code.Circuit) (x : Circuit) (terms : Terms) (u : Transfer) (made : has_memory v.state ≡ true → u.partial.made ≡ true) (r : Option Header) → FitsCircuit c v x → v.state ≡ Open
+pub advances_next : (c : CircuitSettings) (v : code.Circuit) (x : Circuit) (terms : Terms) (u : Transfer)
+    (made : has_memory v.state ≡ true → u.partial.made ≡ true) (r : Option Header) → FitsCircuit c v x → v.state ≡ Open
     → terms.window ≡ (outgoing x).window → terms.size ≡ (outgoing x).size
-    → IfSome r (λ h. IsSent terms.window terms.size x.talk u h) → IfNone r (FitsTalk terms.size u x.talk) → IfNone r (IsHeld terms.window x.talk) → u.partial.longest ≡ v.transfer.partial.longest
+    → IfSome r (λ h. IsSent terms.window terms.size x.talk u h) → IfNone r (FitsTalk terms.size u x.talk) → IfNone r (IsHeld terms.window x.talk)
+    → u.partial.longest ≡ v.transfer.partial.longest
     → FitsCircuit c (record v { transfer = u; made = made }) (pulled c x).next
 advances_next c v x terms u made None fits e f g some none held kept =
     holds_next c v x u made fits (sym fits.state ∙ e) (subst (λ (n : ℕ). IsHeld n x.talk) f held) (subst (λ (n : ℕ). FitsTalk n u x.talk) g none) kept
-advances_next c v x terms u made (Some h) fits e f g some none held kept = pulls_next c v x u made h fits (sym fits.state ∙ e) (sent_by_terms x terms u h f g some) kept
+advances_next c v x terms u made (Some h) fits e f g some none held kept =
+    pulls_next c v x u made h fits (sym fits.state ∙ e) (sent_by_terms x terms u h f g some) kept
 
-pub advances_packet : (c : CircuitSettings) (v : code.Circuit) (x : Circuit) (terms : Terms) (u : Transfer) (r : Option Header) → FitsCircuit c v x → v.state ≡ Open
+pub advances_packet : (c : CircuitSettings) (v : code.Circuit) (x : Circuit) (terms : Terms) (u : Transfer) (r : Option Header) → FitsCircuit c v x → v.state
+    ≡ Open
     → terms.window ≡ (outgoing x).window → terms.size ≡ (outgoing x).size
     → IfSome r (λ h. IsSent terms.window terms.size x.talk u h) → IfNone r (IsHeld terms.window x.talk)
     → packet_with r u.queue.cutter.lent ≡ (pulled c x).packet

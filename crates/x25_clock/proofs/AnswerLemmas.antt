@@ -36,7 +36,8 @@ module _ (c : Settings) (h : ℕ) where
   behind : (s : Station) (o : Outcome) → 2 ≤ rank c s h → IsTold c s h o → answers c h s o ≡ false → 2 ≤ rank c (timer.after s o) h
   behind s (Did step) high told untold = by told
     where
-      by : AwaitsStill c s step.near h ⊎ (((2 ≤ rank c step.near h) × (list_any (is_left_on h) step.entries ≡ true)) ⊎ (list_any (is_answered_on h (awaited s)) step.entries ≡ true)) → 2 ≤ rank c step.near h
+      by : AwaitsStill c s step.near h ⊎ (((2 ≤ rank c step.near h) × (list_any (is_left_on h) step.entries ≡ true))
+          ⊎ (list_any (is_answered_on h (awaited s)) step.entries ≡ true)) → 2 ≤ rank c step.near h
       by (inl still) = same_rank s step.near high still
       by (inr (inl left)) = left.0
       by (inr (inr answered)) = absurd (true≢false (sym answered ∙ untold))
@@ -46,12 +47,14 @@ module _ (c : Settings) (h : ℕ) where
   found_station times (Happens later event) w = refl
   found_station times (IsAsked later due) w = refl
 
-  all_awaited : EndIsTold → (times : Times) (deeds : List Deed) (w : Watched) → 2 ≤ rank c w.station h → IsUntold c times h deeds w → AwaitsAll c times h deeds w
+  all_awaited : EndIsTold → (times : Times) (deeds : List Deed) (w : Watched) → 2 ≤ rank c w.station h → IsUntold c times h deeds w
+      → AwaitsAll c times h deeds w
   all_awaited told times [] w high untold = high
   all_awaited told times (deed ∷ deeds) w high untold =
       let o : Outcome = outcome_of c deed w in
       let next : 2 ≤ rank c (done c times deed w).station h =
-      subst (λ (s : Station). 2 ≤ rank c (timer.after s o) h) (sym (found_station times deed w)) (behind w.station o high (told c w.station h (event_of deed) high) untold.1) in
+      subst (λ (s : Station). 2 ≤ rank c (timer.after s o) h) (sym (found_station times deed w))
+      (behind w.station o high (told c w.station h (event_of deed) high) untold.1) in
       (high, untold.0, all_awaited told times deeds (done c times deed w) next untold.2)
 
 pub answer_is_told : EndIsTold → NothingWaits → AnswerIsTold

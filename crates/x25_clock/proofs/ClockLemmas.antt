@@ -1,5 +1,6 @@
 -- Deadlines stand for what is awaited.
-use Rattle.std.proofs.Common.{◌≡◌, ℕ, zero, suc, ◌+◌, ◌==◌, List, [], ◌∷◌, map, Bool, true, false, not, ◌||◌, if◌then◌else◌, Option, Some, None, refl, sym, ap, ◌∙◌, arith}
+use Rattle.std.proofs.Common.{◌≡◌, ℕ, zero, suc, ◌+◌, ◌==◌, List, [], ◌∷◌, map, Bool, true, false, not, ◌||◌, if◌then◌else◌, Option, Some, None, refl, sym, ap}
+use Rattle.std.proofs.Common.{◌∙◌, arith}
 use Rattle.std.proofs.lemmas.Bool.{true≢false}
 use Rattle.std.proofs.lemmas.Option.{none-some}
 use Rattle.x25_circuit.specs.declared.awaits.Awaits.{Awaits}
@@ -14,8 +15,10 @@ use Rattle.x25_station.specs.Timer.{runs, tells_link, is_acknowledged, timer_of}
 use Rattle.x25_station.specs.laws.TimerLaw as timer
 use Rattle.x25_clock.specs.declared.times.Times.{Times}
 use Rattle.x25_clock.specs.declared.wait.Wait.{Wait}
-use Rattle.x25_clock.specs.Clock.{Deadlines, nothing_awaited, channels_from, deadline, time_of, number_of, running, is_past, t1_after, wait_after, renewed, overdue_of, renewed_on, after_due}
-use Rattle.x25_clock.specs.laws.ClockLaw.{Moment, Happens, IsDue, Watched, seen_of, heeds, watched_by, watched_from, IsSince, Stands, IsAwaited, AreAwaited, AreTrue, DeadlinesAreTrue}
+use Rattle.x25_clock.specs.Clock.{Deadlines, nothing_awaited, channels_from, deadline, time_of, number_of, running, is_past, t1_after, wait_after, renewed}
+use Rattle.x25_clock.specs.Clock.{overdue_of, renewed_on, after_due}
+use Rattle.x25_clock.specs.laws.ClockLaw.{Moment, Happens, IsDue, Watched, seen_of, heeds, watched_by, watched_from, IsSince, Stands, IsAwaited, AreAwaited}
+use Rattle.x25_clock.specs.laws.ClockLaw.{AreTrue, DeadlinesAreTrue}
 
 -- ---- a deadline
 
@@ -32,7 +35,8 @@ false_true : {A : Type 0} → false ≡ true → A
 false_true e = absurd (true≢false (sym e))
 
 -- a deadline that stands while something is so
-runs_on : (now more time : ℕ) (was is anew : Bool) (until : Option ℕ) → Stands now time was until → Stands (now + more) time is (running is anew until (deadline (now + more) time))
+runs_on : (now more time : ℕ) (was is anew : Bool) (until : Option ℕ) → Stands now time was until
+    → Stands (now + more) time is (running is anew until (deadline (now + more) time))
 runs_on now more time was false anew until h = record { on = λ e. false_true e; off = λ e. refl }
 runs_on now more time was true true until h = record { on = λ e. begins (now + more) time; off = λ e. false_true (sym e) }
 runs_on now more time was true false None h = record { on = λ e. begins (now + more) time; off = λ e. false_true (sym e) }
@@ -41,13 +45,15 @@ runs_on now more time false true false (Some moment) h = absurd (none-some momen
 
 -- ---- timer T1
 
-t1_runs : (times : Times) (now more : ℕ) (was is other : Bool) (until : Option ℕ) → Stands now times.t1 was until → Stands (now + more) times.t1 is (t1_after times (now + more) (timer_of is (not was || other)) until)
+t1_runs : (times : Times) (now more : ℕ) (was is other : Bool) (until : Option ℕ) → Stands now times.t1 was until
+    → Stands (now + more) times.t1 is (t1_after times (now + more) (timer_of is (not was || other)) until)
 t1_runs times now more was false other until h = record { on = λ e. false_true e; off = λ e. refl }
 t1_runs times now more false true other until h = record { on = λ e. begins (now + more) times.t1; off = λ e. false_true (sym e) }
 t1_runs times now more true true true until h = record { on = λ e. begins (now + more) times.t1; off = λ e. false_true (sym e) }
 t1_runs times now more true true false until h = record { on = λ e. goes_on now more times.t1 until (h.on refl); off = λ e. false_true (sym e) }
 
-t1_stands : (times : Times) (now more : ℕ) (was : Bool) (until : Option ℕ) → Stands now times.t1 was until → Stands (now + more) times.t1 was (t1_after times (now + more) (timer_of was false) until)
+t1_stands : (times : Times) (now more : ℕ) (was : Bool) (until : Option ℕ) → Stands now times.t1 was until
+    → Stands (now + more) times.t1 was (t1_after times (now + more) (timer_of was false) until)
 t1_stands times now more false until h = record { on = λ e. false_true e; off = λ e. refl }
 t1_stands times now more true until h = record { on = λ e. goes_on now more times.t1 until (h.on refl); off = λ e. false_true (sym e) }
 
@@ -76,48 +82,61 @@ module _ (times : Times) (now more : ℕ) where
   wait_true old new w h = by (number_of w.awaits == number_of (new w.channel)) refl
     where
       by : (b : Bool) → (number_of w.awaits == number_of (new w.channel)) ≡ b
-          → IsAwaited times (now + more) new (if b then w else record { channel = w.channel; awaits = new w.channel; until = deadline (now + more) (time_of times (new w.channel)) })
+          → IsAwaited times (now + more) new (if b then w
+          else record { channel = w.channel; awaits = new w.channel; until = deadline (now + more) (time_of times (new w.channel)) })
       by true e = record { awaits = same_number w.awaits (new w.channel) e; until = goes_on now more (time_of times w.awaits) w.until h.until }
       by false e = record { awaits = refl; until = begins (now + more) (time_of times (new w.channel)) }
 
-  waits_true : (old new : ℕ → Awaits) (waits : List Wait) → AreAwaited times now old waits → AreAwaited times (now + more) new (map (λ w. wait_after times (now + more) (new w.channel) w) waits)
+  waits_true : (old new : ℕ → Awaits) (waits : List Wait) → AreAwaited times now old waits
+      → AreAwaited times (now + more) new (map (λ w. wait_after times (now + more) (new w.channel) w) waits)
   waits_true old new [] h = tt
   waits_true old new (w ∷ waits) h = (wait_true old new w h.0, waits_true old new waits h.1)
 
   wait_channel : (awaits : Awaits) (w : Wait) → (wait_after times (now + more) awaits w).channel ≡ w.channel
   wait_channel awaits w = by (number_of w.awaits == number_of awaits)
     where
-      by : (b : Bool) → (let x : Wait = if b then w else record { channel = w.channel; awaits = awaits; until = deadline (now + more) (time_of times awaits) } in x.channel) ≡ w.channel
+      by : (b : Bool) → (let x : Wait = if b then w
+          else record { channel = w.channel; awaits = awaits; until = deadline (now + more) (time_of times awaits) } in x.channel) ≡ w.channel
       by true = refl
       by false = refl
 
-  waits_channels : (new : ℕ → Awaits) (waits : List Wait) → map (λ (x : Wait). x.channel) (map (λ w. wait_after times (now + more) (new w.channel) w) waits) ≡ map (λ (x : Wait). x.channel) waits
+  waits_channels : (new : ℕ → Awaits) (waits : List Wait) → map (λ (x : Wait). x.channel) (map (λ w. wait_after times (now + more) (new w.channel) w) waits)
+      ≡ map (λ (x : Wait). x.channel) waits
   waits_channels new [] = refl
-  waits_channels new (w ∷ waits) = ap (λ (h : ℕ). h ∷ map (λ (x : Wait). x.channel) (map (λ w. wait_after times (now + more) (new w.channel) w) waits)) (wait_channel (new w.channel) w)
+  waits_channels new (w ∷ waits) = ap (λ (h : ℕ). h ∷ map (λ (x : Wait). x.channel) (map (λ w. wait_after times (now + more) (new w.channel) w) waits))
+      (wait_channel (new w.channel) w)
       ∙ ap (λ (hs : List ℕ). w.channel ∷ hs) (waits_channels new waits)
 
   -- what is due is asked for, and its time begins anew
-  renewed_true : (awaited : ℕ → Awaits) (h : ℕ) (w : Wait) → IsAwaited times now awaited w → IsAwaited times (now + more) awaited (renewed times (now + more) h w)
+  renewed_true : (awaited : ℕ → Awaits) (h : ℕ) (w : Wait) → IsAwaited times now awaited w
+      → IsAwaited times (now + more) awaited (renewed times (now + more) h w)
   renewed_true awaited h w is = by (not (w.channel == h))
     where
-      by : (b : Bool) → IsAwaited times (now + more) awaited (if b then w else record { channel = w.channel; awaits = w.awaits; until = deadline (now + more) (time_of times w.awaits) })
+      by : (b : Bool) → IsAwaited times (now + more) awaited
+          (if b then w else record { channel = w.channel; awaits = w.awaits; until = deadline (now + more) (time_of times w.awaits) })
       by true = record { awaits = is.awaits; until = goes_on now more (time_of times w.awaits) w.until is.until }
       by false = record { awaits = is.awaits; until = begins (now + more) (time_of times w.awaits) }
 
-  all_renewed : (awaited : ℕ → Awaits) (h : ℕ) (waits : List Wait) → AreAwaited times now awaited waits → AreAwaited times (now + more) awaited (map (renewed times (now + more) h) waits)
+  all_renewed : (awaited : ℕ → Awaits) (h : ℕ) (waits : List Wait) → AreAwaited times now awaited waits
+      → AreAwaited times (now + more) awaited (map (renewed times (now + more) h) waits)
   all_renewed awaited h [] is = tt
   all_renewed awaited h (w ∷ waits) is = (renewed_true awaited h w is.0, all_renewed awaited h waits is.1)
 
   all_later : (awaited : ℕ → Awaits) (waits : List Wait) → AreAwaited times now awaited waits → AreAwaited times (now + more) awaited waits
   all_later awaited [] is = tt
-  all_later awaited (w ∷ waits) is = (record { awaits = is.0.awaits; until = goes_on now more (time_of times w.awaits) w.until is.0.until }, all_later awaited waits is.1)
+  all_later awaited (w ∷ waits) is = (
+    record { awaits = is.0.awaits; until = goes_on now more (time_of times w.awaits) w.until is.0.until },
+    all_later awaited waits is.1,
+  )
 
-  renewed_channels : (h : ℕ) (waits : List Wait) → map (λ (x : Wait). x.channel) (map (renewed times (now + more) h) waits) ≡ map (λ (x : Wait). x.channel) waits
+  renewed_channels : (h : ℕ) (waits : List Wait) → map (λ (x : Wait). x.channel) (map (renewed times (now + more) h) waits)
+      ≡ map (λ (x : Wait). x.channel) waits
   renewed_channels h [] = refl
   renewed_channels h (w ∷ waits) = ap (λ (k : ℕ). k ∷ map (λ (x : Wait). x.channel) (map (renewed times (now + more) h) waits)) (by (not (w.channel == h)))
       ∙ ap (λ (hs : List ℕ). w.channel ∷ hs) (renewed_channels h waits)
     where
-      by : (b : Bool) → (let x : Wait = if b then w else record { channel = w.channel; awaits = w.awaits; until = deadline (now + more) (time_of times w.awaits) } in x.channel) ≡ w.channel
+      by : (b : Bool) → (let x : Wait = if b then w
+          else record { channel = w.channel; awaits = w.awaits; until = deadline (now + more) (time_of times w.awaits) } in x.channel) ≡ w.channel
       by true = refl
       by false = refl
 
@@ -127,9 +146,11 @@ module _ (c : Settings) (times : Times) where
   abbrev awaited_by : Station → ℕ → Awaits
   awaited_by s h = awaited_at (layer_settings c) s.layer h
 
-  pub happens_true : (w : Watched) (more : ℕ) (event : timer.StationEvent) (o : Outcome) → AreTrue c times w → AreTrue c times (heeds c times (w.now + more) event o w)
+  pub happens_true : (w : Watched) (more : ℕ) (event : timer.StationEvent) (o : Outcome) → AreTrue c times w
+      → AreTrue c times (heeds c times (w.now + more) event o w)
   happens_true w more event (Did step) h = record {
-    t1 = t1_runs times w.now more (runs w.station) (runs step.near) (timer.is_firing event || (tells_link step.entries || is_acknowledged w.station.link step.near.link)) w.deadlines.t1 h.t1;
+    t1 = t1_runs times w.now more (runs w.station) (runs step.near)
+        (timer.is_firing event || (tells_link step.entries || is_acknowledged w.station.link step.near.link)) w.deadlines.t1 h.t1;
     idle = runs_on w.now more times.t3 (is_at_rest w.station) (is_at_rest step.near) (seen_of c w.station event (Did step)).come w.deadlines.idle h.idle;
     restart = runs_on w.now more times.t20 w.station.layer.restarting step.near.layer.restarting (tells_link step.entries) w.deadlines.restart h.restart;
     waits = waits_true times w.now more (awaited_by w.station) (awaited_by step.near) w.deadlines.waits h.waits;
@@ -144,11 +165,13 @@ module _ (c : Settings) (times : Times) where
   }
 
   -- a deadline that is past begins anew
-  anew : (now more time : ℕ) (so : Bool) (until : Option ℕ) → is_past (now + more) until ≡ true → Stands now time so until → Stands (now + more) time so (deadline (now + more) time)
+  anew : (now more time : ℕ) (so : Bool) (until : Option ℕ) → is_past (now + more) until ≡ true → Stands now time so until
+      → Stands (now + more) time so (deadline (now + more) time)
   anew now more time true until past h = record { on = λ e. begins (now + more) time; off = λ e. false_true (sym e) }
   anew now more time false until past h = false_true (sym (ap (is_past (now + more)) (h.off refl)) ∙ past)
 
-  pub due_true : (w : Watched) (more : ℕ) → AreTrue c times w → AreTrue c times (record w { deadlines = after_due times (w.now + more) w.deadlines; now = w.now + more })
+  pub due_true : (w : Watched) (more : ℕ) → AreTrue c times w
+      → AreTrue c times (record w { deadlines = after_due times (w.now + more) w.deadlines; now = w.now + more })
   due_true w more h = by (is_past now d.t1) refl
     where
       d : Deadlines
@@ -173,16 +196,37 @@ module _ (c : Settings) (times : Times) where
       waits = all_later times w.now more (awaited_by w.station) d.waits h.waits
 
       on_channels : (o : Option Wait) (is_idle : Bool) → is_past now d.idle ≡ is_idle → At (renewed_on times now o is_idle d)
-      on_channels (Some x) is_idle e = record { t1 = t1; idle = idle; restart = restart; waits = all_renewed times w.now more (awaited_by w.station) x.channel d.waits h.waits; channels = renewed_channels times w.now more x.channel d.waits ∙ h.channels }
-      on_channels None true e = record { t1 = t1; idle = anew w.now more times.t3 (is_at_rest w.station) d.idle e h.idle; restart = restart; waits = waits; channels = h.channels }
+      on_channels (Some x) is_idle e = record {
+        t1 = t1;
+        idle = idle;
+        restart = restart;
+        waits = all_renewed times w.now more (awaited_by w.station) x.channel d.waits h.waits;
+        channels = renewed_channels times w.now more x.channel d.waits
+            ∙ h.channels;
+      }
+      on_channels None true e = record {
+        t1 = t1;
+        idle = anew w.now more times.t3 (is_at_rest w.station) d.idle e h.idle;
+        restart = restart;
+        waits = waits;
+        channels = h.channels;
+      }
       on_channels None false e = record { t1 = t1; idle = idle; restart = restart; waits = waits; channels = h.channels }
 
-      behind : (b : Bool) → is_past now d.restart ≡ b → At (if b then record d { restart = deadline now times.t20 } else renewed_on times now (overdue_of now d.waits) (is_past now d.idle) d)
-      behind true e = record { t1 = t1; idle = idle; restart = anew w.now more times.t20 w.station.layer.restarting d.restart e h.restart; waits = waits; channels = h.channels }
+      behind : (b : Bool) → is_past now d.restart ≡ b
+          → At (if b then record d { restart = deadline now times.t20 } else renewed_on times now (overdue_of now d.waits) (is_past now d.idle) d)
+      behind true e = record {
+        t1 = t1;
+        idle = idle;
+        restart = anew w.now more times.t20 w.station.layer.restarting d.restart e h.restart;
+        waits = waits;
+        channels = h.channels;
+      }
       behind false e = on_channels (overdue_of now d.waits) (is_past now d.idle) refl
 
       by : (b : Bool) → is_past now d.t1 ≡ b
-          → At (if b then record d { t1 = deadline now times.t1 } else if is_past now d.restart then record d { restart = deadline now times.t20 } else renewed_on times now (overdue_of now d.waits) (is_past now d.idle) d)
+          → At (if b then record d { t1 = deadline now times.t1 } else if is_past now d.restart then record d { restart = deadline now times.t20 }
+          else renewed_on times now (overdue_of now d.waits) (is_past now d.idle) d)
       by true e = record { t1 = anew w.now more times.t1 (runs w.station) d.t1 e h.t1; idle = idle; restart = restart; waits = waits; channels = h.channels }
       by false e = behind (is_past now d.restart) refl
 
@@ -202,13 +246,22 @@ module _ (c : Settings) (times : Times) where
 
   first_waits : (n first : ℕ) → AreAwaited times 0 (awaited_by new_station) (channels_from first n)
   first_waits zero first = tt
-  first_waits (suc n) first = (record { awaits = nothing_on (is_channel c.channels first); until = record { since = 0; past = omega arith; is = refl } }, first_waits n (first + 1))
+  first_waits (suc n) first = (
+    record { awaits = nothing_on (is_channel c.channels first); until = record { since = 0; past = omega arith; is = refl } },
+    first_waits n (first + 1),
+  )
 
   off_first : (time : ℕ) → Stands 0 time false None
   off_first time = record { on = λ e. false_true e; off = λ e. refl }
 
   first_true : AreTrue c times (record { station = new_station; deadlines = nothing_awaited c.channels.count; now = 0 })
-  first_true = record { t1 = off_first times.t1; idle = off_first times.t3; restart = off_first times.t20; waits = first_waits c.channels.count 1; channels = refl }
+  first_true = record {
+    t1 = off_first times.t1;
+    idle = off_first times.t3;
+    restart = off_first times.t20;
+    waits = first_waits c.channels.count 1;
+    channels = refl;
+  }
 
 pub deadlines_are_true : DeadlinesAreTrue
 deadlines_are_true c times moments = from_here c times moments _ (first_true c times)

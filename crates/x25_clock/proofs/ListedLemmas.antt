@@ -1,5 +1,6 @@
 -- The list of a clock, and what it has of each channel.
-use Rattle.std.proofs.Common.{◌≡◌, ℕ, zero, suc, ◌+◌, ◌<◌, ◌≤◌, ◌==◌, nat_le, List, [], ◌∷◌, ◌++◌, length, map, drop, slice_index_or, Bool, true, false, not, if◌then◌else◌, Option, Some, None, refl, sym, ap, subst, ◌∙◌, arith, ◌⊎◌, inl, inr}
+use Rattle.std.proofs.Common.{◌≡◌, ℕ, zero, suc, ◌+◌, ◌<◌, ◌≤◌, ◌==◌, nat_le, List, [], ◌∷◌, ◌++◌, length, map, drop, slice_index_or, Bool, true, false, not}
+use Rattle.std.proofs.Common.{if◌then◌else◌, Option, Some, None, refl, sym, ap, subst, ◌∙◌, arith, ◌⊎◌, inl, inr}
 use Rattle.std.proofs.lemmas.Bool.{true≢false, eqb-true, eq-eqb}
 use Rattle.std.proofs.lemmas.Bool.Decides.{leb_tells}
 use Rattle.x25_circuit.specs.declared.awaits.Awaits.{Awaits}
@@ -7,7 +8,8 @@ use Rattle.x25_circuit.specs.declared.awaits.Awaits.TheVariants.{Nothing, Accept
 use Rattle.x25_circuit.specs.Awaits.{is_any}
 use Rattle.x25_clock.specs.declared.times.Times.{Times}
 use Rattle.x25_clock.specs.declared.wait.Wait.{Wait}
-use Rattle.x25_clock.specs.Clock.{nothing_on, wait_at, spread, channels_from, deadline, is_past, sooner, number_of, time_of, wait_after, first_of, overdue_of, renewed}
+use Rattle.x25_clock.specs.Clock.{nothing_on, wait_at, spread, channels_from, deadline, is_past, sooner, number_of, time_of, wait_after, first_of, overdue_of}
+use Rattle.x25_clock.specs.Clock.{renewed}
 use Rattle.x25_clock.specs.Awaited.{AreListed, AwaitsNone}
 use Rattle.x25_clock.proofs.WaitLemmas.{after_channel, renewed_channel}
 
@@ -61,7 +63,8 @@ spread_past (suc n) first w ws low =
     ap (λ (x : Wait). x ∷ spread n (first + 1) (w ∷ ws)) (passed first w ws (λ is. omega (arith, is, low)))
     ∙ ap (λ (l : List Wait). wait_at first ws ∷ l) (spread_past n (first + 1) w ws (omega (arith, low)))
 
-pub spread_map : (f : Wait → Wait) (n first : ℕ) (old new : List Wait) → ((h : ℕ) → first ≤ h → h < first + n → wait_at h new ≡ f (wait_at h old)) → spread n first new ≡ map f (spread n first old)
+pub spread_map : (f : Wait → Wait) (n first : ℕ) (old new : List Wait) → ((h : ℕ) → first ≤ h → h < first + n → wait_at h new ≡ f (wait_at h old))
+    → spread n first new ≡ map f (spread n first old)
 spread_map f zero first old new same = refl
 spread_map f (suc n) first old new same =
     ap (λ (x : Wait). x ∷ spread n (first + 1) new) (same first (omega arith) (omega arith))
@@ -72,18 +75,22 @@ none_sooner None = refl
 none_sooner (Some moment) = refl
 
 -- the first moment is of one that is listed
-pub same_first : (n past most : ℕ) (ws : List Wait) (x : Option ℕ) → past + n ≡ most → AreListed most past ws → first_of x (spread n (past + 1) ws) ≡ first_of x ws
+pub same_first : (n past most : ℕ) (ws : List Wait) (x : Option ℕ) → past + n ≡ most → AreListed most past ws → first_of x (spread n (past + 1) ws)
+    ≡ first_of x ws
 same_first zero past most [] x is are = refl
 same_first zero past most (w ∷ ws) x is are = (let low = are.0 in let high = are.1 in absurd (omega (arith, is, low, high)))
 same_first (suc n) past most [] x is are =
     ap (λ (y : Option ℕ). first_of y (spread n (past + 1 + 1) [])) (none_sooner x) ∙ same_first n (past + 1) most [] x (omega (arith, is)) tt
-same_first (suc n) past most (w ∷ ws) x is are = test (λ y more. same_first n (past + 1) most ws y (omega (arith, is)) more) (λ more. same_first n (past + 1) most (w ∷ ws) x (omega (arith, is)) more) (w.channel == past + 1) refl
+same_first (suc n) past most (w ∷ ws) x is are = test (λ y more. same_first n (past + 1) most ws y (omega (arith, is)) more)
+    (λ more. same_first n (past + 1) most (w ∷ ws) x (omega (arith, is)) more) (w.channel == past + 1) refl
   where
     low : past < w.channel
     low = are.0
 
-    test : ((y : Option ℕ) → AreListed most (past + 1) ws → first_of y (spread n (past + 1 + 1) ws) ≡ first_of y ws) → (AreListed most (past + 1) (w ∷ ws) → first_of x (spread n (past + 1 + 1) (w ∷ ws)) ≡ first_of x (w ∷ ws))
-        → (b : Bool) → (w.channel == past + 1) ≡ b → first_of x ((let y : Wait = if b then w else wait_at (past + 1) ws in y) ∷ spread n (past + 1 + 1) (w ∷ ws)) ≡ first_of (sooner x w.until) ws
+    test : ((y : Option ℕ) → AreListed most (past + 1) ws → first_of y (spread n (past + 1 + 1) ws) ≡ first_of y ws)
+        → (AreListed most (past + 1) (w ∷ ws) → first_of x (spread n (past + 1 + 1) (w ∷ ws)) ≡ first_of x (w ∷ ws))
+        → (b : Bool) → (w.channel == past + 1) ≡ b
+        → first_of x ((let y : Wait = if b then w else wait_at (past + 1) ws in y) ∷ spread n (past + 1 + 1) (w ∷ ws)) ≡ first_of (sooner x w.until) ws
     test behind all true same =
         let on : w.channel ≡ past + 1 = eqb-true w.channel (past + 1) same in
         ap (λ (l : List Wait). first_of (sooner x w.until) l) (spread_past n (past + 1 + 1) w ws (omega (arith, on)))
@@ -95,17 +102,21 @@ same_first (suc n) past most (w ∷ ws) x is are = test (λ y more. same_first n
         ∙ all (more, are.1, are.2, are.3)
 
 -- and so is what is due first
-pub same_overdue : (now n past most : ℕ) (ws : List Wait) → past + n ≡ most → AreListed most past ws → overdue_of now (spread n (past + 1) ws) ≡ overdue_of now ws
+pub same_overdue : (now n past most : ℕ) (ws : List Wait) → past + n ≡ most → AreListed most past ws → overdue_of now (spread n (past + 1) ws)
+    ≡ overdue_of now ws
 same_overdue now zero past most [] is are = refl
 same_overdue now zero past most (w ∷ ws) is are = (let low = are.0 in let high = are.1 in absurd (omega (arith, is, low, high)))
 same_overdue now (suc n) past most [] is are = same_overdue now n (past + 1) most [] (omega (arith, is)) tt
-same_overdue now (suc n) past most (w ∷ ws) is are = test (λ more. same_overdue now n (past + 1) most ws (omega (arith, is)) more) (λ more. same_overdue now n (past + 1) most (w ∷ ws) (omega (arith, is)) more) (w.channel == past + 1) refl
+same_overdue now (suc n) past most (w ∷ ws) is are = test (λ more. same_overdue now n (past + 1) most ws (omega (arith, is)) more)
+    (λ more. same_overdue now n (past + 1) most (w ∷ ws) (omega (arith, is)) more) (w.channel == past + 1) refl
   where
     low : past < w.channel
     low = are.0
 
-    test : (AreListed most (past + 1) ws → overdue_of now (spread n (past + 1 + 1) ws) ≡ overdue_of now ws) → (AreListed most (past + 1) (w ∷ ws) → overdue_of now (spread n (past + 1 + 1) (w ∷ ws)) ≡ overdue_of now (w ∷ ws))
-        → (b : Bool) → (w.channel == past + 1) ≡ b → overdue_of now ((let y : Wait = if b then w else wait_at (past + 1) ws in y) ∷ spread n (past + 1 + 1) (w ∷ ws)) ≡ overdue_of now (w ∷ ws)
+    test : (AreListed most (past + 1) ws → overdue_of now (spread n (past + 1 + 1) ws) ≡ overdue_of now ws)
+        → (AreListed most (past + 1) (w ∷ ws) → overdue_of now (spread n (past + 1 + 1) (w ∷ ws)) ≡ overdue_of now (w ∷ ws))
+        → (b : Bool) → (w.channel == past + 1) ≡ b
+        → overdue_of now ((let y : Wait = if b then w else wait_at (past + 1) ws in y) ∷ spread n (past + 1 + 1) (w ∷ ws)) ≡ overdue_of now (w ∷ ws)
     test behind all true same =
         let on : w.channel ≡ past + 1 = eqb-true w.channel (past + 1) same in
         ap (λ (o : Option Wait). let y : Option Wait = if is_past now w.until then Some w else o in y)
@@ -129,7 +140,8 @@ module _ (times : Times) (now k : ℕ) where
   renewed_awaits : (w : Wait) → (renewed times now k w).awaits ≡ w.awaits
   renewed_awaits w = by (not (w.channel == k))
     where
-      by : (b : Bool) → (let x : Wait = if b then w else record { channel = w.channel; awaits = w.awaits; until = deadline now (time_of times w.awaits) } in x.awaits) ≡ w.awaits
+      by : (b : Bool) → (let x : Wait = if b then w else record { channel = w.channel; awaits = w.awaits; until = deadline now (time_of times w.awaits) } in
+          x.awaits) ≡ w.awaits
       by true = refl
       by false = refl
 
@@ -139,7 +151,9 @@ module _ (times : Times) (now k : ℕ) where
       ap (λ (c : ℕ). let x : Wait = if c == h then renewed times now k w else wait_at h (map (renewed times now k) ws) in x) (renewed_channel times now k w)
       ∙ by (renewed_at h ws) (w.channel == h)
     where
-      by : wait_at h (map (renewed times now k) ws) ≡ renewed times now k (wait_at h ws) → (b : Bool) → (let x : Wait = if b then renewed times now k w else wait_at h (map (renewed times now k) ws) in x) ≡ renewed times now k (let x : Wait = if b then w else wait_at h ws in x)
+      by : wait_at h (map (renewed times now k) ws) ≡ renewed times now k (wait_at h ws) → (b : Bool)
+          → (let x : Wait = if b then renewed times now k w else wait_at h (map (renewed times now k) ws) in x)
+          ≡ renewed times now k (let x : Wait = if b then w else wait_at h ws in x)
       by rest true = refl
       by rest false = rest
 
@@ -162,7 +176,8 @@ pub still_listed : (most more past : ℕ) (ws : List Wait) → most ≤ more →
 still_listed most more past [] low are = tt
 still_listed most more past (w ∷ ws) low are = (are.0, (let high = are.1 in omega (arith, low, high)), are.2, still_listed most more w.channel ws low are.3)
 
-pub one_more_listed : (most past : ℕ) (ws : List Wait) (w : Wait) → AreListed most past ws → past ≤ most → most < w.channel → is_any w.awaits ≡ true → AreListed w.channel past (ws ++ w ∷ [])
+pub one_more_listed : (most past : ℕ) (ws : List Wait) (w : Wait) → AreListed most past ws → past ≤ most → most < w.channel → is_any w.awaits ≡ true
+    → AreListed w.channel past (ws ++ w ∷ [])
 one_more_listed most past [] w are low high any = (omega (arith, low, high), omega arith, any, tt)
 one_more_listed most past (x ∷ ws) w are low high any =
     (are.0, (let below_it = are.1 in omega (arith, below_it, high)), are.2, one_more_listed most x.channel ws w are.3 are.1 high any)
@@ -191,7 +206,8 @@ from_place zero (w ∷ ws) d low = refl
 from_place (suc n) [] d low = absurd (omega (arith, low))
 from_place (suc n) (w ∷ ws) d low = from_place n ws d (omega (arith, low))
 
-listed_behind : (n most past : ℕ) (ws : List Wait) (d : Wait) → n < length ws → AreListed most past ws → AreListed most (slice_index_or ws n d).channel (drop (suc n) ws)
+listed_behind : (n most past : ℕ) (ws : List Wait) (d : Wait) → n < length ws → AreListed most past ws
+    → AreListed most (slice_index_or ws n d).channel (drop (suc n) ws)
 listed_behind zero most past [] d low are = absurd (omega (arith, low))
 listed_behind zero most past (w ∷ ws) d low are = are.3
 listed_behind (suc n) most past [] d low are = absurd (omega (arith, low))
@@ -202,11 +218,13 @@ pub first_here : (n h : ℕ) (ws : List Wait) (d : Wait) → n < length ws → (
 first_here n h ws d low is = ap (wait_at h) (from_place n ws d low) ∙ here h (slice_index_or ws n d) (drop (suc n) ws) is
 
 -- of another
-pub first_passed : (n h : ℕ) (ws : List Wait) (d : Wait) → n < length ws → ((slice_index_or ws n d).channel ≡ h → ⊥) → wait_at h (drop n ws) ≡ wait_at h (drop (suc n) ws)
+pub first_passed : (n h : ℕ) (ws : List Wait) (d : Wait) → n < length ws → ((slice_index_or ws n d).channel ≡ h → ⊥) → wait_at h (drop n ws)
+    ≡ wait_at h (drop (suc n) ws)
 first_passed n h ws d low other = ap (wait_at h) (from_place n ws d low) ∙ passed h (slice_index_or ws n d) (drop (suc n) ws) other
 
 -- of a higher one
-pub first_higher : (n h most past : ℕ) (ws : List Wait) (d : Wait) → n < length ws → AreListed most past ws → h < (slice_index_or ws n d).channel → wait_at h (drop n ws) ≡ nothing_on h
+pub first_higher : (n h most past : ℕ) (ws : List Wait) (d : Wait) → n < length ws → AreListed most past ws → h < (slice_index_or ws n d).channel
+    → wait_at h (drop n ws) ≡ nothing_on h
 first_higher n h most past ws d low are high =
     first_passed n h ws d low (λ is. omega (arith, is, high))
     ∙ below h most (slice_index_or ws n d).channel (drop (suc n) ws) (listed_behind n most past ws d low are) (omega (arith, high))
@@ -240,15 +258,18 @@ module _ (times : Times) (now : ℕ) where
   pub after_any : (a : Awaits) (w : Wait) → is_any a ≡ true → is_any (wait_after times now a w).awaits ≡ true
   after_any a w any = by (number_of w.awaits == number_of a) refl
     where
-      by : (b : Bool) → (number_of w.awaits == number_of a) ≡ b → is_any (let x : Wait = if b then w else record { channel = w.channel; awaits = a; until = deadline now (time_of times a) } in x.awaits) ≡ true
+      by : (b : Bool) → (number_of w.awaits == number_of a) ≡ b
+          → is_any (let x : Wait = if b then w else record { channel = w.channel; awaits = a; until = deadline now (time_of times a) } in x.awaits) ≡ true
       by true same = same_number w.awaits a same ∙ any
       by false differ = any
 
   -- what is awaited behind it is on that channel
-  pub after_on : (old : List Wait) (at past channel : ℕ) (a : Awaits) (w : Wait) → ReadsOn old at past → past < channel → w ≡ wait_at channel (drop at old) → (wait_after times now a w).channel ≡ channel
+  pub after_on : (old : List Wait) (at past channel : ℕ) (a : Awaits) (w : Wait) → ReadsOn old at past → past < channel → w ≡ wait_at channel (drop at old)
+      → (wait_after times now a w).channel ≡ channel
   after_on old at past channel a w rest low is = after_channel times now a w ∙ ap (λ (y : Wait). y.channel) (is ∙ rest channel low) ∙ is_on channel old
 
-  pub more_listed : (old next : List Wait) (at past channel : ℕ) (a : Awaits) (w : Wait) → AreListed past 0 next → ReadsOn old at past → past < channel → is_any a ≡ true → w ≡ wait_at channel (drop at old)
+  pub more_listed : (old next : List Wait) (at past channel : ℕ) (a : Awaits) (w : Wait) → AreListed past 0 next → ReadsOn old at past → past < channel
+      → is_any a ≡ true → w ≡ wait_at channel (drop at old)
       → AreListed channel 0 (next ++ wait_after times now a w ∷ [])
   more_listed old next at past channel a w listed rest low any is =
       let on = after_on old at past channel a w rest low is in
@@ -285,11 +306,13 @@ module _ (times : Times) (now : ℕ) (awaited : ℕ → Awaits) where
     AreHeard next past = (h : ℕ) → 1 ≤ h → h ≤ past → wait_at h next ≡ heeds (wait_at h old)
 
     -- on the channels between nothing is listed, before it and behind it
-    idle_between : (next : List Wait) (past end h : ℕ) → AreListed past 0 next → past < h → h < end → AwaitsNone awaited past end → wait_at h next ≡ heeds (wait_at h old)
+    idle_between : (next : List Wait) (past end h : ℕ) → AreListed past 0 next → past < h → h < end → AwaitsNone awaited past end → wait_at h next
+        ≡ heeds (wait_at h old)
     idle_between next past end h listed low high none = above h past 0 next listed low ∙ sym (none_left h most 0 old were (none h low high))
 
     -- all channels up to an end
-    pub all_heard : (next : List Wait) (past end : ℕ) → AreListed past 0 next → AreHeard next past → AwaitsNone awaited past end → (h : ℕ) → 1 ≤ h → h < end → wait_at h next ≡ heeds (wait_at h old)
+    pub all_heard : (next : List Wait) (past end : ℕ) → AreListed past 0 next → AreHeard next past → AwaitsNone awaited past end → (h : ℕ) → 1 ≤ h → h < end
+        → wait_at h next ≡ heeds (wait_at h old)
     all_heard next past end listed heard none h low high = by (leb_tells h past)
       where
         by : ((nat_le h past ≡ true) × (h ≤ past)) ⊎ ((nat_le h past ≡ false) × (past < h)) → wait_at h next ≡ heeds (wait_at h old)
@@ -297,7 +320,8 @@ module _ (times : Times) (now : ℕ) (awaited : ℕ → Awaits) where
         by (inr behind) = idle_between next past end h listed behind.1 high none
 
     -- one more, on which nothing is awaited
-    pub one_idle : (next : List Wait) (past channel : ℕ) (a : Awaits) → AreListed past 0 next → AreHeard next past → AwaitsNone awaited past channel → a ≡ awaited channel → is_any a ≡ false → AreHeard next channel
+    pub one_idle : (next : List Wait) (past channel : ℕ) (a : Awaits) → AreListed past 0 next → AreHeard next past → AwaitsNone awaited past channel → a
+        ≡ awaited channel → is_any a ≡ false → AreHeard next channel
     one_idle next past channel a listed heard none same idle h least high = all_heard next past (suc channel) listed heard none_up h least (omega (arith, high))
       where
         nothing : (b : Awaits) → is_any b ≡ false → b ≡ Nothing
@@ -314,7 +338,8 @@ module _ (times : Times) (now : ℕ) (awaited : ℕ → Awaits) where
             by false is = none k low (omega (arith, up, (λ (on : k ≡ channel). true≢false (sym (eq-eqb k channel on) ∙ is))))
 
     -- one more, on which something is
-    pub one_heard : (next : List Wait) (at past channel : ℕ) (a : Awaits) (w : Wait) → AreListed past 0 next → ReadsOn old at past → AreHeard next past → past < channel → AwaitsNone awaited past channel → a ≡ awaited channel
+    pub one_heard : (next : List Wait) (at past channel : ℕ) (a : Awaits) (w : Wait) → AreListed past 0 next → ReadsOn old at past → AreHeard next past
+        → past < channel → AwaitsNone awaited past channel → a ≡ awaited channel
         → w ≡ wait_at channel (drop at old) → AreHeard (next ++ wait_after times now a w ∷ []) channel
     one_heard next at past channel a w listed rest heard low none same is h least high = by (h == channel) refl
       where

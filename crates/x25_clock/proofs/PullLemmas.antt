@@ -26,12 +26,14 @@ use Rattle.x25_clock.proofs.WaitLemmas.{after_channel}
 
 -- ---- one deadline, heeded twice at one moment
 
-t1_twice : (times : Times) (now : ℕ) (first : Timer) (ran behind : Bool) (old : Option ℕ) → t1_after times now (timer_of behind (not ran || false)) (t1_after times now first old) ≡ t1_after times now (pulled_timer first ran behind) old
+t1_twice : (times : Times) (now : ℕ) (first : Timer) (ran behind : Bool) (old : Option ℕ)
+    → t1_after times now (timer_of behind (not ran || false)) (t1_after times now first old) ≡ t1_after times now (pulled_timer first ran behind) old
 t1_twice times now first ran false old = refl
 t1_twice times now first true true old = refl
 t1_twice times now first false true old = refl
 
-t1_still : (times : Times) (now : ℕ) (first : Timer) (ran : Bool) (old : Option ℕ) → t1_after times now (timer_of ran false) (t1_after times now first old) ≡ t1_after times now (pulled_timer first ran ran) old
+t1_still : (times : Times) (now : ℕ) (first : Timer) (ran : Bool) (old : Option ℕ) → t1_after times now (timer_of ran false) (t1_after times now first old)
+    ≡ t1_after times now (pulled_timer first ran ran) old
 t1_still times now first false old = refl
 t1_still times now first true old = refl
 
@@ -56,7 +58,8 @@ wait_twice times now a w = by (number_of w.awaits == number_of a) refl
     by false is = ap (λ (b : Bool). if b then begun else begun) (eq-eqb (number_of a) (number_of a) refl)
 
 waits_twice : (times : Times) (now : ℕ) (was is : ℕ → Awaits) (ws : List Wait) → ((h : ℕ) → is h ≡ was h)
-    → map (λ w. wait_after times now (is w.channel) w) (map (λ w. wait_after times now (was w.channel) w) ws) ≡ map (λ w. wait_after times now (is w.channel) w) ws
+    → map (λ w. wait_after times now (is w.channel) w) (map (λ w. wait_after times now (was w.channel) w) ws)
+    ≡ map (λ w. wait_after times now (is w.channel) w) ws
 waits_twice times now was is [] same = refl
 waits_twice times now was is (w ∷ ws) same =
     ap (λ (x : Wait). x ∷ map (λ y. wait_after times now (is y.channel) y) (map (λ y. wait_after times now (was y.channel) y) ws)) one
@@ -96,18 +99,30 @@ module _ (c : Settings) (times : Times) (now : ℕ) (s : Station) (event : timer
   awaited t h = awaited_at (layer_settings c) t.layer h
 
   abbrev seen_both : Station → Seen
-  seen_both next = record { timer = pulled_timer became (runs step.near) (runs next); at_rest = is_at_rest next; restarting = next.layer.restarting; noted = tells_link step.entries; come = comes event; awaited = awaited next }
+  seen_both next = record {
+    timer = pulled_timer became (runs step.near) (runs next);
+    at_rest = is_at_rest next;
+    restarting = next.layer.restarting;
+    noted = tells_link step.entries;
+    come = comes event;
+    awaited = awaited next;
+  }
 
   behind : (o : Outcome) → GoesOn c step.near (pulled_of step.near o)
-      → heeded times now (seen_of c step.near (timer.Asks (Requests PullsAll)) o) (heeded times now (seen_of c s event (Did step)) d) ≡ heeded times now (seen_both (pulled_of step.near o).near) d
+      → heeded times now (seen_of c step.near (timer.Asks (Requests PullsAll)) o) (heeded times now (seen_of c s event (Did step)) d)
+      ≡ heeded times now (seen_both (pulled_of step.near o).near) d
   behind (Did p) goes =
       let quiet : (tells_link p.entries || is_acknowledged step.near.link p.near.link) ≡ false =
-      ap (λ (es : List StationEntry). tells_link es || is_acknowledged step.near.link p.near.link) goes.told ∙ same_acked step.near.link p.near.link goes.acked in
+      ap (λ (es : List StationEntry). tells_link es || is_acknowledged step.near.link p.near.link) goes.told
+      ∙ same_acked step.near.link p.near.link goes.acked in
       same_parts _ _
-      (ap (λ (b : Bool). t1_after times now (timer_of (runs p.near) (not (runs step.near) || b)) (t1_after times now became d.t1)) quiet ∙ t1_twice times now became (runs step.near) (runs p.near) d.t1)
+      (ap (λ (b : Bool). t1_after times now (timer_of (runs p.near) (not (runs step.near) || b)) (t1_after times now became d.t1)) quiet
+      ∙ t1_twice times now became (runs step.near) (runs p.near) d.t1)
       (running_twice (is_at_rest step.near) (is_at_rest p.near) (comes event) d.idle (deadline now times.t3) goes.rests)
-      (ap (λ (es : List StationEntry). running p.near.layer.restarting (tells_link es) (running step.near.layer.restarting (tells_link step.entries) d.restart (deadline now times.t20)) (deadline now times.t20)) goes.told
-      ∙ running_twice step.near.layer.restarting p.near.layer.restarting (tells_link step.entries) d.restart (deadline now times.t20) (λ is. sym goes.restarting ∙ is))
+      (ap (λ (es : List StationEntry). running p.near.layer.restarting (tells_link es)
+      (running step.near.layer.restarting (tells_link step.entries) d.restart (deadline now times.t20)) (deadline now times.t20)) goes.told
+      ∙ running_twice step.near.layer.restarting p.near.layer.restarting (tells_link step.entries) d.restart (deadline now times.t20)
+      (λ is. sym goes.restarting ∙ is))
       (waits_twice times now (awaited step.near) (awaited p.near) d.waits goes.awaits)
   behind (Refused e) goes =
       same_parts _ _
@@ -121,7 +136,8 @@ after_pulled s (Did step) = refl
 after_pulled s (Refused e) = refl
 
 -- what was done is heeded, and then the pull
-module _ (goes : PullsGoOn) (c : Settings) (times : Times) (now : ℕ) (s : Station) (event : timer.StationEvent) (step : Step) (d : Deadlines) (settled : IsSettled c step.near) where
+module _ (goes : PullsGoOn) (c : Settings) (times : Times) (now : ℕ) (s : Station) (event : timer.StationEvent) (step : Step) (d : Deadlines)
+    (settled : IsSettled c step.near) where
   abbrev o : Outcome
   o = requests c step.near PullsAll
 
@@ -129,14 +145,21 @@ module _ (goes : PullsGoOn) (c : Settings) (times : Times) (now : ℕ) (s : Stat
   mid = record { station = step.near; deadlines = heeded times now (seen_of c s event (Did step)) d; now = now }
 
   abbrev at_moment : ℕ → Watched
-  at_moment n = record { station = timer.after step.near o; deadlines = heeded times n (seen_of c step.near (timer.Asks (Requests PullsAll)) o) mid.deadlines; now = n }
+  at_moment n = record {
+    station = timer.after step.near o;
+    deadlines = heeded times n (seen_of c step.near (timer.Asks (Requests PullsAll)) o) mid.deadlines;
+    now = n;
+  }
 
-  done_both : (let w : Watched = record { station = (pulled c step.near).near; deadlines = heeded times now (seen_pulled c s event step) d; now = now } in w) ≡ done c times pull mid
+  done_both : (let w : Watched = record { station = (pulled c step.near).near; deadlines = heeded times now (seen_pulled c s event step) d; now = now } in w)
+      ≡ done c times pull mid
   done_both =
       let back : now + 0 ≡ now = omega arith in
       let next : Station = (pulled c step.near).near in
-      ap (λ (t : Station). let w : Watched = record { station = t; deadlines = heeded times now (seen_pulled c s event step) d; now = now } in w) (after_pulled step.near o)
-      ∙ ap (λ (e : Deadlines). let w : Watched = record { station = timer.after step.near o; deadlines = e; now = now } in w) (sym (behind c times now s event step d o (goes c step.near settled)))
+      ap (λ (t : Station). let w : Watched = record { station = t; deadlines = heeded times now (seen_pulled c s event step) d; now = now } in w)
+      (after_pulled step.near o)
+      ∙ ap (λ (e : Deadlines). let w : Watched = record { station = timer.after step.near o; deadlines = e; now = now } in w)
+      (sym (behind c times now s event step d o (goes c step.near settled)))
       ∙ sym (ap at_moment back)
 
 pub pull_is_heeded : PullsGoOn → PullIsHeeded

@@ -1,5 +1,6 @@
 -- An answer is awaited no longer than the times say, where what is due is asked at once.
-use Rattle.std.proofs.Common.{◌≡◌, ℕ, zero, suc, ◌+◌, ◌^◌, ◌<◌, ◌≤◌, ◌==◌, ◌⊎◌, inl, inr, List, [], ◌∷◌, map, Bool, true, false, not, nat_le, if◌then◌else◌, Option, Some, None, refl, sym, ap, subst, ◌∙◌, arith}
+use Rattle.std.proofs.Common.{◌≡◌, ℕ, zero, suc, ◌+◌, ◌^◌, ◌<◌, ◌≤◌, ◌==◌, ◌⊎◌, inl, inr, List, [], ◌∷◌, map, Bool, true, false, not, nat_le, if◌then◌else◌}
+use Rattle.std.proofs.Common.{Option, Some, None, refl, sym, ap, subst, ◌∙◌, arith}
 use Rattle.std.proofs.lemmas.Bool.{true≢false, eqb-true, eq-eqb, leb-true, and_parts}
 use Rattle.std.proofs.lemmas.Option.{none-some}
 use Rattle.x25_link.specs.declared.phase.Phase.{Phase}
@@ -22,9 +23,11 @@ use Rattle.x25_clock.specs.declared.due.Due.{Due}
 use Rattle.x25_clock.specs.declared.due.Due.TheVariants as due
 use Rattle.x25_clock.specs.declared.times.Times.{Times}
 use Rattle.x25_clock.specs.declared.wait.Wait.{Wait}
-use Rattle.x25_clock.specs.Clock.{Deadlines, channels_from, deadline, is_past, sooner, number_of, time_of, running, wait_after, heeded, next_of, overdue_of, asked_for, due_on, unless_on, due_of, renewed, renewed_on, after_due}
+use Rattle.x25_clock.specs.Clock.{Deadlines, channels_from, deadline, is_past, sooner, number_of, time_of, running, wait_after, heeded, next_of, overdue_of}
+use Rattle.x25_clock.specs.Clock.{asked_for, due_on, unless_on, due_of, renewed, renewed_on, after_due}
 use Rattle.x25_clock.specs.laws.ClockLaw.{Watched, seen_of, heeds, watched, IsSince, AreAwaited, AreTrue}
-use Rattle.x25_clock.specs.laws.WaitLaw.{Deed, Happens, IsAsked, later_by, event_of, found_by, outcome_of, done, all_done, IsFounded, IsNotPast, AreObeyed, tells, AwaitsAll, longest_wait, AreSet, NothingWaits}
+use Rattle.x25_clock.specs.laws.WaitLaw.{Deed, Happens, IsAsked, later_by, event_of, found_by, outcome_of, done, all_done, IsFounded, IsNotPast, AreObeyed}
+use Rattle.x25_clock.specs.laws.WaitLaw.{tells, AwaitsAll, longest_wait, AreSet, NothingWaits}
 use Rattle.x25_clock.proofs.ClockLemmas.{happens_true, due_true, deadlines_are_true}
 use Rattle.x25_clock.proofs.DeadlineLemmas.{AreNotPast, waits_past, restart_past, or_t1, Ends, begins_at, end_in_time}
 
@@ -54,12 +57,14 @@ module _ (times : Times) (now : ℕ) (d : Deadlines) (what : Due) where
   due_by t1 restart o idle = if t1 then Some due.T1 else if restart then Some due.Relink else unless_on o (if idle then Some due.Probe else None)
 
   abbrev after_by : Bool → Bool → Option Wait → Bool → Deadlines
-  after_by t1 restart o idle = if t1 then record d { t1 = deadline now times.t1 } else if restart then record d { restart = deadline now times.t20 } else renewed_on times now o idle d
+  after_by t1 restart o idle = if t1 then record d { t1 = deadline now times.t1 } else if restart then record d { restart = deadline now times.t20 }
+      else renewed_on times now o idle d
 
   abbrev WhatIsAsked : Deadlines → Type 0
   WhatIsAsked e = AsksNone d e ⊎ (AsksRelink d e what ⊎ AsksOn times now d e what)
 
-  asked_by : (t1 restart : Bool) (o : Option Wait) (idle : Bool) → overdue_of now d.waits ≡ o → due_by t1 restart o idle ≡ Some what → WhatIsAsked (after_by t1 restart o idle)
+  asked_by : (t1 restart : Bool) (o : Option Wait) (idle : Bool) → overdue_of now d.waits ≡ o → due_by t1 restart o idle ≡ Some what
+      → WhatIsAsked (after_by t1 restart o idle)
   asked_by true restart o idle found is = inl (record { restart = refl; waits = refl })
   asked_by false true o idle found is = inr (inl (record { is = sym (ap or_t1 is); waits = refl }))
   asked_by false false (Some x) idle found is = inr (inr (record { wait = x; found = found; is = is; restart = refl; waits = refl }))
@@ -70,7 +75,8 @@ module _ (times : Times) (now : ℕ) (d : Deadlines) (what : Due) where
   what_is_asked is = asked_by (is_past now d.t1) (is_past now d.restart) (overdue_of now d.waits) (is_past now d.idle) refl is
 
 -- the first channel on which an answer is due awaits what it is said to
-overdue_is : (times : Times) (before now : ℕ) (f : ℕ → Awaits) (ws : List Wait) (x : Wait) → AreAwaited times before f ws → overdue_of now ws ≡ Some x → x.awaits ≡ f x.channel
+overdue_is : (times : Times) (before now : ℕ) (f : ℕ → Awaits) (ws : List Wait) (x : Wait) → AreAwaited times before f ws → overdue_of now ws ≡ Some x
+    → x.awaits ≡ f x.channel
 overdue_is times before now f [] x are is = absurd (none-some x is)
 overdue_is times before now f (w ∷ ws) x are is = by (overdue_is times before now f ws x are.1) (is_past now w.until) is
   where
@@ -91,7 +97,8 @@ has_channel : (h n first : ℕ) → first ≤ h → h < first + n → Has h (map
 has_channel h zero first low high = absurd (omega (arith, low, high))
 has_channel h (suc n) first low high = test (λ more. has_channel h n (first + 1) more (omega (arith, high))) (first == h) refl
   where
-    test : (first + 1 ≤ h → Has h (map channel_in (channels_from (first + 1) n))) → (b : Bool) → (first == h) ≡ b → (first ≡ h) ⊎ Has h (map channel_in (channels_from (first + 1) n))
+    test : (first + 1 ≤ h → Has h (map channel_in (channels_from (first + 1) n))) → (b : Bool) → (first == h) ≡ b → (first ≡ h)
+        ⊎ Has h (map channel_in (channels_from (first + 1) n))
     test rest true is = inl (eqb-true first h is)
     test rest false is = inr (rest (omega (arith, low, (λ (same : first ≡ h). true≢false (sym (eq-eqb first h same) ∙ is)))))
 
@@ -108,10 +115,12 @@ pub renewed_channel : (times : Times) (now k : ℕ) (w : Wait) → (renewed time
 renewed_channel times now k w = if_wait w.channel (not (w.channel == k)) _ _ refl refl
 
 same_after : (times : Times) (now : ℕ) (a : Awaits) (w : Wait) → w.awaits ≡ a → wait_after times now a w ≡ w
-same_after times now a w is = ap (λ (b : Bool). let x : Wait = if b then w else record { channel = w.channel; awaits = a; until = deadline now (time_of times a) } in x) (eq-eqb (number_of w.awaits) (number_of a) (ap number_of is))
+same_after times now a w is = ap (λ (b : Bool). let x : Wait = if b then w
+    else record { channel = w.channel; awaits = a; until = deadline now (time_of times a) } in x) (eq-eqb (number_of w.awaits) (number_of a) (ap number_of is))
 
 not_renewed : (times : Times) (now k : ℕ) (w : Wait) → (w.channel == k) ≡ false → renewed times now k w ≡ w
-not_renewed times now k w is = ap (λ (b : Bool). let x : Wait = if not b then w else record { channel = w.channel; awaits = w.awaits; until = deadline now (time_of times w.awaits) } in x) is
+not_renewed times now k w is = ap (λ (b : Bool). let x : Wait = if not b then w
+    else record { channel = w.channel; awaits = w.awaits; until = deadline now (time_of times w.awaits) } in x) is
 
 -- ---- what a rank says
 
@@ -185,7 +194,8 @@ module _ (c : Settings) (times : Times) (h bound : ℕ) (set : AreSet times) (sm
 
   -- ---- no deadline is past
 
-  channel_in_time : (before now : ℕ) (f : ℕ → Awaits) (ws : List Wait) → Has h (map channel_in ws) → AreAwaited times before f ws → OnChannel ws → AreNotPast now ws → now + left (f h) ≤ bound
+  channel_in_time : (before now : ℕ) (f : ℕ → Awaits) (ws : List Wait) → Has h (map channel_in ws) → AreAwaited times before f ws → OnChannel ws
+      → AreNotPast now ws → now + left (f h) ≤ bound
   channel_in_time before now f [] has are on past = absurd has
   channel_in_time before now f (w ∷ ws) (inl is) are on past =
       subst (λ (a : Awaits). now + left a ≤ bound) (are.0.awaits ∙ ap f is) (end_in_time bound now w.until (left w.awaits) (on.0 is) past.0)
@@ -198,7 +208,8 @@ module _ (c : Settings) (times : Times) (h bound : ℕ) (set : AreSet times) (sm
       let high : h ≤ c.channels.count = leb-true h c.channels.count both.1 in
       subst (Has h) (sym true_now.channels) (has_channel h c.channels.count 1 low (omega (arith, high)))
 
-  in_time : (w : Watched) (now : ℕ) → AreTrue c times w → 2 ≤ rank c w.station h → IsNotPast now (next_of w.deadlines) → IsBy w.station.layer.restarting w.deadlines.restart w.deadlines.waits
+  in_time : (w : Watched) (now : ℕ) → AreTrue c times w → 2 ≤ rank c w.station h → IsNotPast now (next_of w.deadlines)
+      → IsBy w.station.layer.restarting w.deadlines.restart w.deadlines.waits
       → InTime w.station.layer.restarting (awaited w.station) now
   in_time w now true_now high past by = on w.station.layer.restarting refl by
     where
@@ -208,9 +219,11 @@ module _ (c : Settings) (times : Times) (h bound : ℕ) (set : AreSet times) (sm
       on : (r : Bool) → w.station.layer.restarting ≡ r → IsBy r d.restart d.waits → InTime r (awaited w.station) now
       on true is by = let low : now + 0 ≤ bound = end_in_time bound now d.restart 0 by (restart_past now d past) in omega (arith, low)
       on false is by =
-          let two : 2 ≤ rank_of w.station.link.phase false (awaited w.station) = subst (λ (r : Bool). 2 ≤ rank_of w.station.link.phase r (awaited w.station)) is high in
+          let two : 2 ≤ rank_of w.station.link.phase false (awaited w.station) =
+          subst (λ (r : Bool). 2 ≤ rank_of w.station.link.phase r (awaited w.station)) is high in
           channel_in_time w.now now (λ k. awaited_at (layer_settings c) w.station.layer k) d.waits
-          (has_it w true_now (is_configured w.station.link.phase (is_channel c.channels h) (w.station.layer.circuits h).state two)) true_now.waits by (waits_past now d.waits (sooner (sooner d.t1 d.idle) d.restart) past)
+          (has_it w true_now (is_configured w.station.link.phase (is_channel c.channels h) (w.station.layer.circuits h).state two)) true_now.waits by
+          (waits_past now d.waits (sooner (sooner d.t1 d.idle) d.restart) past)
 
   now_in_time : (r : Bool) (a : Awaits) (now : ℕ) → InTime r a now → now ≤ bound
   now_in_time true a now low = low
@@ -223,14 +236,17 @@ module _ (c : Settings) (times : Times) (h bound : ℕ) (set : AreSet times) (sm
   heeded_waits now f ws = map (λ w. wait_after times now (f w.channel) w) ws
 
   -- what is awaited is what was
-  waits_stay : (before now : ℕ) (old new : ℕ → Awaits) (ws : List Wait) → new h ≡ old h → AreAwaited times before old ws → OnChannel ws → OnChannel (heeded_waits now new ws)
+  waits_stay : (before now : ℕ) (old new : ℕ → Awaits) (ws : List Wait) → new h ≡ old h → AreAwaited times before old ws → OnChannel ws
+      → OnChannel (heeded_waits now new ws)
   waits_stay before now old new [] same are on = tt
   waits_stay before now old new (w ∷ ws) same are on = (first, waits_stay before now old new ws same are.1 on.1)
     where
-      first : (wait_after times now (new w.channel) w).channel ≡ h → (let x : Wait = wait_after times now (new w.channel) w in Ends bound x.until (left x.awaits))
+      first : (wait_after times now (new w.channel) w).channel ≡ h
+          → (let x : Wait = wait_after times now (new w.channel) w in Ends bound x.until (left x.awaits))
       first is =
           let at_h : w.channel ≡ h = sym (after_channel times now (new w.channel) w) ∙ is in
-          let unchanged : wait_after times now (new w.channel) w ≡ w = same_after times now (new w.channel) w (are.0.awaits ∙ ap old at_h ∙ sym same ∙ ap new (sym at_h)) in
+          let unchanged : wait_after times now (new w.channel) w ≡ w =
+          same_after times now (new w.channel) w (are.0.awaits ∙ ap old at_h ∙ sym same ∙ ap new (sym at_h)) in
           subst (λ (x : Wait). Ends bound x.until (left x.awaits)) (sym unchanged) (on.0 at_h)
 
   not_less : {A : Type 0} (m n : ℕ) → n ≤ m → m < n → A
@@ -252,18 +268,22 @@ module _ (c : Settings) (times : Times) (h bound : ℕ) (set : AreSet times) (sm
   is_cleared ClearConfirmation ClearConfirmation two low = not_less 3 3 (omega arith) low
 
   -- it was cleared
-  waits_fall : (before now : ℕ) (old new : ℕ → Awaits) (ws : List Wait) → IsCleared (left (old h)) (times.t23 + times.t20) (old h) (new h) → now + left (old h) ≤ bound → AreAwaited times before old ws → OnChannel (heeded_waits now new ws)
+  waits_fall : (before now : ℕ) (old new : ℕ → Awaits) (ws : List Wait) → IsCleared (left (old h)) (times.t23 + times.t20) (old h) (new h) → now + left (old h)
+      ≤ bound → AreAwaited times before old ws → OnChannel (heeded_waits now new ws)
   waits_fall before now old new [] gone late are = tt
   waits_fall before now old new (w ∷ ws) gone late are = (first, waits_fall before now old new ws gone late are.1)
     where
-      first : (wait_after times now (new w.channel) w).channel ≡ h → (let x : Wait = wait_after times now (new w.channel) w in Ends bound x.until (left x.awaits))
+      first : (wait_after times now (new w.channel) w).channel ≡ h
+          → (let x : Wait = wait_after times now (new w.channel) w in Ends bound x.until (left x.awaits))
       first is =
           let at_h : w.channel ≡ h = sym (after_channel times now (new w.channel) w) ∙ is in
           let cleared : new w.channel ≡ ClearConfirmation = ap new at_h ∙ gone.new in
-          let other : (number_of w.awaits == number_of ClearConfirmation) ≡ false = ap (λ (a : Awaits). number_of a == number_of ClearConfirmation) (are.0.awaits ∙ ap old at_h) ∙ gone.differ in
+          let other : (number_of w.awaits == number_of ClearConfirmation) ≡ false =
+          ap (λ (a : Awaits). number_of a == number_of ClearConfirmation) (are.0.awaits ∙ ap old at_h) ∙ gone.differ in
           let changed : wait_after times now (new w.channel) w ≡ record { channel = w.channel; awaits = ClearConfirmation; until = deadline now times.t23 } =
           ap (λ (a : Awaits). wait_after times now a w) cleared
-          ∙ ap (λ (b : Bool). let x : Wait = if b then w else record { channel = w.channel; awaits = ClearConfirmation; until = deadline now times.t23 } in x) other in
+          ∙ ap (λ (b : Bool). let x : Wait = if b then w else record { channel = w.channel; awaits = ClearConfirmation; until = deadline now times.t23 } in x)
+          other in
           let more : now + (times.t23 + times.t20) ≤ bound = subst (λ (n : ℕ). now + n ≤ bound) gone.old late in
           subst (λ (x : Wait). Ends bound x.until (left x.awaits)) (sym changed) (begins_at bound small now times.t23 times.t20 set.t23 more)
 
@@ -279,8 +299,10 @@ module _ (c : Settings) (times : Times) (h bound : ℕ) (set : AreSet times) (sm
   restart_stays now (Some moment) ends = ends
 
   -- of a station between these two, of which the link is up, and of its deadlines
-  module _ (before now : ℕ) (s next : Station) (high : 2 ≤ rank_of Up s.layer.restarting (awaited s)) (higher : 2 ≤ rank_of Up next.layer.restarting (awaited next))
-      (restart : Option ℕ) (ws : List Wait) (off : s.layer.restarting ≡ false → restart ≡ None) (are : AreAwaited times before (λ k. awaited_at (layer_settings c) s.layer k) ws) where
+  module _ (before now : ℕ) (s next : Station) (high : 2 ≤ rank_of Up s.layer.restarting (awaited s))
+      (higher : 2 ≤ rank_of Up next.layer.restarting (awaited next))
+      (restart : Option ℕ) (ws : List Wait) (off : s.layer.restarting ≡ false → restart ≡ None)
+      (are : AreAwaited times before (λ k. awaited_at (layer_settings c) s.layer k) ws) where
     abbrev Heeded : Bool → Bool → Type 0
     Heeded r noted = IsBy r (running r noted restart (deadline now times.t20)) (heeded_waits now (λ k. awaited_at (layer_settings c) next.layer k) ws)
 
@@ -288,18 +310,23 @@ module _ (c : Settings) (times : Times) (h bound : ℕ) (set : AreSet times) (sm
     stays_by true true is same by = restart_stays now restart by
     stays_by true false is same by = absurd (true≢false (sym is))
     stays_by false true is same by = absurd (true≢false is)
-    stays_by false false is same by = waits_stay before now (λ k. awaited_at (layer_settings c) s.layer k) (λ k. awaited_at (layer_settings c) next.layer k) ws same are by
+    stays_by false false is same by = waits_stay before now (λ k. awaited_at (layer_settings c) s.layer k) (λ k. awaited_at (layer_settings c) next.layer k) ws
+        same are by
 
-    falls_by : (r n : Bool) → s.layer.restarting ≡ r → 2 ≤ rank_of Up r (awaited s) → 2 ≤ rank_of Up n (awaited next) → rank_of Up n (awaited next) < rank_of Up r (awaited s) → InTime r (awaited s) now → Heeded n false
+    falls_by : (r n : Bool) → s.layer.restarting ≡ r → 2 ≤ rank_of Up r (awaited s) → 2 ≤ rank_of Up n (awaited next)
+        → rank_of Up n (awaited next) < rank_of Up r (awaited s) → InTime r (awaited s) now → Heeded n false
     falls_by true n is two three low late = not_less (rank_of Up n (awaited next)) 2 three low
     falls_by false true is two three low late =
         let some : times.t20 ≤ left (awaited s) = left_some (awaited s) two in
         let more : now + (times.t20 + 0) ≤ bound = omega (arith, late, some) in
-        subst (λ (o : Option ℕ). Ends bound (running true false o (deadline now times.t20)) 0) (sym (off is)) (begins_at bound small now times.t20 0 set.t20 more)
+        subst (λ (o : Option ℕ). Ends bound (running true false o (deadline now times.t20)) 0) (sym (off is))
+        (begins_at bound small now times.t20 0 set.t20 more)
     falls_by false false is two three low late =
-        waits_fall before now (λ k. awaited_at (layer_settings c) s.layer k) (λ k. awaited_at (layer_settings c) next.layer k) ws (is_cleared (awaited s) (awaited next) three low) late are
+        waits_fall before now (λ k. awaited_at (layer_settings c) s.layer k) (λ k. awaited_at (layer_settings c) next.layer k) ws
+        (is_cleared (awaited s) (awaited next) three low) late are
 
-    fallen : rank_of Up next.layer.restarting (awaited next) < rank_of Up s.layer.restarting (awaited s) → InTime s.layer.restarting (awaited s) now → Heeded next.layer.restarting false
+    fallen : rank_of Up next.layer.restarting (awaited next) < rank_of Up s.layer.restarting (awaited s) → InTime s.layer.restarting (awaited s) now
+        → Heeded next.layer.restarting false
     fallen low late = falls_by s.layer.restarting next.layer.restarting refl high higher low late
 
     stayed : AwaitsStill c s next h → IsBy s.layer.restarting restart ws → Heeded next.layer.restarting false
@@ -322,29 +349,37 @@ module _ (c : Settings) (times : Times) (h bound : ℕ) (set : AreSet times) (sm
 
     -- what a step tells of the link
     noted : (event : timer.StationEvent) (step : Step) → tells_link step.entries ≡ false
-        → IsBy step.near.layer.restarting (running step.near.layer.restarting false d.restart (deadline now times.t20)) (heeded_waits now (λ k. awaited_at (layer_settings c) step.near.layer k) d.waits) → Behind event (Did step)
+        → IsBy step.near.layer.restarting (running step.near.layer.restarting false d.restart (deadline now times.t20))
+        (heeded_waits now (λ k. awaited_at (layer_settings c) step.near.layer k) d.waits) → Behind event (Did step)
     noted event step quiet by =
-        subst (λ (b : Bool). IsBy step.near.layer.restarting (running step.near.layer.restarting b d.restart (deadline now times.t20)) (heeded_waits now (λ k. awaited_at (layer_settings c) step.near.layer k) d.waits)) (sym quiet) by
+        subst (λ (b : Bool). IsBy step.near.layer.restarting (running step.near.layer.restarting b d.restart (deadline now times.t20))
+        (heeded_waits now (λ k. awaited_at (layer_settings c) step.near.layer k) d.waits)) (sym quiet) by
 
-    higher_up : (next : Station) → 2 ≤ rank c next h → (rank c next h ≡ rank_of Up next.layer.restarting (awaited next)) × (2 ≤ rank_of Up next.layer.restarting (awaited next))
+    higher_up : (next : Station) → 2 ≤ rank c next h → (rank c next h ≡ rank_of Up next.layer.restarting (awaited next))
+        × (2 ≤ rank_of Up next.layer.restarting (awaited next))
     higher_up next higher =
-        let is : rank c next h ≡ rank_of Up next.layer.restarting (awaited next) = rank_up next.link.phase next.layer.restarting (awaited next) (is_up_high next.link.phase next.layer.restarting (awaited next) higher) in
+        let is : rank c next h ≡ rank_of Up next.layer.restarting (awaited next) =
+        rank_up next.link.phase next.layer.restarting (awaited next) (is_up_high next.link.phase next.layer.restarting (awaited next) higher) in
         (is, subst (λ (n : ℕ). 2 ≤ n) is higher)
 
     -- its rank is lower
-    fallen_by : (event : timer.StationEvent) (step : Step) → tells_link step.entries ≡ false → 2 ≤ rank c step.near h → rank c step.near h < rank c s h → InTime s.layer.restarting (awaited s) now → Behind event (Did step)
+    fallen_by : (event : timer.StationEvent) (step : Step) → tells_link step.entries ≡ false → 2 ≤ rank c step.near h → rank c step.near h < rank c s h
+        → InTime s.layer.restarting (awaited s) now → Behind event (Did step)
     fallen_by event step quiet higher low late =
         let new = higher_up step.near higher in
-        let less : rank_of Up step.near.layer.restarting (awaited step.near) < rank_of Up s.layer.restarting (awaited s) = subst (λ (n : ℕ). n < rank_of Up s.layer.restarting (awaited s)) new.0 (subst (λ (n : ℕ). rank c step.near h < n) up_rank low) in
+        let less : rank_of Up step.near.layer.restarting (awaited step.near) < rank_of Up s.layer.restarting (awaited s) =
+        subst (λ (n : ℕ). n < rank_of Up s.layer.restarting (awaited s)) new.0 (subst (λ (n : ℕ). rank c step.near h < n) up_rank low) in
         noted event step quiet (fallen before now s step.near high_up new.1 d.restart d.waits off are less late)
 
-    event_by : (event : timer.StationEvent) (o : Outcome) → LeadsOn c s h o → tells o ≡ false → 2 ≤ rank c (timer.after s o) h → IsBy s.layer.restarting d.restart d.waits → InTime s.layer.restarting (awaited s) now → Behind event o
+    event_by : (event : timer.StationEvent) (o : Outcome) → LeadsOn c s h o → tells o ≡ false → 2 ≤ rank c (timer.after s o) h
+        → IsBy s.layer.restarting d.restart d.waits → InTime s.layer.restarting (awaited s) now → Behind event o
     event_by event (Did step) leads quiet higher by late = on (leads quiet)
       where
         on : AwaitsStill c s step.near h ⊎ (rank c step.near h < rank c s h) → Behind event (Did step)
         on (inl still) = noted event step quiet (stayed before now s step.near high_up (higher_up step.near higher).1 d.restart d.waits off are still by)
         on (inr low) = fallen_by event step quiet higher low late
-    event_by event (Refused e) leads quiet higher by late = stayed before now s s high_up high_up d.restart d.waits off are (record { up = up; restarting = refl; awaits = refl }) by
+    event_by event (Refused e) leads quiet higher by late = stayed before now s s high_up high_up d.restart d.waits off are
+        (record { up = up; restarting = refl; awaits = refl }) by
 
   -- ---- what is due is asked
 
@@ -368,13 +403,15 @@ module _ (c : Settings) (times : Times) (h bound : ℕ) (set : AreSet times) (sm
       let three : rank c found.0.near h ≡ 3 = found.2 in
       record { step = found.0; is = ap (λ (x : Due). timer.outcome c s (asks x)) is ∙ found.1; low = omega (arith, three, four) }
 
-  restarted : Laws → (s : Station) (what : Due) → rank c s h ≡ 3 → is_up s.link.phase ≡ true → s.layer.restarting ≡ false → what ≡ due.Restart h → waits s.link.outgoing < 256 → Falls c h s what
+  restarted : Laws → (s : Station) (what : Due) → rank c s h ≡ 3 → is_up s.link.phase ≡ true → s.layer.restarting ≡ false → what ≡ due.Restart h
+      → waits s.link.outgoing < 256 → Falls c h s what
   restarted laws s what three up ready is low =
       let found = laws.restart c s up ready low in
       let two : rank c found.0.near h ≡ 2 = found.2 h in
       record { step = found.0; is = ap (λ (x : Due). timer.outcome c s (asks x)) is ∙ found.1; low = omega (arith, two, three) }
 
-  asked_falls : Laws → (s : Station) (what : Due) (a : Awaits) → rank c s h ≡ rank_in a → 2 ≤ rank c s h → is_up s.link.phase ≡ true → s.layer.restarting ≡ false → asked_for h a ≡ Some what → waits s.link.outgoing < 256 → Falls c h s what
+  asked_falls : Laws → (s : Station) (what : Due) (a : Awaits) → rank c s h ≡ rank_in a → 2 ≤ rank c s h → is_up s.link.phase ≡ true → s.layer.restarting
+      ≡ false → asked_for h a ≡ Some what → waits s.link.outgoing < 256 → Falls c h s what
   asked_falls laws s what Nothing is high linked ready asked low = absurd (none-some what asked)
   asked_falls laws s what Acceptance is high linked ready asked low = cleared laws s what is (sym (ap or_t1 asked)) low
   asked_falls laws s what ResetConfirmation is high linked ready asked low = cleared laws s what is (sym (ap or_t1 asked)) low
@@ -386,8 +423,10 @@ module _ (c : Settings) (times : Times) (h bound : ℕ) (set : AreSet times) (sm
       true≢false (sym (ap (λ (x : Due). tells (timer.outcome c s (asks x))) is ∙ ap tells found.1 ∙ ap tells_link found.2.entries) ∙ quiet)
 
   -- a moment at which what is due is asked
-  asked_deed : Laws → (w : Watched) (later : ℕ) (what : Due) → AreTrue c times w → 2 ≤ rank c w.station h → IsFounded (IsAsked later what) w → (let o : Outcome = outcome_of c (IsAsked later what) w in tells o ≡ false → 2 ≤ rank c (timer.after w.station o) h)
-      → (let o : Outcome = outcome_of c (IsAsked later what) w in tells o ≡ false) → IsBy w.station.layer.restarting w.deadlines.restart w.deadlines.waits → InTime w.station.layer.restarting (awaited w.station) (w.now + later)
+  asked_deed : Laws → (w : Watched) (later : ℕ) (what : Due) → AreTrue c times w → 2 ≤ rank c w.station h → IsFounded (IsAsked later what) w
+      → (let o : Outcome = outcome_of c (IsAsked later what) w in tells o ≡ false → 2 ≤ rank c (timer.after w.station o) h)
+      → (let o : Outcome = outcome_of c (IsAsked later what) w in tells o ≡ false) → IsBy w.station.layer.restarting w.deadlines.restart w.deadlines.waits
+      → InTime w.station.layer.restarting (awaited w.station) (w.now + later)
       → (let v : Watched = done c times (IsAsked later what) w in IsBy v.station.layer.restarting v.deadlines.restart v.deadlines.waits)
   asked_deed laws w later what true_now high founded higher quiet by late = on (what_is_asked times now d what founded.0)
     where
@@ -429,17 +468,23 @@ module _ (c : Settings) (times : Times) (h bound : ℕ) (set : AreSet times) (sm
       falls : Falls c h s what → Behind now now s high e then_true.restart.off then_true.waits event o
       falls f =
           subst (λ (x : Outcome). Behind now now s high e then_true.restart.off then_true.waits event x) (sym f.is)
-          (fallen_by now now s high e then_true.restart.off then_true.waits event f.step (ap tells (sym f.is) ∙ quiet) (subst (λ (x : Outcome). 2 ≤ rank c (timer.after s x) h) f.is (higher quiet)) f.low late)
+          (fallen_by now now s high e then_true.restart.off then_true.waits event f.step (ap tells (sym f.is) ∙ quiet)
+          (subst (λ (x : Outcome). 2 ≤ rank c (timer.after s x) h) f.is (higher quiet)) f.low late)
 
-      itself : (asked : AsksOn times now d e what) → asked.wait.channel ≡ h → (r : Bool) → s.layer.restarting ≡ r → IsBy r d.restart d.waits → Behind now now s high e then_true.restart.off then_true.waits event o
-      itself asked at_h true is by = goes (subst (λ (r : Bool). IsBy r e.restart e.waits) (sym is) (subst (λ (x : Option ℕ). Ends bound x 0) (sym asked.restart) by))
+      itself : (asked : AsksOn times now d e what) → asked.wait.channel ≡ h → (r : Bool) → s.layer.restarting ≡ r → IsBy r d.restart d.waits
+          → Behind now now s high e then_true.restart.off then_true.waits event o
+      itself asked at_h true is by = goes (subst (λ (r : Bool). IsBy r e.restart e.waits) (sym is)
+          (subst (λ (x : Option ℕ). Ends bound x 0) (sym asked.restart) by))
       itself asked at_h false is by =
-          let awaits : asked.wait.awaits ≡ awaited s = overdue_is times w.now now (λ k. awaited_at (layer_settings c) s.layer k) d.waits asked.wait true_now.waits asked.found ∙ ap (λ (k : ℕ). awaited_at (layer_settings c) s.layer k) at_h in
+          let awaits : asked.wait.awaits ≡ awaited s = overdue_is times w.now now (λ k. awaited_at (layer_settings c) s.layer k) d.waits asked.wait
+          true_now.waits asked.found ∙ ap (λ (k : ℕ). awaited_at (layer_settings c) s.layer k) at_h in
           let asks_it : asked_for h (awaited s) ≡ Some what = sym (ap (λ (k : ℕ). asked_for k asked.wait.awaits) at_h ∙ ap (asked_for h) awaits) ∙ asked.is in
-          let same : rank c s h ≡ rank_in (awaited s) = rank_up s.link.phase s.layer.restarting (awaited s) is_up_now ∙ ap (λ (r : Bool). rank_of Up r (awaited s)) is in
+          let same : rank c s h ≡ rank_in (awaited s) = rank_up s.link.phase s.layer.restarting (awaited s) is_up_now
+          ∙ ap (λ (r : Bool). rank_of Up r (awaited s)) is in
           falls (asked_falls laws s what (awaited s) same high is_up_now is asks_it founded.1)
 
-      on_wait : (asked : AsksOn times now d e what) (b : Bool) → (asked.wait.channel == h) ≡ b → Behind now now s high e then_true.restart.off then_true.waits event o
+      on_wait : (asked : AsksOn times now d e what) (b : Bool) → (asked.wait.channel == h) ≡ b
+          → Behind now now s high e then_true.restart.off then_true.waits event o
       on_wait asked true is = itself asked (eqb-true asked.wait.channel h is) s.layer.restarting refl by
       on_wait asked false is = goes (other asked is s.layer.restarting by)
 
@@ -452,12 +497,15 @@ module _ (c : Settings) (times : Times) (h bound : ℕ) (set : AreSet times) (sm
       on (inr (inl asked)) = goes (relinked asked s.layer.restarting refl by)
       on (inr (inr asked)) = on_wait asked (asked.wait.channel == h) refl
 
-  deed_by : Laws → (w : Watched) (deed : Deed) → AreTrue c times w → 2 ≤ rank c w.station h → IsFounded deed w → tells (outcome_of c deed w) ≡ false → 2 ≤ rank c (done c times deed w).station h
+  deed_by : Laws → (w : Watched) (deed : Deed) → AreTrue c times w → 2 ≤ rank c w.station h → IsFounded deed w → tells (outcome_of c deed w) ≡ false → 2
+      ≤ rank c (done c times deed w).station h
       → IsBy w.station.layer.restarting w.deadlines.restart w.deadlines.waits → InTime w.station.layer.restarting (awaited w.station) (w.now + later_by deed)
       → (let v : Watched = done c times deed w in IsBy v.station.layer.restarting v.deadlines.restart v.deadlines.waits)
   deed_by laws w (Happens later event) true_now high founded quiet higher by late =
-      event_by w.now (w.now + later) w.station high w.deadlines true_now.restart.off true_now.waits event (timer.outcome c w.station event) (laws.back c w.station h event high) quiet higher by late
-  deed_by laws w (IsAsked later what) true_now high founded quiet higher by late = asked_deed laws w later what true_now high founded (λ q. higher) quiet by late
+      event_by w.now (w.now + later) w.station high w.deadlines true_now.restart.off true_now.waits event (timer.outcome c w.station event)
+      (laws.back c w.station h event high) quiet higher by late
+  deed_by laws w (IsAsked later what) true_now high founded quiet higher by late =
+      asked_deed laws w later what true_now high founded (λ q. higher) quiet by late
 
   -- ---- deed after deed
 
@@ -485,16 +533,19 @@ module _ (c : Settings) (times : Times) (h bound : ℕ) (set : AreSet times) (sm
 -- ---- where it begins
 
 module _ (c : Settings) (times : Times) (h : ℕ) (set : AreSet times) where
-  ends_by : (bound now time more : ℕ) (until : Option ℕ) → (few : bound < 2 ^ 64) → 0 < time → now + (time + more) ≤ bound → IsSince now time until → Ends bound until more
+  ends_by : (bound now time more : ℕ) (until : Option ℕ) → (few : bound < 2 ^ 64) → 0 < time → now + (time + more) ≤ bound → IsSince now time until
+      → Ends bound until more
   ends_by bound now time more until few positive low since =
       let past : since.since ≤ now = since.past in
       subst (λ (o : Option ℕ). Ends bound o more) (sym since.is) (begins_at bound few since.since time more positive (omega (arith, low, past)))
 
-  first_on : (bound now : ℕ) (few : bound < 2 ^ 64) (f : ℕ → Awaits) (ws : List Wait) → bound ≡ now + longest_wait times false (f h) → 2 ≤ rank_in (f h) → AreAwaited times now f ws → OnChannel c times h bound set few ws
+  first_on : (bound now : ℕ) (few : bound < 2 ^ 64) (f : ℕ → Awaits) (ws : List Wait) → bound ≡ now + longest_wait times false (f h) → 2 ≤ rank_in (f h)
+      → AreAwaited times now f ws → OnChannel c times h bound set few ws
   first_on bound now few f [] is high are = tt
   first_on bound now few f (w ∷ ws) is high are = (first, first_on bound now few f ws is high are.1)
     where
-      at : (a : Awaits) → bound ≡ now + longest_wait times false a → 2 ≤ rank_in a → IsSince now (time_of times a) w.until → Ends bound w.until (left c times h bound set few a)
+      at : (a : Awaits) → bound ≡ now + longest_wait times false a → 2 ≤ rank_in a → IsSince now (time_of times a) w.until
+          → Ends bound w.until (left c times h bound set few a)
       at Nothing is high since = low_one 0 (omega arith) high
       at Acceptance is high since = ends_by bound now times.t21 (times.t23 + times.t20) w.until few set.t21 (omega (arith, is)) since
       at ResetConfirmation is high since = ends_by bound now times.t22 (times.t23 + times.t20) w.until few set.t22 (omega (arith, is)) since
@@ -503,11 +554,14 @@ module _ (c : Settings) (times : Times) (h : ℕ) (set : AreSet times) where
       first : w.channel ≡ h → Ends bound w.until (left c times h bound set few w.awaits)
       first at_h =
           let same : w.awaits ≡ f h = are.0.awaits ∙ ap f at_h in
-          at w.awaits (is ∙ ap (λ (a : Awaits). now + longest_wait times false a) (sym same)) (subst (λ (a : Awaits). 2 ≤ rank_in a) (sym same) high) are.0.until
+          at w.awaits (is ∙ ap (λ (a : Awaits). now + longest_wait times false a) (sym same)) (subst (λ (a : Awaits). 2 ≤ rank_in a) (sym same) high)
+          are.0.until
 
-  first_by : (bound : ℕ) (w : Watched) (few : bound < 2 ^ 64) (r : Bool) → w.station.layer.restarting ≡ r → bound ≡ w.now + longest_wait times r (awaited_at (layer_settings c) w.station.layer h) → 2 ≤ rank c w.station h → AreTrue c times w
+  first_by : (bound : ℕ) (w : Watched) (few : bound < 2 ^ 64) (r : Bool) → w.station.layer.restarting ≡ r → bound ≡ w.now
+      + longest_wait times r (awaited_at (layer_settings c) w.station.layer h) → 2 ≤ rank c w.station h → AreTrue c times w
       → IsBy c times h bound set few r w.deadlines.restart w.deadlines.waits
-  first_by bound w few true is same high true_now = ends_by bound w.now times.t20 0 w.deadlines.restart few set.t20 (omega (arith, same)) (true_now.restart.on is)
+  first_by bound w few true is same high true_now = ends_by bound w.now times.t20 0 w.deadlines.restart few set.t20 (omega (arith, same))
+      (true_now.restart.on is)
   first_by bound w few false is same high true_now =
       let a : Awaits = awaited_at (layer_settings c) w.station.layer h in
       let up : is_up w.station.link.phase ≡ true = is_up_high w.station.link.phase w.station.layer.restarting a high in

@@ -1,5 +1,6 @@
 -- The line at the front of a text.
-use Rattle.std.proofs.Common.{ℕ, suc, ◌≡◌, ◌≢◌, ◌==◌, ◌<◌, ◌≤◌, ◌+◌, ◌-◌, ◌*◌, ◌%◌, ◌∙◌, Bool, true, false, List, [], ◌∷◌, ◌++◌, length, take, drop, refl, ap, sym, subst, arith, if◌then◌else◌, Option, Some, None, Result, Ok, Err}
+use Rattle.std.proofs.Common.{ℕ, suc, ◌≡◌, ◌≢◌, ◌==◌, ◌<◌, ◌≤◌, ◌+◌, ◌-◌, ◌*◌, ◌%◌, ◌∙◌, Bool, true, false, List, [], ◌∷◌, ◌++◌, length, take, drop, refl, ap}
+use Rattle.std.proofs.Common.{sym, subst, arith, if◌then◌else◌, Option, Some, None, Result, Ok, Err}
 use Rattle.std.specs.Prelude.{nat_le, slice_index, option_and_then, option_map}
 use Rattle.std.specs.Result.{result_ok}
 use Rattle.std.proofs.lemmas.Bool.{le-leb}
@@ -24,10 +25,13 @@ open_pairs : (i : ℕ) (digits octets : List ℕ) → result_ok (decode_pairs i 
 unfolding decode_pairs
 open_pairs i [] octets h = tt
 open_pairs i (x ∷ []) octets h = cc h
-open_pairs i (high ∷ low ∷ digits) octets h = go (hex_digit_value high) (hex_digit_value low) (decode_pairs (i + 2) digits) refl refl (λ x e. open_pairs (i + 2) digits x e) h
+open_pairs i (high ∷ low ∷ digits) octets h = go (hex_digit_value high) (hex_digit_value low) (decode_pairs (i + 2) digits) refl refl
+    (λ x e. open_pairs (i + 2) digits x e) h
   where
-    go : (p q : Option ℕ) (r : Result (List ℕ) FromHexError) → hex_digit_value high ≡ p → hex_digit_value low ≡ q → ((x : List ℕ) → result_ok r ≡ Some x → IsOpen digits)
-        → result_ok ((digit_or_error high i p >>= λ h. digit_or_error low (i + 1) q >>= λ l. Ok (h * 16 + l)) >>= λ byte. r >>= λ bytes. Ok (byte ∷ bytes)) ≡ Some octets
+    go : (p q : Option ℕ) (r : Result (List ℕ) FromHexError) → hex_digit_value high ≡ p → hex_digit_value low ≡ q
+        → ((x : List ℕ) → result_ok r ≡ Some x → IsOpen digits)
+        → result_ok ((digit_or_error high i p >>= λ h. digit_or_error low (i + 1) q >>= λ l. Ok (h * 16 + l)) >>= λ byte. r >>= λ bytes. Ok (byte ∷ bytes))
+        ≡ Some octets
         → IsOpen (high ∷ low ∷ digits)
     go (Some p) (Some q) (Ok x) a b c h = (no_feed high p a, (no_feed low q b, c x refl))
     go (Some p) (Some q) (Err e) a b c h = cc h
@@ -43,7 +47,8 @@ open_digits digits octets h = go (length digits % 2 == 1) h
     go false h = open_pairs 0 digits octets h
 
 -- a mark, a space and digits
-module _ (mark count : ℕ) (digits octets : List ℕ) (few : count ≤ 4103) (within : 2 * count < length digits) (read : result_ok (decode_of (take (2 * count) digits)) ≡ Some octets) where
+module _ (mark count : ℕ) (digits octets : List ℕ) (few : count ≤ 4103) (within : 2 * count < length digits)
+    (read : result_ok (decode_of (take (2 * count) digits)) ≡ Some octets) where
   size : length (take (2 * count) digits) ≡ 2 * count
   size = length-take-le (2 * count) digits (omega (arith, within))
 
@@ -91,6 +96,7 @@ line_left (mark ∷ space ∷ behind) digits count octets from same long is_spac
 pub parted : (count : ℕ) (left : List ℕ) → StandsInFront count left → left ≡ take count left ++ 10 ∷ take (length left - (count + 1)) (drop (count + 1) left)
 parted count left stands =
     let one : suc count ≡ count + 1 = omega arith in
-    let behind : take (length left - (count + 1)) (drop (count + 1) left) ≡ drop (count + 1) left = take_all (length left - (count + 1)) (drop (count + 1) left) (omega (arith, length-drop (count + 1) left)) in
+    let behind : take (length left - (count + 1)) (drop (count + 1) left) ≡ drop (count + 1) left =
+    take_all (length left - (count + 1)) (drop (count + 1) left) (omega (arith, length-drop (count + 1) left)) in
     sym (take-append-drop count left)
     ∙ ap (λ rest. take count left ++ rest) (drop-cons left count 0 stands.0 ∙ (λ i. stands.1 i ∷ drop (one i) left) ∙ ap (λ rest. 10 ∷ rest) (sym behind))

@@ -1,6 +1,7 @@
 -- A line that is longer than any that is held is none of the grammar.
 use Rattle.x25_decode.specs.declared.answer.Reading.{Reading}
-use Rattle.std.proofs.Common.{◌≡◌, ◌<◌, ◌==◌, not, ℕ, Bool, true, false, List, [], ◌∷◌, ◌++◌, length, ap, refl, arith, nat_le, codes, if◌then◌else◌, Option, Some, None, option_map, option_and_then}
+use Rattle.std.proofs.Common.{◌≡◌, ◌<◌, ◌==◌, not, ℕ, Bool, true, false, List, [], ◌∷◌, ◌++◌, length, ap, refl, arith, nat_le, codes, if◌then◌else◌, Option}
+use Rattle.std.proofs.Common.{Some, None, option_map, option_and_then}
 use Rattle.std.specs.Prelude.{is_some}
 use Rattle.std.specs.Str.{bytes_eq}
 use Rattle.std.proofs.lemmas.Bool.Decides.{nat_tests}

@@ -1,5 +1,6 @@
 -- An input that is read loosely, line by line.
-use Rattle.std.proofs.Common.{◌≡◌, ◌∙◌, ◌<◌, ◌||◌, ℕ, Bool, true, false, List, [], ◌∷◌, ◌++◌, Option, None, Result, length, codes, append_assoc, ap, sym, subst, refl}
+use Rattle.std.proofs.Common.{◌≡◌, ◌∙◌, ◌<◌, ◌||◌, ℕ, Bool, true, false, List, [], ◌∷◌, ◌++◌, Option, None, Result, length, codes, append_assoc, ap, sym, subst}
+use Rattle.std.proofs.Common.{refl}
 use Rattle.std.specs.Prelude.{MatchResult}
 use Rattle.std.specs.Io.KnownBytes.{Appends}
 use Rattle.std.specs.List.{flat_map, list_any}
@@ -31,7 +32,8 @@ no_sense : (line : List ℕ) → sent_in line ≡ None → gap_in line ≡ None 
 unfolding is_refused
 no_sense line none gap = rw (none, gap) refl
 
-pub long_answer : (reading : Reading) (line : List ℕ) → most_line < length line → sent_in line ≡ None → gap_in line ≡ None → answer_loosely reading line ≡ codes "? 60\n"
+pub long_answer : (reading : Reading) (line : List ℕ) → most_line < length line → sent_in line ≡ None → gap_in line ≡ None → answer_loosely reading line
+    ≡ codes "? 60\n"
 unfolding answer_loosely
 long_answer reading line long none gap = ap (λ t. t ++ answer_to_asked reading (asked true line)) (long_carried true line long)
     ∙ ap (answer_to_asked reading) (long_asked true line long) ∙ no_answer reading line none gap
@@ -42,20 +44,24 @@ long_refused line long none gap = ap refuses_asked (long_asked true line long) �
 
 -- ---- a line in parts
 
-pub answer_parts : (reading : Reading) (line head : List ℕ) (o : Option (List ℕ)) → head ≡ carried true line → asked true line ≡ o → answer_loosely reading line ≡ head ++ answer_to_asked reading o
+pub answer_parts : (reading : Reading) (line head : List ℕ) (o : Option (List ℕ)) → head ≡ carried true line → asked true line ≡ o
+    → answer_loosely reading line ≡ head ++ answer_to_asked reading o
 unfolding answer_loosely
-answer_parts reading line head o is found = ap (λ t. t ++ answer_to_asked reading (asked true line)) (sym is) ∙ ap (λ x. head ++ answer_to_asked reading x) found
+answer_parts reading line head o is found = ap (λ t. t ++ answer_to_asked reading (asked true line)) (sym is)
+    ∙ ap (λ x. head ++ answer_to_asked reading x) found
 
 pub refuses_parts : (line : List ℕ) (o : Option (List ℕ)) → asked true line ≡ o → refuses_loosely line ≡ refuses_asked o
 unfolding refuses_loosely
 refuses_parts line o found = ap refuses_asked found
 
 -- the second part behind the first
-pub told_behind : {T E : Type 0} (r : Result T E) (was next : Option (List ℕ)) (waited waits head more all : List ℕ) → all ≡ head ++ more → TellsMore r was next waited waits more
+pub told_behind : {T E : Type 0} (r : Result T E) (was next : Option (List ℕ)) (waited waits head more all : List ℕ) → all ≡ head ++ more
+    → TellsMore r was next waited waits more
     → (old : Option (List ℕ)) (told : List ℕ) → Tells old was waited (told ++ head)
     → MatchResult r (λ _. Tells old next waits (told ++ all)) (λ _. AppendsPrefix old next (told ++ all))
 told_behind {T} {E} r was next waited waits head more all e tells old told h =
-    subst (λ t. MatchResult r (λ _. Tells old next waits t) (λ _. AppendsPrefix old next t)) (append_assoc told head more ∙ ap (λ t. told ++ t) (sym e)) (tells old (told ++ head) h)
+    subst (λ t. MatchResult r (λ _. Tells old next waits t) (λ _. AppendsPrefix old next t)) (append_assoc told head more ∙ ap (λ t. told ++ t) (sym e))
+    (tells old (told ++ head) h)
 
 -- ---- before anything is read
 
@@ -70,7 +76,8 @@ start reading old d input reads empty none = record {
 }
 
 pub input_begins : (reading : Reading) (old : Option (List ℕ)) (held first : HeldLine) (d made : LooseDecoder) → held ≡ first → d ≡ made → HoldsLine [] first
-    → made.reading ≡ reading → made.output ≡ [] → made.is_refused ≡ false → (input : List ℕ) → LinesLead (λ lines. DecodesLines reading d old old lines input) held input
+    → made.reading ≡ reading → made.output ≡ [] → made.is_refused ≡ false → (input : List ℕ)
+    → LinesLead (λ lines. DecodesLines reading d old old lines input) held input
 input_begins reading old held first d made is_held is_decoder empty reads nothing none input =
     between (λ (lines : List (List ℕ)). DecodesLines reading d old old lines input) held input (subst (HoldsLine []) (sym is_held) empty)
     (start reading old d input (ap (λ (d : LooseDecoder). d.reading) is_decoder ∙ reads) (ap (λ (d : LooseDecoder). d.output) is_decoder ∙ nothing)
@@ -108,7 +115,8 @@ module _ (reading : Reading) (old now next : Option (List ℕ)) (input : List �
     record {
       part = tells.written;
       appends = tells.appends;
-      same = ap (λ t. t ++ flat_map (answer_loosely reading) lines) (sym (append-nil tells.written) ∙ ap (λ t. tells.written ++ t) (sym none) ∙ tells.same) ∙ h.same;
+      same = ap (λ t. t ++ flat_map (answer_loosely reading) lines) (sym (append-nil tells.written) ∙ ap (λ t. tells.written ++ t) (sym none) ∙ tells.same)
+          ∙ h.same;
     },
     part_written d lines h (told_prefix old next output h.told tells),
   )

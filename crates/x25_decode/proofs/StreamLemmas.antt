@@ -59,7 +59,8 @@ module _ (reading : Reading) (old now next : Option (List ℕ)) (held : HeldLine
     is_open = h.is_open;
     part = h.tells.written;
     appends = h.tells.appends;
-    same = ap (λ t. t ++ output_of reading (h.begun ++ rest)) (sym (append-nil h.tells.written) ∙ ap (λ t. h.tells.written ++ t) (sym none) ∙ h.tells.same) ∙ h.same;
+    same = ap (λ t. t ++ output_of reading (h.begun ++ rest)) (sym (append-nil h.tells.written) ∙ ap (λ t. h.tells.written ++ t) (sym none) ∙ h.tells.same)
+        ∙ h.same;
   }
 
   -- more of the line that has begun
@@ -85,7 +86,8 @@ module _ (reading : Reading) (old now next : Option (List ℕ)) (held : HeldLine
     holds = empty;
     told = h.told ++ answer_to reading line;
     tells = tells;
-    same = append_assoc h.told (answer_to reading line) (output_of reading rest) ∙ ap (λ t. h.told ++ t) (sym (ap (flat_map (answer_to reading)) lines)) ∙ h.same;
+    same = append_assoc h.told (answer_to reading line) (output_of reading rest) ∙ ap (λ t. h.told ++ t) (sym (ap (flat_map (answer_to reading)) lines))
+        ∙ h.same;
     status = ap (λ b. b || has_refused rest) refusal ∙ or_assoc refused (is_refused line) (has_refused rest)
         ∙ ap (λ b. refused || b) (sym (ap (list_any is_refused) lines)) ∙ h.status;
   }
@@ -99,7 +101,8 @@ module _ (reading : Reading) (old now next : Option (List ℕ)) (held : HeldLine
 pub ended : (reading : Reading) (old now : Option (List ℕ)) (held : HeldLine) (text : List ℕ) (refused : Bool) (all : List ℕ) (any : Bool)
     → (h : Leads reading old now held text refused [] all any) → h.begun ≡ [] → text ≡ [] → Appends old now all × (refused ≡ any)
 ended reading old now held text refused all any h empty none =
-    let whole : h.told ≡ all = sym (append-nil h.told) ∙ ap (λ t. h.told ++ t) (sym (nil_output reading)) ∙ ap (λ b. h.told ++ output_of reading (b ++ [])) (sym empty) ∙ h.same in
+    let whole : h.told ≡ all = sym (append-nil h.told) ∙ ap (λ t. h.told ++ t) (sym (nil_output reading))
+    ∙ ap (λ b. h.told ++ output_of reading (b ++ [])) (sym empty) ∙ h.same in
     let told : h.tells.written ≡ h.told = sym (append-nil h.tells.written) ∙ ap (λ t. h.tells.written ++ t) (sym none) ∙ h.tells.same in (
       subst (Appends old now) (told ∙ whole) h.tells.appends,
       sym (or-false refused) ∙ ap (λ b. refused || b) (sym nil_refuses) ∙ ap (λ b. refused || has_refused (b ++ [])) (sym empty) ∙ h.status,

@@ -1,5 +1,6 @@
 -- Verdicts, a vector at a time.
-use Rattle.std.proofs.Common.{◌≡◌, ◌∙◌, ◌+◌, ◌<◌, ℕ, Bool, true, suc, List, [], ◌∷◌, ◌++◌, map, drop, length, Option, ap, sym, refl, subst, arith, append_assoc, get_or}
+use Rattle.std.proofs.Common.{◌≡◌, ◌∙◌, ◌+◌, ◌<◌, ℕ, Bool, true, suc, List, [], ◌∷◌, ◌++◌, map, drop, length, Option, ap, sym, refl, subst, arith, append_assoc}
+use Rattle.std.proofs.Common.{get_or}
 use Rattle.std.specs.Prelude.{◌&&◌, OnErr, Result, Ok, Err}
 use Rattle.std.specs.Io.KnownBytes.{Appends}
 use Rattle.std.specs.List.{flat_map, list_all}
@@ -11,7 +12,8 @@ use Rattle.x25_io.specs.code.Written.{AppendsPrefix}
 use Rattle.x25_decode.specs.declared.test_vectors.Vector.{Vector}
 
 -- text that is written in two parts, where the second wasn't written whole
-pub prefix_after : (old mid new : Option (List ℕ)) (first second : List ℕ) → Appends old mid first → AppendsPrefix mid new second → AppendsPrefix old new (first ++ second)
+pub prefix_after : (old mid new : Option (List ℕ)) (first second : List ℕ) → Appends old mid first → AppendsPrefix mid new second
+    → AppendsPrefix old new (first ++ second)
 prefix_after old mid new first second a b = (
   first ++ b.0,
   b.1,

@@ -1,5 +1,6 @@
 -- Whole octets: what is read is what the grammar says, and an error is the first that applies.
-use Rattle.std.proofs.Common.{ℕ, suc, ◌+◌, ◌-◌, ◌/◌, ◌%◌, ◌<◌, ◌≤◌, ◌≡◌, ◌≢◌, ◌∙◌, Bool, true, false, List, [], ◌∷◌, ◌++◌, length, get_or, refl, ap, sym, subst, inl, inr, arith, length-append, nat_eq, Ok, Err}
+use Rattle.std.proofs.Common.{ℕ, suc, ◌+◌, ◌-◌, ◌/◌, ◌%◌, ◌<◌, ◌≤◌, ◌≡◌, ◌≢◌, ◌∙◌, Bool, true, false, List, [], ◌∷◌, ◌++◌, length, get_or, refl, ap, sym, subst}
+use Rattle.std.proofs.Common.{inl, inr, arith, length-append, nat_eq, Ok, Err}
 use Rattle.std.specs.Prelude.{if◌then◌else◌}
 use Rattle.std.proofs.lemmas.Bool.{eqb-true, eqb-false}
 use Rattle.std.proofs.Math.Seq.{take-append_seam}
@@ -86,13 +87,16 @@ abbrev pub AreOctets : List ℕ → Type 0
 AreOctets octets = (i : ℕ) → get_or octets i 0 < 256
 
 -- a kind that the octets have reads as that kind with their information
-by_kind : (n1 : ℕ) (command : Bool) (control : ℕ) (octets : List ℕ) (v : PlainFrame) → HasControl command control v → kind_of n1 command control octets ≡ as_kind n1 v octets
+by_kind : (n1 : ℕ) (command : Bool) (control : ℕ) (octets : List ℕ) (v : PlainFrame) → HasControl command control v → kind_of n1 command control octets
+    ≡ as_kind n1 v octets
 by_kind n1 command control octets v k =
-    ap (λ c. kind_of n1 c control octets) (sym k.command_is) ∙ ap (λ c. kind_of n1 (is_command v) c octets) (sym k.control_is) ∙ kind_of-control n1 v octets k.in_range
+    ap (λ c. kind_of n1 c control octets) (sym k.command_is) ∙ ap (λ c. kind_of n1 (is_command v) c octets) (sym k.control_is)
+    ∙ kind_of-control n1 v octets k.in_range
 
 -- ---- what is read is spelled so
 
-pub found_spells : (from : Role) (n1 : ℕ) (octets : List ℕ) (w : PlainFrame) → AreOctets octets → IsValid octets → addressed_frame from n1 octets ≡ Ok w → Spells from n1 w octets
+pub found_spells : (from : Role) (n1 : ℕ) (octets : List ℕ) (w : PlainFrame) → AreOctets octets → IsValid octets → addressed_frame from n1 octets ≡ Ok w
+    → Spells from n1 w octets
 found_spells from n1 octets w small valid e = elim (address_cases from n1 octets) [
   | known command address reads ↦ elim (defined n1 command (get_or octets 1 0) (information_in octets) (small 1)) [
     | inl none ↦ absurd (ok_err (sym none ∙ sym reads ∙ e))
@@ -117,7 +121,8 @@ pub only_found : (from : Role) (n1 : ℕ) (octets : List ℕ) (v : PlainFrame) �
 only_found from n1 octets v s = ap (addressed_frame from n1) s.spelling ∙ again (fcs_of (body_of from v) % 256) (fcs_of (body_of from v) / 256)
   where
     by_address : (from : Role) (command : Bool) (x y : Read)
-        → (if nat_eq (address_of from command) (address_of from true) then x else if nat_eq (address_of from command) (address_of from false) then y else Err BadAddress)
+        → (if nat_eq (address_of from command) (address_of from true) then x else if nat_eq (address_of from command) (address_of from false) then y
+        else Err BadAddress)
         ≡ (if command then x else y)
     by_address Dte true x y = refl
     by_address Dte false x y = refl
@@ -131,7 +136,8 @@ only_found from n1 octets v s = ap (addressed_frame from n1) s.spelling ∙ agai
 
     again : (x y : ℕ) → addressed_frame from n1 (body_of from v ++ (x ∷ y ∷ [])) ≡ Ok v
     again x y = rw (information_in-spelled (address_of from (is_command v)) (control_of v) (information_of v) x y)
-        (by_address from (is_command v) (kind_of n1 true (control_of v) (information_of v)) (kind_of n1 false (control_of v) (information_of v)) ∙ chosen (is_command v) refl)
+        (by_address from (is_command v) (kind_of n1 true (control_of v) (information_of v)) (kind_of n1 false (control_of v) (information_of v))
+        ∙ chosen (is_command v) refl)
 
 -- ---- an error is the first that applies
 
@@ -142,7 +148,8 @@ refused_is_first from n1 octets v e valid k (inl r) =
 refused_is_first from n1 octets v e valid k (inr r) =
     subst (IsFirstError from n1 octets) r.0 (valid, (v, k, r.1, r.2))
 
-pub error_is_first : (from : Role) (n1 : ℕ) (octets : List ℕ) (e : FrameError) → AreOctets octets → IsValid octets → addressed_frame from n1 octets ≡ Err e → IsFirstError from n1 octets e
+pub error_is_first : (from : Role) (n1 : ℕ) (octets : List ℕ) (e : FrameError) → AreOctets octets → IsValid octets → addressed_frame from n1 octets ≡ Err e
+    → IsFirstError from n1 octets e
 error_is_first from n1 octets e small valid h = elim (address_cases from n1 octets) [
   | known command address reads ↦
       let control = get_or octets 1 0 in
@@ -164,7 +171,8 @@ error_is_first from n1 octets e small valid h = elim (address_cases from n1 octe
         → kind_of n1 command (get_or octets 1 0) (information_in octets) ≡ Err (Undefined (get_or octets 1 0)) → (v : PlainFrame) → HasKind from v octets → ⊥
     undefined command address none v k =
         let same : is_command v ≡ command = same_kind from _ _ (sym k.address ∙ address) in
-        let reads = by_kind n1 command (get_or octets 1 0) (information_in octets) v (record { in_range = k.in_range; command_is = same; control_is = sym k.control }) in
+        let reads = by_kind n1 command (get_or octets 1 0) (information_in octets) v
+        (record { in_range = k.in_range; command_is = same; control_is = sym k.control }) in
         elim (as_err n1 v (information_in octets) (Undefined (get_or octets 1 0)) (sym reads ∙ none)) [
           | inl r ↦ no_info r.0
           | inr r ↦ too_long r.0

@@ -1,5 +1,6 @@
 -- A control read as a kind of frame: what is read is spelled so, what is spelled so is read, and why nothing is.
-use Rattle.std.proofs.Common.{ℕ, zero, suc, ◌+◌, ◌*◌, ◌/◌, ◌%◌, ◌<◌, ◌≡◌, ◌⊎◌, ◌∙◌, Bool, true, false, List, [], ◌∷◌, length, refl, sym, subst, inl, inr, arith, nat_eq, Result, Ok, Err}
+use Rattle.std.proofs.Common.{ℕ, zero, suc, ◌+◌, ◌*◌, ◌/◌, ◌%◌, ◌<◌, ◌≡◌, ◌⊎◌, ◌∙◌, Bool, true, false, List, [], ◌∷◌, length, refl, sym, subst, inl, inr, arith}
+use Rattle.std.proofs.Common.{nat_eq, Result, Ok, Err}
 use Rattle.std.specs.Prelude.{cond, nat_le, if◌then◌else◌}
 use Rattle.std.proofs.lemmas.Bool.{leb-true, le-leb, eqb-true, eq-eqb}
 use Rattle.x25_frame.specs.declared.error.FrameError.{FrameError}
@@ -71,9 +72,12 @@ as_kind n1 v octets = bare (control_of v) octets v
 pub kind_of-control : (n1 : ℕ) (v : PlainFrame) (octets : List ℕ) → IsInRange v → kind_of n1 (is_command v) (control_of v) octets ≡ as_kind n1 v octets
 kind_of-control n1 (info ns nr p _) octets r =
     let n = number_info ns nr (bit p) r.0 r.1 (bit_lt p) in rw (n.0, n.1, n.2, n.3, bit_back p) refl
-kind_of-control n1 (rr command nr pf) octets r = let n = number_supervisory 1 nr (bit pf) (omega arith) refl r (bit_lt pf) in rw (n.0, n.1, n.2, n.3, bit_back pf) refl
-kind_of-control n1 (rnr command nr pf) octets r = let n = number_supervisory 5 nr (bit pf) (omega arith) refl r (bit_lt pf) in rw (n.0, n.1, n.2, n.3, bit_back pf) refl
-kind_of-control n1 (rej command nr pf) octets r = let n = number_supervisory 9 nr (bit pf) (omega arith) refl r (bit_lt pf) in rw (n.0, n.1, n.2, n.3, bit_back pf) refl
+kind_of-control n1 (rr command nr pf) octets r = let n = number_supervisory 1 nr (bit pf) (omega arith) refl r (bit_lt pf) in
+    rw (n.0, n.1, n.2, n.3, bit_back pf) refl
+kind_of-control n1 (rnr command nr pf) octets r = let n = number_supervisory 5 nr (bit pf) (omega arith) refl r (bit_lt pf) in
+    rw (n.0, n.1, n.2, n.3, bit_back pf) refl
+kind_of-control n1 (rej command nr pf) octets r = let n = number_supervisory 9 nr (bit pf) (omega arith) refl r (bit_lt pf) in
+    rw (n.0, n.1, n.2, n.3, bit_back pf) refl
 kind_of-control n1 (sabm true) octets r = refl
 kind_of-control n1 (sabm false) octets r = refl
 kind_of-control n1 (disc true) octets r = refl
@@ -96,7 +100,8 @@ abbrev Defined : ℕ → Bool → ℕ → List ℕ → Type 0
 Defined n1 command control octets = (kind_of n1 command control octets ≡ Err (Undefined control)) ⊎ ((v : PlainFrame) × HasControl command control v)
 
 unnumbered_defined : (command : Bool) (control : ℕ) (octets : List ℕ) → control < 256
-    → (unnumbered command (control % 16 + 32 * (control / 32)) control (nat_eq (control / 16 % 2) 1) octets ≡ Err (Undefined control)) ⊎ ((v : PlainFrame) × HasControl command control v)
+    → (unnumbered command (control % 16 + 32 * (control / 32)) control (nat_eq (control / 16 % 2) 1) octets ≡ Err (Undefined control))
+    ⊎ ((v : PlainFrame) × HasControl command control v)
 unnumbered_defined true control octets small =
     let pf = nat_eq (control / 16 % 2) 1 in
     let base = control % 16 + 32 * (control / 32) in
@@ -153,7 +158,10 @@ defined n1 command control octets small = elim (nat_split (control % 2) 0) [
     numbered : (command : Bool) → control % 2 ≡ 0 → Defined n1 command control octets
     numbered true even =
         let b = bit_eq (control / 16 % 2) (omega arith) in
-        inr (info (control / 2 % 8) (control / 32) (nat_eq (control / 16 % 2) 1) [], record { in_range = (omega arith, omega arith); command_is = refl; control_is = rw b (omega arith) })
+        inr (
+          info (control / 2 % 8) (control / 32) (nat_eq (control / 16 % 2) 1) [],
+          record { in_range = (omega arith, omega arith); command_is = refl; control_is = rw b (omega arith) },
+        )
     numbered false even = inl (rw (eq-eqb _ _ even) refl)
 
 -- ---- what a kind with information reads as
@@ -166,7 +174,8 @@ pub record Carried (n1 : ℕ) (v : PlainFrame) (octets : List ℕ) (w : PlainFra
   pub carries : MayCarry w octets
   pub within : IsWithin n1 w octets
 
-bare_ok : (n1 control : ℕ) (v : PlainFrame) (octets : List ℕ) (w : PlainFrame) → (octets ≡ [] → Carried n1 v octets v) → bare control octets v ≡ Ok w → Carried n1 v octets w
+bare_ok : (n1 control : ℕ) (v : PlainFrame) (octets : List ℕ) (w : PlainFrame) → (octets ≡ [] → Carried n1 v octets v) → bare control octets v ≡ Ok w
+    → Carried n1 v octets w
 bare_ok n1 control v [] w k e = subst (Carried n1 v []) (ok_same e) (k refl)
 bare_ok n1 control v (o ∷ octets) w k e = absurd (ok_err e)
 
@@ -181,19 +190,15 @@ as_ok n1 (frmr f old) octets w r e = elim (split (nat_eq (length octets) 3) (Ok 
       (record { in_range = tt; command_is = refl; control_is = refl; information = refl; carries = eqb-true _ _ q.0; within = tt })
   | inr q ↦ absurd (ok_err (sym q.1 ∙ e))
 ]
-as_ok n1 (rr command nr pf) octets w r e = bare_ok n1 _ _ octets w (λ none. record { in_range = r; command_is = refl; control_is = refl; information = sym none; carries = none; within = tt }) e
-as_ok n1 (rnr command nr pf) octets w r e = bare_ok n1 _ _ octets w (λ none. record { in_range = r; command_is = refl; control_is = refl; information = sym none; carries = none; within = tt }) e
-as_ok n1 (rej command nr pf) octets w r e = bare_ok n1 _ _ octets w (λ none. record { in_range = r; command_is = refl; control_is = refl; information = sym none; carries = none; within = tt }) e
-as_ok n1 (sabm p) octets w r e = bare_ok n1 _ _ octets w (λ none. record { in_range = r; command_is = refl; control_is = refl; information = sym none; carries = none; within = tt }) e
-as_ok n1 (disc p) octets w r e = bare_ok n1 _ _ octets w (λ none. record { in_range = r; command_is = refl; control_is = refl; information = sym none; carries = none; within = tt }) e
-as_ok n1 (ua f) octets w r e = bare_ok n1 _ _ octets w (λ none. record { in_range = r; command_is = refl; control_is = refl; information = sym none; carries = none; within = tt }) e
-as_ok n1 (dm f) octets w r e = bare_ok n1 _ _ octets w (λ none. record { in_range = r; command_is = refl; control_is = refl; information = sym none; carries = none; within = tt }) e
+as_ok n1 v octets w r e = bare_ok n1 _ _ octets w
+    (λ none. record { in_range = r; command_is = refl; control_is = refl; information = sym none; carries = none; within = tt }) e
 
 -- why a kind with information is no frame
 abbrev pub Refused : ℕ → PlainFrame → List ℕ → FrameError → Type 0
 Refused n1 v octets e = ((NoInfoAllowed (control_of v) ≡ e) × ¬ MayCarry v octets) ⊎ ((TooLong ≡ e) × MayCarry v octets × ¬ IsWithin n1 v octets)
 
-bare_err : (n1 : ℕ) (v : PlainFrame) (octets : List ℕ) (e : FrameError) → (MayCarry v octets → octets ≡ []) → bare (control_of v) octets v ≡ Err e → Refused n1 v octets e
+bare_err : (n1 : ℕ) (v : PlainFrame) (octets : List ℕ) (e : FrameError) → (MayCarry v octets → octets ≡ []) → bare (control_of v) octets v ≡ Err e
+    → Refused n1 v octets e
 bare_err n1 v [] e only h = absurd (ok_err (sym h))
 bare_err n1 v (o ∷ octets) e only h = inl (err_same h, λ m. some (only m))
   where
@@ -215,22 +220,10 @@ as_err n1 (frmr f old) octets e h = elim (split (nat_eq (length octets) 3) (Ok (
   where
     true_false : true ≡ false → ⊥
     true_false h = cc
-as_err n1 (rr command nr pf) octets e h = bare_err n1 (rr command nr pf) octets e (λ m. m) h
-as_err n1 (rnr command nr pf) octets e h = bare_err n1 (rnr command nr pf) octets e (λ m. m) h
-as_err n1 (rej command nr pf) octets e h = bare_err n1 (rej command nr pf) octets e (λ m. m) h
-as_err n1 (sabm p) octets e h = bare_err n1 (sabm p) octets e (λ m. m) h
-as_err n1 (disc p) octets e h = bare_err n1 (disc p) octets e (λ m. m) h
-as_err n1 (ua f) octets e h = bare_err n1 (ua f) octets e (λ m. m) h
-as_err n1 (dm f) octets e h = bare_err n1 (dm f) octets e (λ m. m) h
+as_err n1 v octets e h = bare_err n1 v octets e (λ m. m) h
 
 -- a frame's own information is read
 pub as_again : (n1 : ℕ) (v : PlainFrame) → MayCarry v (information_of v) → IsWithin n1 v (information_of v) → as_kind n1 v (information_of v) ≡ Ok v
 as_again n1 (info ns nr p octets) carries within = rw (le-leb _ _ within) refl
 as_again n1 (frmr f why) carries within = rw (eq-eqb _ _ carries) refl
-as_again n1 (rr command nr pf) carries within = refl
-as_again n1 (rnr command nr pf) carries within = refl
-as_again n1 (rej command nr pf) carries within = refl
-as_again n1 (sabm p) carries within = refl
-as_again n1 (disc p) carries within = refl
-as_again n1 (ua f) carries within = refl
-as_again n1 (dm f) carries within = refl
+as_again n1 v carries within = refl

@@ -1,5 +1,6 @@
 -- Octets are read as the frame that they spell, and as their first error where they spell none, from the definitions alone.
-use Rattle.std.proofs.Common.{ℕ, ◌+◌, ◌-◌, ◌*◌, ◌/◌, ◌%◌, ◌<◌, ◌≡◌, ◌∙◌, ◌⊎◌, inl, inr, Bool, true, false, not, List, [], ◌∷◌, ◌++◌, length, take, drop, get_or, refl, ap, sym, subst, arith, length-append, Result, Ok, Err}
+use Rattle.std.proofs.Common.{ℕ, ◌+◌, ◌-◌, ◌*◌, ◌/◌, ◌%◌, ◌<◌, ◌≡◌, ◌∙◌, ◌⊎◌, inl, inr, Bool, true, false, not, List, [], ◌∷◌, ◌++◌, length, take, drop, get_or}
+use Rattle.std.proofs.Common.{refl, ap, sym, subst, arith, length-append, Result, Ok, Err}
 use Rattle.std.specs.Prelude.{if◌then◌else◌, nat_le, nat_lt, ◌==◌, ◌&&◌, ◌↔◌, slice_index, All}
 use Rattle.std.proofs.lemmas.Bool.{le-leb, eq-eqb, le-ltb, ltb-true, ltb-false, both_ways, cases_lt}
 use Rattle.std.proofs.Math.ListN.{get_or-eq_default}
@@ -27,11 +28,13 @@ unfolding is_sealed
 sealed_again body = go (fcs_of body % 256) (fcs_of body / 256) (omega arith)
   where
     go : (x y : ℕ) → x + 256 * y ≡ fcs_of body
-        → (let o : List ℕ = body ++ (x ∷ y ∷ []) in let at = length o - 2 in let last = drop at o in nat_le 2 (length o) && slice_index last 0 + 256 * slice_index last 1 == fcs_of (take at o)) ≡ true
+        → (let o : List ℕ = body ++ (x ∷ y ∷ []) in let at = length o - 2 in let last = drop at o in nat_le 2 (length o) && slice_index last 0
+        + 256 * slice_index last 1 == fcs_of (take at o)) ≡ true
     go x y e =
         let size : length (body ++ (x ∷ y ∷ [])) ≡ length body + 2 = length-append body (x ∷ y ∷ []) in
         let at : length (body ++ (x ∷ y ∷ [])) - 2 ≡ length body = omega arith in
-        rw (at, take-append_seam body (x ∷ y ∷ []), drop-append_seam body (x ∷ y ∷ []), le-leb 2 (length (body ++ (x ∷ y ∷ []))) (omega arith), eq-eqb _ _ e) refl
+        rw (at, take-append_seam body (x ∷ y ∷ []), drop-append_seam body (x ∷ y ∷ []), le-leb 2 (length (body ++ (x ∷ y ∷ []))) (omega arith), eq-eqb _ _ e)
+        refl
 
 -- ---- the law
 
@@ -46,7 +49,8 @@ reads_by false false r e f = absurd (never f)
     never : false ≡ true → ⊥
     never e = cc
 
-spelled : (from : Role) (n1 : ℕ) (v : PlainFrame) → IsInRange v → MayCarry v (information_of v) → IsWithin n1 v (information_of v) → frame_of from n1 (spelling_of from v) ≡ Ok v
+spelled : (from : Role) (n1 : ℕ) (v : PlainFrame) → IsInRange v → MayCarry v (information_of v) → IsWithin n1 v (information_of v)
+    → frame_of from n1 (spelling_of from v) ≡ Ok v
 unfolding frame_of
 spelled from n1 v r carries within =
     let body = body_of from v in

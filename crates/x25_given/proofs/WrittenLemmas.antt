@@ -1,5 +1,6 @@
 -- What is given beside a packet doesn't change what the packet is.
-use Rattle.std.proofs.Common.{ℕ, zero, suc, ◌+◌, ◌≤◌, ◌≡◌, ◌∙◌, Bool, true, false, List, [], ◌∷◌, ◌++◌, length, get_or, refl, ap, ap₂, sym, subst, arith, Option, Some, None, Result, Ok, length-append}
+use Rattle.std.proofs.Common.{ℕ, zero, suc, ◌+◌, ◌≤◌, ◌≡◌, ◌∙◌, Bool, true, false, List, [], ◌∷◌, ◌++◌, length, get_or, refl, ap, ap₂, sym, subst, arith}
+use Rattle.std.proofs.Common.{Option, Some, None, Result, Ok, length-append}
 use Rattle.std.specs.Prelude.{cond, ◌&&◌, ◌||◌, nat_eq, nat_le, nat_lt}
 use Rattle.std.proofs.lemmas.Bool.{and_from, le-leb}
 use Rattle.std.proofs.lemmas.Option.{same_Some}
@@ -41,7 +42,8 @@ sizes_in own = own.packet_size
 abbrev windows_in : Own → Option Directions
 windows_in own = own.window_size
 
-facility_sizes : (own : Own) (code second third : ℕ) → sizes_in (with_facility own code second third) ≡ or_before (sizes_in (with_facility none_own code second third)) (sizes_in own)
+facility_sizes : (own : Own) (code second third : ℕ) → sizes_in (with_facility own code second third)
+    ≡ or_before (sizes_in (with_facility none_own code second third)) (sizes_in own)
 facility_sizes own code second third = by (nat_eq code 1) (nat_eq code 66) (nat_eq code 67)
   where
     at : Own → Bool → Bool → Bool → Own
@@ -55,7 +57,8 @@ facility_sizes own code second third = by (nat_eq code 1) (nat_eq code 66) (nat_
     by false false true = refl
     by false false false = refl
 
-facility_windows : (own : Own) (code second third : ℕ) → windows_in (with_facility own code second third) ≡ or_before (windows_in (with_facility none_own code second third)) (windows_in own)
+facility_windows : (own : Own) (code second third : ℕ) → windows_in (with_facility own code second third)
+    ≡ or_before (windows_in (with_facility none_own code second third)) (windows_in own)
 facility_windows own code second third = by (nat_eq code 1) (nat_eq code 66) (nat_eq code 67)
   where
     at : Own → Bool → Bool → Bool → Own
@@ -83,7 +86,8 @@ sizes_behind own zero (code ∷ second ∷ rest) =
     next : Own → Own
     next o = own_in (with_facility o code second (get_or rest 0 0)) (more_of code second) rest
 
-    by : (b : Bool) → sizes_in (next own) ≡ or_before (sizes_in (next none_own)) (sizes_in own) → sizes_in (cond b own (next own)) ≡ or_before (sizes_in (cond b none_own (next none_own))) (sizes_in own)
+    by : (b : Bool) → sizes_in (next own) ≡ or_before (sizes_in (next none_own)) (sizes_in own) → sizes_in (cond b own (next own))
+        ≡ or_before (sizes_in (cond b none_own (next none_own))) (sizes_in own)
     by true later = refl
     by false later = later
 sizes_behind own (suc n) [] = refl
@@ -103,7 +107,8 @@ windows_behind own zero (code ∷ second ∷ rest) =
     next : Own → Own
     next o = own_in (with_facility o code second (get_or rest 0 0)) (more_of code second) rest
 
-    by : (b : Bool) → windows_in (next own) ≡ or_before (windows_in (next none_own)) (windows_in own) → windows_in (cond b own (next own)) ≡ or_before (windows_in (cond b none_own (next none_own))) (windows_in own)
+    by : (b : Bool) → windows_in (next own) ≡ or_before (windows_in (next none_own)) (windows_in own) → windows_in (cond b own (next own))
+        ≡ or_before (windows_in (cond b none_own (next none_own))) (windows_in own)
     by true later = refl
     by false later = later
 windows_behind own (suc n) [] = refl
@@ -114,13 +119,16 @@ windows_behind own (suc n) (x ∷ xs) = windows_behind own n xs
 abbrev own_of : Option Directions → Option Directions → Own
 own_of sizes windows = record { fast_select = false; packet_size = sizes; window_size = windows }
 
-sizes_first : (own : Own) (s : Directions) (rest : List ℕ) → own_in own 0 (66 ∷ s.called ∷ s.calling ∷ rest) ≡ own_in (record own { packet_size = Some s }) 0 rest
+sizes_first : (own : Own) (s : Directions) (rest : List ℕ) → own_in own 0 (66 ∷ s.called ∷ s.calling ∷ rest)
+    ≡ own_in (record own { packet_size = Some s }) 0 rest
 sizes_first own s rest = sym (own_stepped own (66 ∷ s.called ∷ s.calling ∷ rest) rest (omega arith) refl (omega arith))
 
-windows_first : (own : Own) (w : Directions) (rest : List ℕ) → own_in own 0 (67 ∷ w.called ∷ w.calling ∷ rest) ≡ own_in (record own { window_size = Some w }) 0 rest
+windows_first : (own : Own) (w : Directions) (rest : List ℕ) → own_in own 0 (67 ∷ w.called ∷ w.calling ∷ rest)
+    ≡ own_in (record own { window_size = Some w }) 0 rest
 windows_first own w rest = sym (own_stepped own (67 ∷ w.called ∷ w.calling ∷ rest) rest (omega arith) refl (omega arith))
 
-own_first : (sizes windows : Option Directions) (rest : List ℕ) → own_in none_own 0 ((strict_field.facility 66 sizes ++ strict_field.facility 67 windows) ++ rest) ≡ own_in (own_of sizes windows) 0 rest
+own_first : (sizes windows : Option Directions) (rest : List ℕ)
+    → own_in none_own 0 ((strict_field.facility 66 sizes ++ strict_field.facility 67 windows) ++ rest) ≡ own_in (own_of sizes windows) 0 rest
 own_first None None rest = refl
 own_first (Some s) None rest = sizes_first none_own s rest
 own_first None (Some w) rest = windows_first none_own w rest
@@ -142,12 +150,16 @@ record SaysStill (field more : List ℕ) : Type 0 where
   pub few : length field ≤ 6
   pub said : field_said (own_in none_own 0 (field ++ more)) ≡ Ok field
 
-whole_behind : (sizes windows : Option Directions) (more : List ℕ) → IsFacilityField more → IsFacilityField ((strict_field.facility 66 sizes ++ strict_field.facility 67 windows) ++ more)
+whole_behind : (sizes windows : Option Directions) (more : List ℕ) → IsFacilityField more
+    → IsFacilityField ((strict_field.facility 66 sizes ++ strict_field.facility 67 windows) ++ more)
 whole_behind None None more h = h
 whole_behind (Some s) None more (fs, classes, e) = (class_b 66 s.called s.calling ∷ fs, (refl, classes), ap (λ (xs : List ℕ). 66 ∷ s.called ∷ s.calling ∷ xs) e)
 whole_behind None (Some w) more (fs, classes, e) = (class_b 67 w.called w.calling ∷ fs, (refl, classes), ap (λ (xs : List ℕ). 67 ∷ w.called ∷ w.calling ∷ xs) e)
-whole_behind (Some s) (Some w) more (fs, classes, e) =
-    (class_b 66 s.called s.calling ∷ class_b 67 w.called w.calling ∷ fs, (refl, (refl, classes)), ap (λ (xs : List ℕ). 66 ∷ s.called ∷ s.calling ∷ 67 ∷ w.called ∷ w.calling ∷ xs) e)
+whole_behind (Some s) (Some w) more (fs, classes, e) = (
+  class_b 66 s.called s.calling ∷ class_b 67 w.called w.calling ∷ fs,
+  (refl, (refl, classes)),
+  ap (λ (xs : List ℕ). 66 ∷ s.called ∷ s.calling ∷ 67 ∷ w.called ∷ w.calling ∷ xs) e,
+)
 
 few_own : (sizes windows : Option Directions) → length (strict_field.facility 66 sizes ++ strict_field.facility 67 windows) ≤ 6
 few_own None None = omega arith
@@ -155,7 +167,8 @@ few_own (Some s) None = omega arith
 few_own None (Some w) = omega arith
 few_own (Some s) (Some w) = omega arith
 
-said_itself : (sizes windows : Option Directions) → strict_field.IfGiven sizes (strict_field.AreWithin 4 12) → strict_field.IfGiven windows (strict_field.AreWithin 1 7)
+said_itself : (sizes windows : Option Directions) → strict_field.IfGiven sizes (strict_field.AreWithin 4 12)
+    → strict_field.IfGiven windows (strict_field.AreWithin 1 7)
     → said sizes windows ≡ Ok (strict_field.facility 66 sizes ++ strict_field.facility 67 windows)
 said_itself None None h k = refl
 said_itself (Some s) None h k = rw (within_when 4 12 s h) refl
@@ -201,8 +214,10 @@ accept_marks : (d : Bool) → may_have Any false d 15 ≡ true
 accept_marks true = refl
 accept_marks false = refl
 
-call_taken : (most channel : ℕ) (b : PlainGiven) (called calling field user : List ℕ) → most ≤ 128 → IsGiven b → strict_spelling.IsChannel channel → IsAddress called → IsAddress calling
-    → strict_field.IsFacilityField field → length user ≤ 128 → MayGo most b (strict.call channel called calling field user) → Taken most b (strict.call channel called calling field user)
+call_taken : (most channel : ℕ) (b : PlainGiven) (called calling field user : List ℕ) → most ≤ 128 → IsGiven b → strict_spelling.IsChannel channel
+    → IsAddress called → IsAddress calling
+    → strict_field.IsFacilityField field → length user ≤ 128 → MayGo most b (strict.call channel called calling field user)
+    → Taken most b (strict.call channel called calling field user)
 call_taken most channel b called calling field user within is on a c f short may =
     let still = says_still field b f is in
     let few_called = a.short in
@@ -229,7 +244,8 @@ call_taken most channel b called calling field user within is on a c f short may
       taken = ap (narrowed (headed channel b.d (call block))) still.said ∙ rw (called_again called calling a c, calling_again called calling a c) refl;
     }
 
-accept_taken : (most channel : ℕ) (b : PlainGiven) (field : List ℕ) → IsGiven b → strict_spelling.IsChannel channel → strict_field.IsFacilityField field → Taken most b (strict.accept channel field)
+accept_taken : (most channel : ℕ) (b : PlainGiven) (field : List ℕ) → IsGiven b → strict_spelling.IsChannel channel → strict_field.IsFacilityField field
+    → Taken most b (strict.accept channel field)
 accept_taken most channel b field is on f =
     let still = says_still field b f is in
     let field_few = still.few in
@@ -251,7 +267,8 @@ accept_taken most channel b field is on f =
       taken = ap (narrowed (headed channel b.d (accept (Some block)))) still.said;
     }
 
-clear_taken : (most channel cause diagnostic : ℕ) (b : PlainGiven) → IsGiven b → strict_spelling.IsChannel channel → Taken most b (strict.clear channel cause diagnostic)
+clear_taken : (most channel cause diagnostic : ℕ) (b : PlainGiven) → IsGiven b → strict_spelling.IsChannel channel
+    → Taken most b (strict.clear channel cause diagnostic)
 clear_taken most channel cause diagnostic b is on =
     let more_few = is.few in
     let block = bare_block (fields b.facilities b.user) in
@@ -273,39 +290,30 @@ clear_taken most channel cause diagnostic b is on =
 pub written_is_read : TakesWhatIsSpelled → WrittenIsRead
 written_is_read spelled b most (strict.call channel called calling field user) within allowed h may small =
     taken_as most b _ (call_taken most channel b called calling field user within (given_when b allowed) h.0 h.1 h.2 h.3 h.4 may)
-written_is_read spelled b most (strict.accept channel field) within allowed h may small = taken_as most b _ (accept_taken most channel b field (given_when b allowed) h.0 h.1)
-written_is_read spelled b most (strict.clear channel cause diagnostic) within allowed h may small = taken_as most b _ (clear_taken most channel cause diagnostic b (given_when b allowed) h)
-written_is_read spelled b most (strict.clear_conf channel) within allowed h may small = spelled most _ within small h
-written_is_read spelled b most (strict.user_data channel q m ps pr user) within allowed h may small = spelled most _ within small h
-written_is_read spelled b most (strict.rr channel pr) within allowed h may small = spelled most _ within small h
-written_is_read spelled b most (strict.rnr channel pr) within allowed h may small = spelled most _ within small h
-written_is_read spelled b most (strict.interrupt channel user) within allowed h may small = spelled most _ within small h
-written_is_read spelled b most (strict.interrupt_conf channel) within allowed h may small = spelled most _ within small h
-written_is_read spelled b most (strict.reset channel cause diagnostic) within allowed h may small = spelled most _ within small h
-written_is_read spelled b most (strict.reset_conf channel) within allowed h may small = spelled most _ within small h
-written_is_read spelled b most (strict.restart cause diagnostic) within allowed h may small = spelled most _ within small h
+written_is_read spelled b most (strict.accept channel field) within allowed h may small =
+    taken_as most b _ (accept_taken most channel b field (given_when b allowed) h.0 h.1)
+written_is_read spelled b most (strict.clear channel cause diagnostic) within allowed h may small =
+    taken_as most b _ (clear_taken most channel cause diagnostic b (given_when b allowed) h)
 written_is_read spelled b most strict.restart_conf within allowed h may small = spelled most _ within small h
+written_is_read spelled b most v within allowed h may small = spelled most _ within small h
 
 -- ---- and read in the form in which it was written
 
-found_as : (most : ℕ) (b : PlainGiven) (v : strict.PlainPacket) (w : PlainForm) → (t : Taken most b v) → Some t.wide ≡ Some w → form_in most (written b v) ≡ Ok w
-found_as most b v w t is = only_found Any most (written b v) t.wide (record { packet = t.packet; spelling = t.spelling }) ∙ ap (λ (x : PlainForm). Ok x) (same_Some t.wide w is)
+found_as : (most : ℕ) (b : PlainGiven) (v : strict.PlainPacket) (w : PlainForm) → (t : Taken most b v) → Some t.wide ≡ Some w → form_in most (written b v)
+    ≡ Ok w
+found_as most b v w t is = only_found Any most (written b v) t.wide (record { packet = t.packet; spelling = t.spelling })
+    ∙ ap (λ (x : PlainForm). Ok x) (same_Some t.wide w is)
 
 none_some : {A : Type 0} (x : A) → None ≡ Some x → ⊥
 none_some x e = cc
 
 pub written_in_form : WrittenIsInForm
 unfolding call_taken accept_taken clear_taken
-written_in_form b most (strict.call channel called calling field user) w within allowed h may is = found_as most b _ w (call_taken most channel b called calling field user within (given_when b allowed) h.0 h.1 h.2 h.3 h.4 may) is
-written_in_form b most (strict.accept channel field) w within allowed h may is = found_as most b _ w (accept_taken most channel b field (given_when b allowed) h.0 h.1) is
-written_in_form b most (strict.clear channel cause diagnostic) w within allowed h may is = found_as most b _ w (clear_taken most channel cause diagnostic b (given_when b allowed) h) is
-written_in_form b most (strict.clear_conf channel) w within allowed h may is = absurd (none_some w is)
-written_in_form b most (strict.user_data channel q m ps pr user) w within allowed h may is = absurd (none_some w is)
-written_in_form b most (strict.rr channel pr) w within allowed h may is = absurd (none_some w is)
-written_in_form b most (strict.rnr channel pr) w within allowed h may is = absurd (none_some w is)
-written_in_form b most (strict.interrupt channel user) w within allowed h may is = absurd (none_some w is)
-written_in_form b most (strict.interrupt_conf channel) w within allowed h may is = absurd (none_some w is)
-written_in_form b most (strict.reset channel cause diagnostic) w within allowed h may is = absurd (none_some w is)
-written_in_form b most (strict.reset_conf channel) w within allowed h may is = absurd (none_some w is)
-written_in_form b most (strict.restart cause diagnostic) w within allowed h may is = absurd (none_some w is)
+written_in_form b most (strict.call channel called calling field user) w within allowed h may is =
+    found_as most b _ w (call_taken most channel b called calling field user within (given_when b allowed) h.0 h.1 h.2 h.3 h.4 may) is
+written_in_form b most (strict.accept channel field) w within allowed h may is =
+    found_as most b _ w (accept_taken most channel b field (given_when b allowed) h.0 h.1) is
+written_in_form b most (strict.clear channel cause diagnostic) w within allowed h may is =
+    found_as most b _ w (clear_taken most channel cause diagnostic b (given_when b allowed) h) is
 written_in_form b most strict.restart_conf w within allowed h may is = absurd (none_some w is)
+written_in_form b most v w within allowed h may is = absurd (none_some w is)

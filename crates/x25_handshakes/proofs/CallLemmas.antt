@@ -29,6 +29,7 @@ own_stretches t b st sb = record {
 
 -- two ends in p4
 
+-- seen from the other end
 pub TalksRelated-flip : {t b : Terms} {x : At Stretch} {u v : List Packet} {t₂ b₂ : Terms} {y : At Stretch} → TalksRelated t b x u v t₂ b₂ y
     → TalksRelated t₂ b₂ y v u t b x
 TalksRelated-flip {t} {b} {x} {u} {v} {y} h = record {
@@ -57,6 +58,7 @@ dce_talks = record {
 
 -- ---- the two roles at once
 
+-- an end of a call takes the first packet on the line
 pub Seen-takes : (r : Role) (x : Connection) (u : List Packet) (p : Packet) (v : List Packet) (y : Connection) → Seen r x u (p ∷ v) y
     → GoodCall (Seen r) (call_takes r x p) u v y
 Seen-takes Dte x u p v y h = dte_takes dte_talks x y.phase y.made y.indicated u p v h

@@ -5,14 +5,17 @@ use Rattle.x25_handshakes.specs.laws.Handshake.{Mark, Inner, Request, Confirm, S
 use Rattle.x25_handshakes.proofs.HandshakeRelation.{Handshaken, kept_before, before, kept_past, past, ends_at, Ends, behind_at, Behind, Extended, Level}
 use Rattle.x25_handshakes.proofs.HandshakeRelation.{Handshake, Each, AllInner}
 
+-- what holds of all of both lists holds of all of one list of both
 pub each_append : {P : Type 0} (A : P → Type 0) (u o : List P) → Each A u → Each A o → Each A (u ++ o)
 each_append A [] o h g = g
 each_append A (p ∷ u) o h g = (h.0, each_append A u o h.1 g)
 
+-- what holds of all holds of all of the second part
 pub each_back : {P : Type 0} (A : P → Type 0) (u o : List P) → Each A (u ++ o) → Each A o
 each_back A [] o h = h
 each_back A (p ∷ u) o h = each_back A u o h.1
 
+-- what follows of each follows of all
 pub each_map : {P : Type 0} (A B : P → Type 0) → ((p : P) → A p → B p) → (u : List P) → Each A u → Each B u
 each_map A B f [] h = tt
 each_map A B f (p ∷ u) h = (f p h.0, each_map A B f u h.1)

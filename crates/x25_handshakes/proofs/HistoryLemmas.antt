@@ -37,6 +37,7 @@ rewritten_kept {M} e f n l k later up down = record {
       (λ is. k.begins_there m);
 }
 
+-- a list begins itself
 pub IsPrefix-refl : {T : Type 0} (l : List T) → IsPrefix l l
 IsPrefix-refl l = ([], append-nil l)
 

@@ -10,9 +10,11 @@ use Rattle.x25_handshakes.proofs.{OwnCallLemmas.{Accepted-some, CallAccepted-som
 
 -- ---- no CLEAR and no confirmation of it is on the way between two clears
 
+-- no CLEAR and no confirmation of it is among the packets
 abbrev pub Quiet : List Packet → Type 0
 Quiet u = AllInner clear_mark u
 
+-- packets of p4 are neither CLEAR nor its confirmation
 pub quiet_transfer : (u : List Packet) → AllInTransfer u → Quiet u
 quiet_transfer u h = each_map InTransfer (λ p. clear_mark p ≡ Inner) inner u h
   where

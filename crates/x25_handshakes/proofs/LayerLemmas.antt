@@ -103,9 +103,11 @@ EndsRelated-flip r (Left x) L K (Live y) h = (h.0, h.1, LayersRelated-flip r h.2
 EndsRelated-flip r (Live x) L K (Left y) h = (h.0, h.1, LayersRelated-flip r h.2)
 EndsRelated-flip r (Left x) L K (Left y) h = (h.1, h.0, LayersRelated-flip r h.2)
 
+-- seen from the other end
 pub Stands-turned : {r : Role} {w : Pair} → Stands r w → Stands (other_role r) (turned w)
 Stands-turned {r} {w} h = record { quiet = h.quiet; top = EndsRelated-flip r w.near w.out w.back w.far h.top }
 
+-- a move of an end keeps it
 pub Stands-moves : Laws → {r : Role} (near : Side (At Channels)) (out back : List LayerPacket) (far : Side (At Channels)) (error : Option ℕ) (what : Move)
     → Stands r (record { near = near; far = far; out = out; back = back; error = error })
     → Stands r (pair_moves r (record { near = near; far = far; out = out; back = back; error = error }) near what)
@@ -131,6 +133,7 @@ Stands-if : {r : Role} (first : Bool) {u v : Pair} → Stands r u → Stands r v
 Stands-if true f g = f
 Stands-if false f g = g
 
+-- so does a run
 pub Stands-run : Laws → (events : List LayerEvent) {w : Pair} → Stands Dte w → Stands Dte (pair_run events w)
 Stands-run laws [] h = h
 Stands-run laws (e ∷ events) {w} h =
@@ -140,6 +143,7 @@ Stands-run laws (e ∷ events) {w} h =
     (Stands-turned
     (Stands-moves laws w.far w.back w.out w.near w.error e.what (Stands-turned h))))
 
+-- before anything has happened
 pub Stands-start : Stands Dte pair_start
 Stands-start = record {
   quiet = refl;

@@ -38,6 +38,7 @@ own_channels_level R y₀ = record {
   related = OnEach R;
 }
 
+-- what the handshake of RESTART is about: all channels, each by its own relation
 abbrev pub channels_level : Role → Level Channels Channels LayerPacket
 channels_level r = own_channels_level (ChannelRelated r) all_fresh
 

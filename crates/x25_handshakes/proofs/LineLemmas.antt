@@ -19,6 +19,7 @@ pub heard_least : (a : ℕ) (v : List Packet) → a ≤ heard a v
 heard_least a [] = omega arith
 heard_least a (p ∷ v) = omega (arith, hears_least a (ack_in p), heard_least (hears a (ack_in p)) v)
 
+-- one more packet at the back is heard last
 pub heard_push : (a : ℕ) (v : List Packet) (p : Packet) → heard a (v ++ p ∷ []) ≡ hears (heard a v) (ack_in p)
 heard_push a [] p = refl
 heard_push a (q ∷ v) p = heard_push (hears a (ack_in q)) v p

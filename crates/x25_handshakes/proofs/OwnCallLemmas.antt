@@ -408,6 +408,7 @@ module _ {B : Type 0} {R : TalksOf (At Stretch) B} {y₀ : B} (talks : DteTalks 
         (λ t k s w q z t₂ k₂ y r. (let good = talks.takes t k s w q z t₂ k₂ y r in (good.quiet, good.kept))) x.phase b x.made x.indicated mb ib u p v h in
         own_taken (OwnDte v) x.made x.indicated Dte x.phase p g.0 g.1
 
+    -- what the DTE does in a call keeps what is known of it
     pub dte_acts : Laws → (v : List Packet) (act : CallAct) → OwnDteNow v x.phase → IsGood (OwnDte v) (call_acts x act)
     dte_acts laws v act h =
         own_done (OwnDte v) x.made x.indicated laws x.phase act (dte_still R fresh_transfer y₀ x.phase b x.made x.indicated mb ib u v h)
@@ -450,6 +451,7 @@ module _ {A : Type 0} {R : TalksOf A (At Stretch)} {x₀ : A} (talks : DceTalks 
         (λ t k s w q z t₂ k₂ e r. (let good = talks.takes t k s w q z t₂ k₂ e r in (good.quiet, good.kept))) a y.phase ma ia y.made y.indicated u p v h in
         own_taken (OwnDce u) y.made y.indicated Dce y.phase p g.0 g.1
 
+    -- what the DCE does in a call keeps what is known of it
     pub dce_acts : Laws → (u : List Packet) (act : CallAct) → OwnDceNow u y.phase → IsGood (OwnDce u) (call_acts y act)
     dce_acts laws u act h =
         own_done (OwnDce u) y.made y.indicated laws y.phase act (dce_still R x₀ fresh_transfer a y.phase ma ia y.made y.indicated u v h)
@@ -493,6 +495,7 @@ module _ {T : Type 0} (R : Terms → Terms → Stretch → List Packet → List 
       let good = own_acts (R t b) y₀ t b.longest b.size (own t b h.sound h.sound_back) act h.related in
       record { quiet = good.quiet; kept = record { there = h.there; back = h.back; sound = h.sound; sound_back = h.sound_back; related = good.kept } }
 
+  -- data transfer is what a call needs of it, where this end is the DTE
   pub own_dte_talks : DteTalks Talk (record { epoch = 0; side = Live y₀ })
   own_dte_talks = record { fresh = talk_fresh; takes = talk_takes; acts = talk_acts }
 

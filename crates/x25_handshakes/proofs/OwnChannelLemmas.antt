@@ -69,6 +69,7 @@ module _ {T : Type 0} (gone : Connection → Type 0) (gone_there : T → Type 0)
   own_side_acts e (Live x) L K y SendsClear h = own_clears e x x.phase L K y refl h
   own_side_acts e (Left x) L K y a h = stays level Any h
 
+  -- an act on a channel keeps the handshake and finds no fault
   pub channel_acts_good : {x : At Connection} {L K : List Packet} {y : At T} (a : ChannelAct) → Handshaken level x L K y
       → Good (channel_acts x a).error (channel_acts x a) L K y
   channel_acts_good {x} {L} {K} {y} a h = own_side_acts x.epoch x.side L K y a h

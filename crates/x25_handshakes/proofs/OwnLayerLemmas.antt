@@ -47,6 +47,7 @@ put_kept {X} R x x₂ o L K M y h each others here k = at (k == h) refl
         rw is (subst (λ l. R (x k) l (on k K) (y k)) (sym (on-append k L (addressed h o) ∙ ap (λ l. on k L ++ l) (on-other k h o is) ∙ append-nil (on k L)))
         (subst (λ l. R (x k) (on k L) l (y k)) (others k is) (each k)))
 
+-- the first packet, where it is on this channel
 pub on-front : (h : ℕ) (p : Packet) (K : List LayerPacket) → on h (On h p ∷ K) ≡ p ∷ on h K
 on-front h p K = rw (eq-eqb h h refl) refl
 
@@ -112,6 +113,7 @@ module _ {Z : Type 0} (R : At Connection → List Packet → List Packet → Z �
   own_side_acts e (Live x) L K y SendsRestart k = leaves level Any Restart refl e x tt k
   own_side_acts e (Left x) L K y a k = stays level Any k
 
+  -- an act of the layer keeps the handshake and finds no fault
   pub layer_acts_good : {x : At Channels} {L K : List LayerPacket} {y : At (ℕ → Z)} (a : LayerAct) → Handshaken level x L K y
       → Good (layer_acts x a).error (layer_acts x a) L K y
   layer_acts_good {x} {L} {K} {y} a h = own_side_acts x.epoch x.side L K y a h

@@ -11,6 +11,7 @@ use Rattle.x25_handshakes.proofs.TransferRelation.{reset_mark, InTransfer, AllIn
 use Rattle.x25_handshakes.proofs.HandshakeLemmas.{each_append, each_back, each_map}
 use Rattle.x25_handshakes.proofs.HandshakeSteps as hand
 
+-- a packet of flow control is neither RESET nor its confirmation
 pub inner_mark : (p : Packet) → InFlowControl p → reset_mark p ≡ Inner
 inner_mark Reset is = absurd is
 inner_mark ResetConf is = absurd is
@@ -88,6 +89,7 @@ module _ {T : Type 0} (R : Stretch → List Packet → List Packet → T → Typ
     own_side_acts e (Live x) L K y SendsReset h = (leaves level AllInTransfer Reset refl e x tt h, (tt, tt))
     own_side_acts e (Left x) L K y a h = (stays level AllInTransfer h, tt)
 
+    -- an act in p4 keeps the handshake of RESET and finds no fault
     pub own_acts : {x : At Stretch} {L K : List Packet} {y : At T} (a : TransferAct) → OwnTransfer R y₀ x L K y
         → GoodOwnTransfer R y₀ (transfer_acts t x a) L K y
     own_acts {x} {L} {K} {y} a h = kinds x L K K y (transfer_acts t x a) h h.back (own_side_acts x.epoch x.side L K y a (record { hand = h.hand }))

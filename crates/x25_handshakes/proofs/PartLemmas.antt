@@ -17,6 +17,7 @@ use Rattle.x25_handshakes.proofs.HandshakeLemmas.{each_append}
 pub Line-le : {sent taken : List Piece} {u : List Packet} → Line sent taken u → length sent ≡ length taken + length (pieces u)
 Line-le {taken} {u} h = ap length h.flow ∙ length-append taken (pieces u)
 
+-- a DATA packet is sent
 pub Line-send : {sent taken : List Piece} {u : List Packet} (r : ℕ) (p : Piece) → Line sent taken u
     → Line (sent ++ p ∷ []) taken (u ++ Data (length sent % 8) r p ∷ [])
 Line-send {sent} {taken} {u} r p h = record {
@@ -25,6 +26,7 @@ Line-send {sent} {taken} {u} r p h = record {
   kinds = each_append InFlowControl u (Data (length sent % 8) r p ∷ []) h.kinds (tt, tt);
 }
 
+-- a packet of flow control without P(S) is sent
 pub Line-push : {sent taken : List Piece} {u : List Packet} (q : Packet) → numbering q ≡ None → InFlowControl q → Line sent taken u
     → Line sent taken (u ++ q ∷ [])
 Line-push {taken} {u} q none is h = record {
@@ -33,6 +35,7 @@ Line-push {taken} {u} q none is h = record {
   kinds = each_append InFlowControl u (q ∷ []) h.kinds (is, tt);
 }
 
+-- the DATA packet in front is taken
 pub Line-take : {sent taken : List Piece} (u : List Packet) (s r : ℕ) (p : Piece) → Line sent taken (Data s r p ∷ u) → Line sent (taken ++ p ∷ []) u
 Line-take {taken} u s r p h = record {
   flow = h.flow ∙ sym (append_assoc taken (p ∷ []) (pieces u));
@@ -60,12 +63,14 @@ Acks-push {k} {acked} {sent} {v} {taken} q small le is h =
     let same = resolved_is (heard acked v) taken low (omega arith) in
     record { room = room; acks = subst (λ n. n ≤ taken) (sym (end ∙ same)) (let e : taken ≤ taken = omega arith in e) }
 
+-- the other end sends a packet without P(R)
 pub Acks-pass : {k acked sent : ℕ} {v : List Packet} {taken : ℕ} (q : Packet) → ack_in q ≡ None → Acks k acked sent v taken
     → Acks k acked sent (v ++ q ∷ []) taken
 Acks-pass {acked} {v} {taken} q is h =
     let end = heard_push acked v q ∙ ap (λ r. hears (heard acked v) r) is in
     record { room = h.room; acks = subst (λ n. n ≤ taken) (sym end) h.acks }
 
+-- more is sent, within the window
 pub Acks-more : {k acked sent : ℕ} (more : ℕ) {v : List Packet} {taken : ℕ} → more ≤ acked + k → Acks k acked sent v taken → Acks k acked more v taken
 Acks-more more room h = record { room = room; acks = h.acks }
 
@@ -76,6 +81,7 @@ pub Acks-told : {k acked sent : ℕ} {v : List Packet} {told : ℕ} (n : ℕ) (q
     → Acks k acked sent v told → Acks k acked sent (v ++ q ∷ []) n
 Acks-told {k} {acked} {sent} {v} {told} n q small rising le is h = Acks-push q small le is (Acks-taken n rising h)
 
+-- the P(R) in front is taken
 pub Acks-hear : (k acked sent : ℕ) (v : List Packet) (r taken : ℕ) → sent ≤ acked + k → heard (resolved acked r) v ≤ taken
     → Acks k (resolved acked r) sent v taken
 Acks-hear k acked sent v r taken room acks = record { room = omega arith; acks = acks }
@@ -85,16 +91,19 @@ heard_below acked sent v r taken le acks = omega (arith, heard_least (resolved a
 
 -- interrupts and their confirmations
 
+-- another packet than INTERRUPT is sent
 pub Ints-there : {out : Bool} {down up : List (List ℕ)} {u v : List Packet} {owed : ℕ} (q : Packet) → int_in q ≡ [] → Ints out down up u v owed
     → Ints out down up (u ++ q ∷ []) v owed
 Ints-there {up} {u} {v} {owed} q none h =
     let e = ints_push u q ∙ ap (λ l. ints u ++ l) none ∙ append-nil (ints u) in
     record { count = h.count ∙ ap (λ l. (length l + confs v) + owed) (sym e); flow = h.flow ∙ ap (λ l. up ++ l) (sym e) }
 
+-- the other end sends another packet than the confirmation
 pub Ints-back : {out : Bool} {down up : List (List ℕ)} {u v : List Packet} {owed : ℕ} (q : Packet) → conf_in q ≡ 0 → Ints out down up u v owed
     → Ints out down up u (v ++ q ∷ []) owed
 Ints-back {v} q none h = let count = h.count in record { count = omega (arith, count, confs_push v q); flow = h.flow }
 
+-- an INTERRUPT is sent
 pub Ints-send : {down up : List (List ℕ)} {u v : List Packet} {owed : ℕ} (xs : List ℕ) → Ints false down up u v owed
     → Ints true (down ++ xs ∷ []) up (u ++ Int xs ∷ []) v owed
 Ints-send {up} {u} xs h =
@@ -116,6 +125,7 @@ pub Ints-confirm : {out : Bool} {down up : List (List ℕ)} {u v : List Packet} 
     → Ints out down up u (v ++ IntConf ∷ []) (owed - 1)
 Ints-confirm {v} some h = let count = h.count in record { count = omega (arith, count, confs_push v IntConf); flow = h.flow }
 
+-- another packet than INTERRUPT is taken
 pub Ints-past : {out : Bool} {down up : List (List ℕ)} (u : List Packet) {v : List Packet} {owed : ℕ} (q : Packet) → int_in q ≡ []
     → Ints out down up (q ∷ u) v owed → Ints out down up u v owed
 Ints-past {up} u {v} {owed} q none h = record {
@@ -124,6 +134,7 @@ Ints-past {up} u {v} {owed} q none h = record {
       ∙ ap (λ l. up ++ (l ++ ints u)) none;
 }
 
+-- another packet than the confirmation comes back
 pub Ints-skip : {out : Bool} {down up : List (List ℕ)} {u : List Packet} (v : List Packet) {owed : ℕ} (q : Packet) → conf_in q ≡ 0
     → Ints out down up u (q ∷ v) owed → Ints out down up u v owed
 Ints-skip v q none h = let count = h.count in record { count = omega (arith, count); flow = h.flow }
@@ -133,6 +144,7 @@ pub Ints-out : (out : Bool) {down up : List (List ℕ)} {u : List Packet} (v : L
 Ints-out true v h = refl
 Ints-out false v h = absurd (omega (arith, h.count))
 
+-- the confirmation comes back
 pub Ints-conf : {down up : List (List ℕ)} {u : List Packet} (v : List Packet) {owed : ℕ} → Ints true down up u (IntConf ∷ v) owed → Ints false down up u v owed
 Ints-conf v h = let count = h.count in record { count = omega (arith, count); flow = h.flow }
 

@@ -137,6 +137,7 @@ Good-interrupts {t} {longest} {size} {x} {u} {v} {y} xs h =
     (λ _. Good-still h))
     (λ _. Good-still h)
 
+-- a station's act in a stretch beside any peer
 pub Good-acts : (t : Terms) (longest size : ℕ) → 1 ≤ t.size → (x : Stretch) (u v : List Packet) (y : PeerStretch) (a : StretchAct)
     → Kept t longest size x u v y → Good t longest size (stretch_acts t x a) u v y
 Good-acts t longest size st x u v y (Send q xs) h = Good-sends q xs st h
@@ -233,6 +234,7 @@ Kept-take-conf {x} {u} v {y} is h = record {
   back = record { line = Line-skip v IntConf refl h.back.line; acks = h.back.acks; ints = Ints-past v IntConf refl h.back.ints; text = h.back.text };
 }
 
+-- a station takes a packet in a stretch beside any peer
 pub Good-takes : {t : Terms} {longest size : ℕ} → {x : Stretch} {u : List Packet} (p : Packet) (v : List Packet) {y : PeerStretch}
     → Kept t longest size x u (p ∷ v) y → Good t longest size (stretch_takes longest size x p) u v y
 Good-takes {t} {longest} {size} {x} {u} (Data s r p) v {y} h = Good-take-data t longest size x u v y s r p h

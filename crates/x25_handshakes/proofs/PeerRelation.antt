@@ -32,6 +32,7 @@ pub record Kept (t : Terms) (longest size : ℕ) (x : Stretch) (u v : List Packe
   pub there : Ours t x u v y
   pub back : Theirs longest size y v u x
 
+-- as a stretch begins
 pub Kept-start : (t : Terms) (longest size : ℕ) → Kept t longest size fresh [] [] fresh_peer
 Kept-start t longest size = record {
   there = record {

@@ -3,7 +3,7 @@ use Rattle.std.proofs.{Common.{ℕ, ◌≤◌, List, ◌∷◌, ◌≡◌, suc, 
 use Rattle.x25_handshakes.specs.laws.Handshake.{At, Inner, Side, Live, Left, OwnStep, live}
 use Rattle.x25_handshakes.specs.laws.Stretch.{Packet, Stretch, Reset, ResetConf, Call, Accept, Clear, ClearConf}
 use Rattle.x25_handshakes.specs.laws.Transfer.{transfer_takes, TransferAct, transfer_acts}
-use Rattle.x25_handshakes.specs.laws.PeerStretch.{PeerStretch, fresh_peer, Deed, Sends, Says, Interrupts, Confirms, does, packet_of, taking}
+use Rattle.x25_handshakes.specs.laws.PeerStretch.{PeerStretch, fresh_peer, Deed, Sends, Says, does, packet_of, taking}
 use Rattle.x25_handshakes.specs.laws.PeerTransfer.{TransferDeed, InStretch, Resets, MayDoTransfer, does_transfer, transfer_packet_of, transfer_taking}
 use Rattle.x25_handshakes.specs.{laws.PeerTransfer.{IsNoReset, AreNoResets}, laws.Terms.{Terms}}
 use Rattle.x25_handshakes.proofs.HandshakeRelation.{Level, Handshaken, GoodStep, AllInner}
@@ -17,6 +17,7 @@ use Rattle.x25_handshakes.proofs.{HandshakeSteps.{Answers, acts_inside, leaves, 
 abbrev pub peer_level : Terms → ℕ → ℕ → Level Stretch PeerStretch Packet
 peer_level t longest size = own_level (Kept t longest size) fresh_peer
 
+-- a station in p4 beside any peer, over RESETs
 abbrev pub KeptTransfer : Terms → ℕ → ℕ → At Stretch → List Packet → List Packet → At PeerStretch → Type 0
 KeptTransfer t longest size x L K y = OwnTransfer (Kept t longest size) fresh_peer x L K y
 
@@ -44,8 +45,7 @@ open_deed : (y : PeerStretch) (d : Deed) → InFlowControl (packet_of y d)
 open_deed y (Sends p n) = tt
 open_deed y (Says true n) = tt
 open_deed y (Says false n) = tt
-open_deed y (Interrupts xs) = tt
-open_deed y Confirms = tt
+open_deed y d = tt
 
 no_reset_mark : (p : Packet) → IsNoReset p → reset_mark p ≡ Inner
 no_reset_mark Reset is = absurd is

@@ -156,13 +156,11 @@ phase_acted down up k Unused m i (PlacesCall n) =
     cond_both (may_propose n.params) (goes (Waiting n.params) (m ++ n ∷ []) i (Call n ∷ [])) (goes Unused m i []) (λ s. Acted down up Unused s.next.phase)
     (λ _. (refl, ([], refl), refl))
     (λ _. unmoved down up Unused)
-phase_acted down up k Unused m i other = unmoved down up Unused
 phase_acted down up k (Waiting mine) m i act = unmoved down up (Waiting mine)
 phase_acted down up k (Offered theirs) m i (AcceptsCall answer most) = accepted down up k theirs m i answer most
-phase_acted down up k (Offered theirs) m i other = unmoved down up (Offered theirs)
 phase_acted down up k (Crossed mine) m i act = unmoved down up (Crossed mine)
 phase_acted down up k (Talking t b x) m i (Talks a) = transfer_acted down up k t b x.epoch x.side a
-phase_acted down up k (Talking t b x) m i other = unmoved down up (Talking t b x)
+phase_acted down up k v m i other = unmoved down up v
 
 handled : {M : Type 0} {down up : Stretch → List M} → IsKept down up → IsHandled (of_stretch down up)
 handled {down} {up} k = record { fresh = refl; takes = call_taken down up k; acts = λ c a. phase_acted down up k c.phase c.made c.indicated a }
@@ -218,6 +216,7 @@ acted t x (Interrupt xs) =
     (none_done x)) (none_done x)
 acted t x a = record { messages = (IsPrefix-refl x.down, refl); interrupts = (IsPrefix-refl x.int_down, refl) }
 
+-- of messages: what a packet changes is allowed within a call, and an act hands nothing up
 pub messages_handled : IsHandled messages
 messages_handled = handled (record {
   down_fresh = refl;

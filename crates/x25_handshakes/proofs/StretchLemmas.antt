@@ -10,6 +10,7 @@ use Rattle.x25_handshakes.specs.{laws.Handshake.{OwnStep}, laws.Terms.{Terms}}
 pub StretchesRelated-flip : {t b : Terms} {x : Stretch} {u v : List Packet} {y : Stretch} → StretchesRelated t b x u v y → StretchesRelated b t y v u x
 StretchesRelated-flip h = record { there = h.back; back = h.there; told = h.told_back; told_back = h.told }
 
+-- as a stretch begins
 pub StretchesRelated-fresh : (t b : Terms) → StretchesRelated t b fresh [] [] fresh
 StretchesRelated-fresh t b = record {
   there = none t;
@@ -73,6 +74,7 @@ GoodStretch-acts t b st sb x u v y a h =
     let told = tells_act t x u v y a h.told h.told_back in
     goes_on h (Good-acts t b.longest b.size st.size x u v (as_peer_stretch y) a (kept t b x u v y sb h)) told.0 told.1
 
+-- a packet is taken in a stretch of two stations
 pub GoodStretch-takes : {t b : Terms} → IsSound b → {x : Stretch} {u : List Packet} (p : Packet) (v : List Packet) {y : Stretch}
     → StretchesRelated t b x u (p ∷ v) y → GoodStretch (StretchesRelated t b) (stretch_takes b.longest b.size x p) u v y
 GoodStretch-takes {t} {b} sound {x} {u} p v {y} h =
@@ -82,6 +84,7 @@ GoodStretch-takes {t} {b} sound {x} {u} p v {y} h =
 
 -- ---- what is claimed
 
+-- what one end handed up follows from what the other handed down
 pub FollowsFrom-from_Dir : {t : Terms} {x : Stretch} {u v : List Packet} {y : Stretch} → Direction t x u v y → FollowsFrom x u y
 FollowsFrom-from_Dir {x} {u} {y} h =
     let down : x.down ≡ carried y.taken ++ carried_from (joining no_part y.taken) (pieces u ++ x.rest) =

@@ -50,6 +50,7 @@ abbrev pub piece_of : Option Numbering → List Piece
 piece_of None = []
 piece_of (Some c) = c.piece ∷ []
 
+-- the pieces of the DATA packets on the way
 abbrev pub pieces : List Packet → List Piece
 pieces [] = []
 pieces (p ∷ u) = piece_of (numbering p) ++ pieces u
@@ -74,10 +75,12 @@ abbrev pub heard : ℕ → List Packet → ℕ
 heard a [] = a
 heard a (p ∷ v) = heard (hears a (ack_in p)) v
 
+-- what the INTERRUPTs on the way carry
 abbrev pub ints : List Packet → List (List ℕ)
 ints [] = []
 ints (p ∷ u) = int_in p ++ ints u
 
+-- how many confirmations of INTERRUPT are on the way
 abbrev pub confs : List Packet → ℕ
 confs [] = 0
 confs (p ∷ u) = conf_in p + confs u

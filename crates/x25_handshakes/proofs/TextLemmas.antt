@@ -6,10 +6,12 @@ use Rattle.x25_packet.specs.{declared.marks.Marks.{Marks}, Marks.{with_q}}
 use Rattle.x25_circuit.specs.Message.{Piece, More, Last, Partial, no_part, joined, joining, completed, carried_from, same_q, may_have_q, ground_of, AreSound}
 use Rattle.x25_circuit.specs.Message.{cut_from}
 
+-- pieces are joined in two goes
 pub joining-append : (j : Partial) (a b : List Piece) → joining j (a ++ b) ≡ joining (joining j a) b
 joining-append j [] b = refl
 joining-append j (p ∷ a) b = joining-append (joined j p) a b
 
+-- messages of pieces are read in two goes
 pub carried-append : (j : Partial) (a b : List Piece) → carried_from j (a ++ b) ≡ carried_from j a ++ carried_from (joining j a) b
 carried-append j [] b = refl
 carried-append j (p ∷ a) b =
@@ -20,10 +22,12 @@ pub AreSound-front : (longest size : ℕ) (j : Partial) (a b : List Piece) → A
 AreSound-front longest size j [] b h = tt
 AreSound-front longest size j (p ∷ a) b h = (h.0, AreSound-front longest size (joined j p) a b h.1)
 
+-- the later pieces are sound behind the first
 pub AreSound-back : (longest size : ℕ) (j : Partial) (a b : List Piece) → AreSound longest size j (a ++ b) → AreSound longest size (joining j a) b
 AreSound-back longest size j [] b h = h
 AreSound-back longest size j (p ∷ a) b h = AreSound-back longest size (joined j p) a b h.1
 
+-- sound pieces behind sound pieces
 pub AreSound-append : (longest size : ℕ) (j : Partial) (a b : List Piece) → AreSound longest size j a → AreSound longest size (joining j a) b
     → AreSound longest size j (a ++ b)
 AreSound-append longest size j [] b h g = g

@@ -26,6 +26,7 @@ InTransfer Clear = ⊥
 InTransfer ClearConf = ⊥
 InTransfer other = Unit {0}
 
+-- all are packets of p4
 abbrev pub AllInTransfer : List Packet → Type 0
 AllInTransfer u = Each InTransfer u
 

@@ -1,5 +1,6 @@
 -- The lines of a text, and the place of the first line feed.
-use Rattle.std.proofs.Common.{◌≡◌, ◌≢◌, ◌<◌, ◌≤◌, ◌-◌, ℕ, zero, suc, Bool, true, false, not, List, [], ◌∷◌, ◌++◌, length, take, drop, Some, None, ap, arith, get_or, get_or-take, eq-eqb, eqb-true, add-one, ◌∙◌, sym, ◌+◌, nat_eq, refl}
+use Rattle.std.proofs.Common.{◌≡◌, ◌≢◌, ◌<◌, ◌≤◌, ◌-◌, ℕ, zero, suc, Bool, true, false, not, List, [], ◌∷◌, ◌++◌, length, take, drop, Some, None, ap, arith}
+use Rattle.std.proofs.Common.{get_or, get_or-take, eq-eqb, eqb-true, add-one, ◌∙◌, sym, ◌+◌, nat_eq, refl}
 use Rattle.std.proofs.lemmas.Bool.{ne_eqb}
 use Rattle.std.specs.List.{prefix_len}
 use Rattle.std.proofs.lemmas.List.{append-nil, length-take-le, take_rest}
@@ -24,7 +25,8 @@ pub cut_line : (at : ℕ) (left : List ℕ) → IsFirstByte (is_byte 10) left (S
     → IsOpen (take at left) × (left ≡ take at left ++ 10 ∷ take (length left - (at + 1)) (drop (at + 1) left))
 cut_line at left h =
     let cut = cut_at at left h.0.high (λ k lt e. h.0.before k (omega arith) lt (eq-eqb (get_or left k 0) 10 e)) (eqb-true (get_or left at 0) 10 h.1) in
-    let behind : drop (suc at) left ≡ take (length left - (at + 1)) (drop (at + 1) left) = ap (λ n. drop n left) (sym (add-one at)) ∙ sym (take_rest left (at + 1)) in
+    let behind : drop (suc at) left ≡ take (length left - (at + 1)) (drop (at + 1) left) =
+    ap (λ n. drop n left) (sym (add-one at)) ∙ sym (take_rest left (at + 1)) in
     (cut.1, cut.0 ∙ ap (λ rest. take at left ++ 10 ∷ rest) behind)
 
 pub no_line : (left : List ℕ) → IsFirstByte (is_byte 10) left None → IsOpen left
@@ -39,8 +41,10 @@ first_of_sixteen left at long is few =
     let stops : p (get_or (take 16 left) (prefix_len p (take 16 left)) 0) ≡ false = prefix_len_stops p (take 16 left) 0 (omega (arith, is, few, size)) in
     let here : p (get_or left at 0) ≡ false = ap p (sym (get_or-take 16 left at 0 few)) ∙ ap (λ k. p (get_or (take 16 left) k 0)) is ∙ stops in
     let before : (k : ℕ) → k < at → p (get_or left k 0) ≡ true =
-    λ k lt. ap p (sym (get_or-take 16 left k 0 (omega (arith, lt, few)))) ∙ prefix_len_passes p (take 16 left) k 0 (omega (arith, lt, is)) in
-    (record { low = omega arith; high = omega (arith, few, long); before = λ k low lt e. both_ways (is_byte 10 (get_or left k 0)) e (before k lt) }, not-false (is_byte 10 (get_or left at 0)) here)
+    λ k lt. ap p (sym (get_or-take 16 left k 0 (omega (arith, lt, few)))) ∙ prefix_len_passes p (take 16 left) k 0 (omega (arith, lt, is)) in (
+      record { low = omega arith; high = omega (arith, few, long); before = λ k low lt e. both_ways (is_byte 10 (get_or left k 0)) e (before k lt) },
+      not-false (is_byte 10 (get_or left at 0)) here,
+    )
   where
     both_ways : (b : Bool) → b ≡ true → not b ≡ true → ⊥
     both_ways true e h = absurd (cc h)

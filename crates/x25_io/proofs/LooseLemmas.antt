@@ -1,10 +1,12 @@
 -- Lines that are read loosely, and the text of what they ask.
-use Rattle.std.proofs.Common.{◌≡◌, ◌∙◌, ◌<◌, ◌≤◌, ◌-◌, ◌==◌, ℕ, zero, suc, Bool, true, false, List, [], ◌∷◌, ◌++◌, Option, Some, None, length, drop, take, get_or, ap, sym, subst, refl, eq-eqb}
+use Rattle.std.proofs.Common.{◌≡◌, ◌∙◌, ◌<◌, ◌≤◌, ◌-◌, ◌==◌, ℕ, zero, suc, Bool, true, false, List, [], ◌∷◌, ◌++◌, Option, Some, None, length, drop, take}
+use Rattle.std.proofs.Common.{get_or, ap, sym, subst, refl, eq-eqb}
 use Rattle.std.specs.Prelude.{◌&&◌, nat_le, nat_lt, if◌then◌else◌, cond, IfSome}
 use Rattle.std.proofs.lemmas.Bool.{lt-leb}
 use Rattle.x25_io.specs.HeldLine.{most_line}
 use Rattle.x25_io.specs.Lines.{IsOpen, lines_of, onto}
-use Rattle.x25_io.specs.Loose.{is_loose, is_passed, stamp_length, without_return, asked_from, asked, carried, asked_lines, asked_text, onto_asked, text_of_lines}
+use Rattle.x25_io.specs.Loose.{is_loose, is_passed, stamp_length, without_return, asked_from, asked, carried, asked_lines, asked_text, onto_asked}
+use Rattle.x25_io.specs.Loose.{text_of_lines}
 use Rattle.x25_io.proofs.LineLemmas.{ends_line}
 
 -- ---- a line that is too long
@@ -26,7 +28,8 @@ long_carried loose line long = rw (not_loose loose line long) refl
 pub none_asked : (loose : Bool) (line : List ℕ) (lines : List (List ℕ)) → asked loose line ≡ None → asked_lines loose (line ∷ lines) ≡ asked_lines loose lines
 none_asked loose line lines none = ap (λ o. onto_asked o (asked_lines loose lines)) none
 
-pub one_asked : (loose : Bool) (line found : List ℕ) (lines : List (List ℕ)) → asked loose line ≡ Some found → asked_lines loose (line ∷ lines) ≡ found ∷ asked_lines loose lines
+pub one_asked : (loose : Bool) (line found : List ℕ) (lines : List (List ℕ)) → asked loose line ≡ Some found → asked_lines loose (line ∷ lines) ≡ found
+    ∷ asked_lines loose lines
 one_asked loose line found lines is = ap (λ o. onto_asked o (asked_lines loose lines)) is
 
 pub all_asked : (lines : List (List ℕ)) → asked_lines false lines ≡ lines
@@ -66,7 +69,8 @@ by_return line front true h k = k
 by_return line front false h k = h
 
 open_bare : (line : List ℕ) → IsOpen line → IsOpen (without_return line)
-open_bare line h = by_return line (take (length line - 1) line) (nat_lt 0 (length line) && get_or line (length line - 1) 0 == 13) h (open_take (length line - 1) line h)
+open_bare line h = by_return line (take (length line - 1) line) (nat_lt 0 (length line) && get_or line (length line - 1) 0 == 13) h
+    (open_take (length line - 1) line h)
 
 open_asked : (loose : Bool) (line : List ℕ) → IsOpen line → IfSome (asked loose line) IsOpen
 unfolding asked

@@ -12,7 +12,8 @@ no_lines = refl
 
 module _ (Stands : List (List ℕ) → Type 0) (held : HeldLine) where
   -- more of the line that has begun
-  pub more : (held2 : HeldLine) (part rest : List ℕ) → LinesLead Stands held (part ++ rest) → IsOpen part → ((begun : List ℕ) → HoldsLine begun held → HoldsLine (begun ++ part) held2)
+  pub more : (held2 : HeldLine) (part rest : List ℕ) → LinesLead Stands held (part ++ rest) → IsOpen part
+      → ((begun : List ℕ) → HoldsLine begun held → HoldsLine (begun ++ part) held2)
       → LinesLead Stands held2 rest
   more held2 part rest l none holds = record {
     begun = l.begun ++ part;
@@ -41,8 +42,10 @@ module _ (Stands : List (List ℕ) → Type 0) (held : HeldLine) where
   between rest empty stands = record { begun = []; is_open = tt; holds = empty; stands = stands }
 
 -- what holds of the lines that are left
-pub led : (Stands Next : List (List ℕ) → Type 0) (held : HeldLine) (rest : List ℕ) (l : LinesLead Stands held rest) → Next (lines_of (l.begun ++ rest)) → LinesLead Next held rest
+pub led : (Stands Next : List (List ℕ) → Type 0) (held : HeldLine) (rest : List ℕ) (l : LinesLead Stands held rest) → Next (lines_of (l.begun ++ rest))
+    → LinesLead Next held rest
 led Stands Next held rest l next = record { begun = l.begun; is_open = l.is_open; holds = l.holds; stands = next }
 
-pub led_ended : (Stands Ended : List (List ℕ) → Type 0) (held : HeldLine) (rest : List ℕ) (l : LinesLead Stands held rest) → Ended (lines_of (l.begun ++ rest)) → LinesEnded Ended rest
+pub led_ended : (Stands Ended : List (List ℕ) → Type 0) (held : HeldLine) (rest : List ℕ) (l : LinesLead Stands held rest) → Ended (lines_of (l.begun ++ rest))
+    → LinesEnded Ended rest
 led_ended Stands Ended held rest l ended = record { begun = l.begun; is_open = l.is_open; ended = ended }

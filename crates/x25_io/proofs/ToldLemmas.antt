@@ -19,7 +19,8 @@ more_waits old now text next told line h e = record {
 }
 
 -- all that waited is written
-pub all_written : (old now next : Option (List ℕ)) (text rest told : List ℕ) → Tells old now text told → Appends now next text → rest ≡ [] → Tells old next rest told
+pub all_written : (old now next : Option (List ℕ)) (text rest told : List ℕ) → Tells old now text told → Appends now next text → rest ≡ []
+    → Tells old next rest told
 all_written old now next text rest told h a none = record {
   written = h.written ++ text;
   appends = Appends-trans old now next h.written text h.appends a;
@@ -44,7 +45,8 @@ pub told_prefix : (old now : Option (List ℕ)) (text told : List ℕ) → Tells
 told_prefix old now text told h = (h.written, text, sym h.same, h.appends)
 
 -- a line that is written behind all that waited
-pub line_written : (old now next : Option (List ℕ)) (text told line : List ℕ) → Tells old now text told → text ≡ [] → Appends now next line → Tells old next text (told ++ line)
+pub line_written : (old now next : Option (List ℕ)) (text told line : List ℕ) → Tells old now text told → text ≡ [] → Appends now next line
+    → Tells old next text (told ++ line)
 line_written old now next text told line h none a = record {
   written = h.written ++ line;
   appends = Appends-trans old now next h.written line h.appends a;
@@ -52,7 +54,8 @@ line_written old now next text told line h none a = record {
       ∙ ap (λ t. t ++ line) (sym (append-nil h.written) ∙ ap (λ t. h.written ++ t) (sym none) ∙ h.same);
 }
 
-pub line_begun : (old now next : Option (List ℕ)) (text told line : List ℕ) → Tells old now text told → text ≡ [] → AppendsPrefix now next line → AppendsPrefix old next (told ++ line)
+pub line_begun : (old now next : Option (List ℕ)) (text told line : List ℕ) → Tells old now text told → text ≡ [] → AppendsPrefix now next line
+    → AppendsPrefix old next (told ++ line)
 line_begun old now next text told line h none b =
     let all : h.written ≡ told = sym (append-nil h.written) ∙ ap (λ t. h.written ++ t) (sym none) ∙ h.same in (
       h.written ++ b.0,
@@ -65,7 +68,8 @@ pub told_more : (old now : Option (List ℕ)) (text told more : List ℕ) → Te
 told_more old now text told more h = prefix_more old now told more (told_prefix old now text told h)
 
 -- told up to here, and not further than that
-pub part_of_all : (old now : Option (List ℕ)) (told first second all : List ℕ) → all ≡ first ++ second → AppendsPrefix old now (told ++ first) → AppendsPrefix old now (told ++ all)
+pub part_of_all : (old now : Option (List ℕ)) (told first second all : List ℕ) → all ≡ first ++ second → AppendsPrefix old now (told ++ first)
+    → AppendsPrefix old now (told ++ all)
 part_of_all old now told first second all e b =
     subst (AppendsPrefix old now) (append_assoc told first second ∙ ap (λ t. told ++ t) (sym e)) (prefix_more old now (told ++ first) second b)
 

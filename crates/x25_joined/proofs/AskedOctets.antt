@@ -15,6 +15,7 @@ use Rattle.x25_pipe.specs.Pipe.{is_same, script_event, read_event, event_in}
 use Rattle.x25_world.specs.laws.Claims.{CommandsOctets}
 use Rattle.std.specs.Prelude.{option_and_then}
 
+-- a command hands down octets
 abbrev pub AsksOctets : Option StationEvent → Type 0
 AsksOctets (Some (Asks asked)) = CommandsOctets asked
 AsksOctets event = Unit {0}
@@ -82,6 +83,8 @@ of_short : (b : Bool) (event : Option StationEvent) → AsksOctets event → Ask
 of_short true event h = h
 of_short false event h = tt
 
+-- so does each line that a program reads
 pub asks_octets : ReadsOctets → (wide : Bool) (end : Role) (line : List ℕ) → AsksOctets (event_in wide end line)
 unfolding event_in
-asks_octets reads wide end line = of_short (nat_le (length line) most_line) (read_event wide end line (sent_in line)) (of_sent reads wide end line (sent_in line))
+asks_octets reads wide end line = of_short (nat_le (length line) most_line) (read_event wide end line (sent_in line))
+    (of_sent reads wide end line (sent_in line))

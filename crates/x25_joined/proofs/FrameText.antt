@@ -1,5 +1,6 @@
 -- The line that tells of a frame reads as its octets at the other end.
-use Rattle.std.proofs.Common.{◌≡◌, ◌≢◌, ◌∙◌, ℕ, suc, ◌+◌, ◌*◌, ◌/◌, ◌%◌, ◌<◌, nat_eq, nat_lt, nat_le, Bool, true, false, if◌then◌else◌, List, [], ◌∷◌, ◌++◌, length, flat_map, Some, None, option_map, Ok, ap, refl, arith}
+use Rattle.std.proofs.Common.{◌≡◌, ◌≢◌, ◌∙◌, ℕ, suc, ◌+◌, ◌*◌, ◌/◌, ◌%◌, ◌<◌, nat_eq, nat_lt, nat_le, Bool, true, false, if◌then◌else◌, List, [], ◌∷◌, ◌++◌}
+use Rattle.std.proofs.Common.{length, flat_map, Some, None, option_map, Ok, ap, refl, arith}
 use Rattle.std.specs.Fmt.{digit_glyph}
 use Rattle.std.proofs.lemmas.Bool.{ne_eqb, le-leb}
 use Rattle.std.proofs.lemmas.List.Elements.{All-head, All-tail}
@@ -67,6 +68,7 @@ digits_read octets h =
 abbrev pub frame_words : Role → List ℕ → List ℕ
 frame_words from octets = mark_of from ++ digits_of octets
 
+-- a program says a frame by this line
 pub frame_text : (from : Role) (octets : List ℕ) → saying_line from (sends octets) ≡ frame_words from octets ++ 10 ∷ []
 unfolding saying_line frame_line
 frame_text from octets = refl
@@ -75,6 +77,7 @@ open_digits : (octets : List ℕ) → IsOpen (digits_of octets)
 open_digits [] = tt
 open_digits (o ∷ octets) = (glyph_open (o / 16), (glyph_open (o % 16), open_digits octets))
 
+-- no LF is in it
 pub frame_open : (from : Role) (octets : List ℕ) → IsOpen (frame_words from octets)
 frame_open Dte octets = (λ (e : 62 ≡ 10). omega (arith, e), (λ (e : 32 ≡ 10). omega (arith, e), open_digits octets))
 frame_open Dce octets = (λ (e : 60 ≡ 10). omega (arith, e), (λ (e : 32 ≡ 10). omega (arith, e), open_digits octets))
@@ -87,10 +90,12 @@ length_words : (from : Role) (octets : List ℕ) → length (frame_words from oc
 length_words Dte octets = let h = length_digits octets in omega (arith, h)
 length_words Dce octets = let h = length_digits octets in omega (arith, h)
 
-words_read : (wide : Bool) (end : Role) (octets : List ℕ) → read_event wide end (frame_words (other end) octets) (Some (other end, octets)) ≡ Some (Comes octets)
+words_read : (wide : Bool) (end : Role) (octets : List ℕ) → read_event wide end (frame_words (other end) octets) (Some (other end, octets))
+    ≡ Some (Comes octets)
 words_read wide Dte octets = refl
 words_read wide Dce octets = refl
 
+-- it is read at the other end as these octets
 pub frame_comes : (wide : Bool) (end : Role) (octets : List ℕ) → AreOfFrame octets → event_in wide end (frame_words (other end) octets) ≡ Some (Comes octets)
 unfolding event_in
 frame_comes wide end octets h =

@@ -20,7 +20,8 @@ use Rattle.x25_world.specs.laws.Claims.{AreInOctets, IsLawful, ArrivesAll, stati
 use Rattle.x25_world.specs.laws.SessionClaims.{Throughout}
 use Rattle.x25_world.specs.laws.TapOctets.{AreOfFrame, IsTapOfOctets}
 use Rattle.x25_joined.specs.laws.Joined.{Joined, exchanged, nothing_read, Act, acts, Happening, acts_at, IsPossibleAt, run, ArePossible, entries_in, frames_in}
-use Rattle.x25_joined.specs.laws.JoinedClaims.{station_by, entries_by, frames_by, put_by, Tells, OfPrograms, AreWorlds, OfProgramsUpOnce, UntilSecondUp, AreLawful, Arrive}
+use Rattle.x25_joined.specs.laws.JoinedClaims.{station_by, entries_by, frames_by, put_by, Tells, OfPrograms, AreWorlds, OfProgramsUpOnce, UntilSecondUp}
+use Rattle.x25_joined.specs.laws.JoinedClaims.{AreLawful, Arrive}
 use Rattle.x25_joined.proofs.LineText.{none_whole, first_said}
 use Rattle.x25_joined.proofs.JoinedShows.{IsEnd, Shows, Fits, Mirrors, stays, moves, pulls, all_pulled, act_shows}
 use Rattle.x25_joined.proofs.Turns.{first_is}
@@ -49,7 +50,8 @@ record Kept (cfg : Cfg) (j : Joined) : Type 0 where
 
 module _ (reads : ReadsOctets) (tapped : Throughout IsTapOfOctets) (cfg : Cfg) (fine : config_refusal cfg ≡ None) where
   -- events behind those so far
-  moved : (j there : Joined) (k : Kept cfg j) (more : List Event) (next : World) → AreAccepted cfg more k.w → world.run cfg more k.w ≡ next → AreInOctets more → Shows cfg Dte there next
+  moved : (j there : Joined) (k : Kept cfg j) (more : List Event) (next : World) → AreAccepted cfg more k.w → world.run cfg more k.w ≡ next → AreInOctets more
+      → Shows cfg Dte there next
       → (AreInOctets (k.events ++ more) → world.run cfg (k.events ++ more) start ≡ next → Fits next) → Kept cfg there
   moved j there k more next accepted is octets shows fits =
       let handed = octets_append k.events more k.octets octets in
@@ -82,7 +84,15 @@ module _ (reads : ReadsOctets) (tapped : Throughout IsTapOfOctets) (cfg : Cfg) (
   on_tap events next octets reached = subst (IsTapOfOctets cfg) reached (tapped cfg fine start (inl refl) events octets)
 
   dte_kept : (j there : Joined) (k : Kept cfg j) → Mirrors cfg Dte k.w there → Kept cfg there
-  dte_kept j there k (stays shows) = record { w = k.w; events = k.events; accepted = k.accepted; octets = k.octets; reached = k.reached; shows = shows; fits = k.fits }
+  dte_kept j there k (stays shows) = record {
+    w = k.w;
+    events = k.events;
+    accepted = k.accepted;
+    octets = k.octets;
+    reached = k.reached;
+    shows = shows;
+    fits = k.fits;
+  }
   dte_kept j there k (moves act next is octets shows fits) =
       let e : Event = record { at = Dte; act = act } in
       let leads = one k.w next e is in
@@ -212,7 +222,8 @@ are_lawful law worlds cfg fine history may once end = by end
 
     lawfully : (a b : Role) → HandsUpLawfully (layer_entries (entries_at a found.0.transcript)) (layer_entries (entries_at b found.0.transcript))
         → HandsUpLawfully (layer_entries (entries_by cfg a j)) (layer_entries (entries_by cfg b j))
-    lawfully a b h = subst (λ (es : List Entry). HandsUpLawfully (layer_entries (entries_by cfg a j)) es) (same b) (subst (λ (es : List Entry). HandsUpLawfully es (layer_entries (entries_at b found.0.transcript))) (same a) h)
+    lawfully a b h = subst (λ (es : List Entry). HandsUpLawfully (layer_entries (entries_by cfg a j)) es) (same b)
+        (subst (λ (es : List Entry). HandsUpLawfully es (layer_entries (entries_at b found.0.transcript))) (same a) h)
 
     by : (end : Role) → HandsUpLawfully (layer_entries (entries_by cfg end j)) (layer_entries (entries_by cfg (other end) j))
     by Dte = lawfully Dte Dce (found.2 Dte)
@@ -230,7 +241,8 @@ arrive law worlds cfg fine history may once end = by end
     same : (end : Role) → layer_entries (entries_at end found.0.transcript) ≡ layer_entries (entries_by cfg end j)
     same end = ap layer_entries (found.1.entries end)
 
-    all : (a b : Role) (channel : ℕ) (name : Name) → HasAllOf channel name (layer_entries (entries_at a found.0.transcript)) (layer_entries (entries_at b found.0.transcript))
+    all : (a b : Role) (channel : ℕ) (name : Name)
+        → HasAllOf channel name (layer_entries (entries_at a found.0.transcript)) (layer_entries (entries_at b found.0.transcript))
         → HasAllOf channel name (layer_entries (entries_by cfg a j)) (layer_entries (entries_by cfg b j))
     all a b channel name h = subst (λ (es : List Entry). HasAllOf channel name (layer_entries (entries_by cfg a j)) es) (same b)
         (subst (λ (es : List Entry). HasAllOf channel name es (layer_entries (entries_at b found.0.transcript))) (same a) h)
@@ -238,10 +250,15 @@ arrive law worlds cfg fine history may once end = by end
     idle : (end : Role) → is_idle (settings_from end cfg) (station_by cfg end j) ≡ is_idle (settings_from end cfg) (station_at end found.0)
     idle end = ap (is_idle (settings_from end cfg)) (sym (found.1.stations end))
 
-    open_at : (end : Role) (channel : ℕ) → stretch (settings_from end cfg) (station_by cfg end j) channel ≡ stretch (settings_from end cfg) (station_at end found.0) channel
+    open_at : (end : Role) (channel : ℕ) → stretch (settings_from end cfg) (station_by cfg end j) channel
+        ≡ stretch (settings_from end cfg) (station_at end found.0) channel
     open_at end channel = ap (λ (s : Station). stretch (settings_from end cfg) s channel) (sym (found.1.stations end))
 
-    by : (end : Role) (channel : ℕ) (name : Name) → is_idle (settings_from end cfg) (station_by cfg end j) ≡ true → stretch (settings_from end cfg) (station_by cfg end j) channel ≡ Some name
-        → stretch (settings_from (other end) cfg) (station_by cfg (other end) j) channel ≡ Some name → HasAllOf channel name (layer_entries (entries_by cfg end j)) (layer_entries (entries_by cfg (other end) j))
-    by Dte channel name is here there = all Dte Dce channel name (found.2 Dte channel name (sym (idle Dte) ∙ is) (sym (open_at Dte channel) ∙ here) (sym (open_at Dce channel) ∙ there))
-    by Dce channel name is here there = all Dce Dte channel name (found.2 Dce channel name (sym (idle Dce) ∙ is) (sym (open_at Dce channel) ∙ here) (sym (open_at Dte channel) ∙ there))
+    by : (end : Role) (channel : ℕ) (name : Name) → is_idle (settings_from end cfg) (station_by cfg end j) ≡ true
+        → stretch (settings_from end cfg) (station_by cfg end j) channel ≡ Some name
+        → stretch (settings_from (other end) cfg) (station_by cfg (other end) j) channel ≡ Some name
+        → HasAllOf channel name (layer_entries (entries_by cfg end j)) (layer_entries (entries_by cfg (other end) j))
+    by Dte channel name is here there = all Dte Dce channel name
+        (found.2 Dte channel name (sym (idle Dte) ∙ is) (sym (open_at Dte channel) ∙ here) (sym (open_at Dce channel) ∙ there))
+    by Dce channel name is here there = all Dce Dte channel name
+        (found.2 Dce channel name (sym (idle Dce) ∙ is) (sym (open_at Dce channel) ∙ here) (sym (open_at Dte channel) ∙ there))

@@ -1,5 +1,6 @@
 -- Two joined programs and a world of two stations, as one of the ends sees them: what one act of the programs is in the world.
-use Rattle.std.proofs.Common.{◌≡◌, ◌∙◌, ◌≤◌, ℕ, zero, suc, Bool, true, false, ◌&&◌, ◌||◌, nat_lt, cond, List, [], ◌∷◌, ◌++◌, length, take, drop, map, remove, All, Option, Some, None, append_assoc, append-nil, ap, ap₂, sym, subst, refl, arith}
+use Rattle.std.proofs.Common.{◌≡◌, ◌∙◌, ◌≤◌, ℕ, zero, suc, Bool, true, false, ◌&&◌, ◌||◌, nat_lt, cond, List, [], ◌∷◌, ◌++◌, length, take, drop, map, remove}
+use Rattle.std.proofs.Common.{All, Option, Some, None, append_assoc, append-nil, ap, ap₂, sym, subst, refl, arith}
 use Rattle.std.proofs.lemmas.Bool.{ltb-false}
 use Rattle.std.proofs.lemmas.List.{map-append}
 use Rattle.std.proofs.lemmas.List.Elements.{All-nil, All-cons, All-head, All-tail, All-append, All-take, All-drop}
@@ -27,7 +28,8 @@ use Rattle.x25_world.specs.World as world
 use Rattle.x25_world.specs.World.{OnTap, AtEnd, World, tapped, entered, after_step, Happened, Declined, of_station, delivered}
 use Rattle.x25_world.specs.laws.Claims.{ActsInOctets, entries_at}
 use Rattle.x25_world.specs.laws.TapOctets.{AreOfFrame, AreOfFrames}
-use Rattle.x25_joined.specs.laws.Joined.{Joined, written, station_of, entries_in, frames_in, reads, takes, on_line, Act, Reads, Takes, Loses, Damages, acts, IsNoFrame, is_on_line, IsInTime, IsPossible}
+use Rattle.x25_joined.specs.laws.Joined.{Joined, written, station_of, entries_in, frames_in, reads, takes, on_line, Act, Reads, Takes, Loses, Damages, acts}
+use Rattle.x25_joined.specs.laws.Joined.{IsNoFrame, is_on_line, IsInTime, IsPossible}
 use Rattle.x25_joined.specs.laws.JoinedClaims.{frame_of_end, put_by}
 use Rattle.x25_joined.proofs.LineText.{AreWhole, more_whole, one_more, said_more}
 use Rattle.x25_joined.proofs.FrameText.{frame_words, frame_text, frame_open, frame_comes}
@@ -79,8 +81,10 @@ all_pulled = world.Commands (Requests PullsAll)
 -- what an act of the programs is in a world: nothing; or an act that is accepted; or one behind which pulls are
 pub data Mirrors (cfg : Cfg) (end : Role) (w : World) (j : Joined) : Type 0 where
   stays : Shows cfg end j w → Mirrors cfg end w j
-  moves : (act : world.Act) (next : World) → world.acts (settings_from end cfg) w act ≡ Happened next → ActsInOctets act → Shows cfg end j next → (AreOfFrames next.tap → Fits next) → Mirrors cfg end w j
-  pulls : (act : world.Act) (between next : World) → world.acts (settings_from end cfg) w act ≡ Happened between → world.acts (settings_from end cfg) between all_pulled ≡ Happened next → ActsInOctets act
+  moves : (act : world.Act) (next : World) → world.acts (settings_from end cfg) w act ≡ Happened next → ActsInOctets act → Shows cfg end j next
+      → (AreOfFrames next.tap → Fits next) → Mirrors cfg end w j
+  pulls : (act : world.Act) (between next : World) → world.acts (settings_from end cfg) w act ≡ Happened between
+      → world.acts (settings_from end cfg) between all_pulled ≡ Happened next → ActsInOctets act
       → Shows cfg end j next → (AreOfFrames next.tap → Fits next) → Mirrors cfg end w j
 
 -- ---- the line
@@ -93,7 +97,8 @@ tap_new from [] (f ∷ fs) h = All-cons AreOfFrame f fs h.0 (tap_new from [] fs 
 replaced_fit : (xs : List (List ℕ)) (place : ℕ) (octets : List ℕ) → All AreOfFrame xs → AreOfFrame octets → All AreOfFrame (replaced xs place (λ _. octets))
 replaced_fit [] place octets h f = h
 replaced_fit (x ∷ xs) zero octets h f = All-cons AreOfFrame octets xs f (All-tail AreOfFrame x xs h)
-replaced_fit (x ∷ xs) (suc place) octets h f = All-cons AreOfFrame x (replaced xs place (λ _. octets)) (All-head AreOfFrame x xs h) (replaced_fit xs place octets (All-tail AreOfFrame x xs h) f)
+replaced_fit (x ∷ xs) (suc place) octets h f = All-cons AreOfFrame x (replaced xs place (λ _. octets)) (All-head AreOfFrame x xs h)
+    (replaced_fit xs place octets (All-tail AreOfFrame x xs h) f)
 
 -- past the end of a line none is lost and none damaged
 
@@ -109,16 +114,36 @@ none_damaged (x ∷ xs) zero octets past = absurd (omega (arith, past))
 none_damaged (x ∷ xs) (suc place) octets past = ap (λ l. x ∷ l) (none_damaged xs place octets (omega (arith, past)))
 
 -- a step and then another, with the same left on the line to the end, are one of both
-two_steps : (c : Settings) (w : World) (back : List (List ℕ)) (step more : Step) → after_step c (after_step c w back step) back more ≡ after_step c w back (pulled_behind step (Did more))
+two_steps : (c : Settings) (w : World) (back : List (List ℕ)) (step more : Step) → after_step c (after_step c w back step) back more
+    ≡ after_step c w back (pulled_behind step (Did more))
 two_steps c w back step more =
     ap₂ (λ (out : List (List ℕ)) (tap : List OnTap).
-    let v : World = record { near = more.near; far = w.far; out = out; back = back; tap = tap; transcript = (w.transcript ++ entered c.role step.entries) ++ entered c.role more.entries } in v)
+    let v : World = record {
+      near = more.near;
+      far = w.far;
+      out = out;
+      back = back;
+      tap = tap;
+      transcript = (w.transcript ++ entered c.role step.entries)
+          ++ entered c.role more.entries;
+    } in v)
     (append_assoc w.out fs gs ∙ ap (λ (xs : List (List ℕ)). w.out ++ xs) (sym both))
-    (append_assoc w.tap (tapped c.role fs) (tapped c.role gs) ∙ ap (λ (xs : List OnTap). w.tap ++ xs) ((let f : List ℕ → OnTap = λ octets. record { from = c.role; octets = octets } in sym (map-append f fs gs)) ∙ ap (tapped c.role) (sym both)))
+    (append_assoc w.tap (tapped c.role fs) (tapped c.role gs)
+    ∙ ap (λ (xs : List OnTap). w.tap ++ xs)
+    ((let f : List ℕ → OnTap = λ octets. record { from = c.role; octets = octets } in sym (map-append f fs gs)) ∙ ap (tapped c.role) (sym both)))
     ∙ ap (λ (transcript : List AtEnd).
-    let v : World = record { near = more.near; far = w.far; out = w.out ++ map (spelling_of c.role) (step.out ++ more.out); back = back; tap = w.tap ++ tapped c.role (map (spelling_of c.role) (step.out ++ more.out)); transcript = transcript } in v)
+    let v : World = record {
+      near = more.near;
+      far = w.far;
+      out = w.out ++ map (spelling_of c.role) (step.out ++ more.out);
+      back = back;
+      tap = w.tap
+          ++ tapped c.role (map (spelling_of c.role) (step.out ++ more.out));
+      transcript = transcript;
+    } in v)
     (append_assoc w.transcript (entered c.role step.entries) (entered c.role more.entries)
-    ∙ ap (λ (es : List AtEnd). w.transcript ++ es) (let f : StationEntry → AtEnd = λ entry. record { at = c.role; entry = entry } in sym (map-append f step.entries more.entries)))
+    ∙ ap (λ (es : List AtEnd). w.transcript ++ es)
+    (let f : StationEntry → AtEnd = λ entry. record { at = c.role; entry = entry } in sym (map-append f step.entries more.entries)))
   where
     fs : List (List ℕ)
     fs = map (spelling_of c.role) step.out
@@ -143,19 +168,22 @@ module _ (cfg : Cfg) (end : Role) (w : World) (fits : Fits w) where
 
   module _ (j : Joined) (h : Shows cfg end j w) where
     -- with where it leads, and what is said
-    reads_shows : (back : List (List ℕ)) (line : List ℕ) (step : Step) → IsOpen line → TurnIs (turn c line w.near) step.near step.entries (map (spelling_of end) step.out)
+    reads_shows : (back : List (List ℕ)) (line : List ℕ) (step : Step) → IsOpen line
+        → TurnIs (turn c line w.near) step.near step.entries (map (spelling_of end) step.out)
         → Shows cfg end (reads c j back (line ++ 10 ∷ [])) (after_step c w back step)
     reads_shows back line step none turns =
         let es = step.entries in
         let fs = map (spelling_of end) step.out in
         let more = (turn c line (piped c j.near).next).sayings in
-        let is : TurnIs (turn c line (piped c j.near).next) step.near es fs = subst (λ (s : Station). TurnIs (turn c line s) step.near es fs) (sym h.near.station) turns in
+        let is : TurnIs (turn c line (piped c j.near).next) step.near es fs =
+        subst (λ (s : Station). TurnIs (turn c line s) step.near es fs) (sym h.near.station) turns in
         let all : written c (j.near ++ (line ++ 10 ∷ [])) ≡ written c j.near ++ more = ap (λ t. t.sayings) (one_more c j.near line h.near.whole none) in
         record {
           near = record {
             whole = more_whole j.near line h.near.whole none;
             station = ap (λ t. t.next) (one_more c j.near line h.near.whole none) ∙ is.next;
-            entries = entries_append end w.transcript (entered end es) ∙ ap₂ (λ (xs ys : List StationEntry). xs ++ ys) h.near.entries (own_entries end es ∙ sym is.entries)
+            entries = entries_append end w.transcript (entered end es)
+                ∙ ap₂ (λ (xs ys : List StationEntry). xs ++ ys) h.near.entries (own_entries end es ∙ sym is.entries)
                 ∙ sym (entries-append (written c j.near) more) ∙ ap entries_in (sym all);
             frames = put_by-append end w.tap (tapped end fs) ∙ ap₂ (λ (xs ys : List (List ℕ)). xs ++ ys) h.near.frames (own_frames end fs ∙ sym is.frames)
                 ∙ sym (frames-append (written c j.near) more) ∙ ap frames_in (sym all);
@@ -163,7 +191,8 @@ module _ (cfg : Cfg) (end : Role) (w : World) (fits : Fits w) where
           far = record {
             whole = h.far.whole;
             station = h.far.station;
-            entries = entries_append (other end) w.transcript (entered end es) ∙ ap (λ (xs : List StationEntry). entries_at (other end) w.transcript ++ xs) (no_entries end es)
+            entries = entries_append (other end) w.transcript (entered end es)
+                ∙ ap (λ (xs : List StationEntry). entries_at (other end) w.transcript ++ xs) (no_entries end es)
                 ∙ append-nil (entries_at (other end) w.transcript) ∙ h.far.entries;
             frames = put_by-append (other end) w.tap (tapped end fs) ∙ ap (λ (xs : List (List ℕ)). put_by (other end) w.tap ++ xs) (no_frames end fs)
                 ∙ append-nil (put_by (other end) w.tap) ∙ h.far.frames;
@@ -178,13 +207,36 @@ module _ (cfg : Cfg) (end : Role) (w : World) (fits : Fits w) where
 
     stood : after_step c w w.back still ≡ w
     stood =
-        ap (λ (out : List (List ℕ)). let v : World = record { near = w.near; far = w.far; out = out; back = w.back; tap = w.tap ++ []; transcript = w.transcript ++ [] } in v) (append-nil w.out)
-        ∙ ap (λ (tap : List OnTap). let v : World = record { near = w.near; far = w.far; out = w.out; back = w.back; tap = tap; transcript = w.transcript ++ [] } in v) (append-nil w.tap)
-        ∙ ap (λ (transcript : List AtEnd). let v : World = record { near = w.near; far = w.far; out = w.out; back = w.back; tap = w.tap; transcript = transcript } in v) (append-nil w.transcript)
+        ap (λ (out : List (List ℕ)). let v : World = record {
+          near = w.near;
+          far = w.far;
+          out = out;
+          back = w.back;
+          tap = w.tap ++ [];
+          transcript = w.transcript ++ [];
+        } in v) (append-nil w.out)
+        ∙ ap (λ (tap : List OnTap). let v : World = record {
+          near = w.near;
+          far = w.far;
+          out = w.out;
+          back = w.back;
+          tap = tap;
+          transcript = w.transcript
+              ++ [];
+        } in v) (append-nil w.tap)
+        ∙ ap (λ (transcript : List AtEnd). let v : World = record {
+          near = w.near;
+          far = w.far;
+          out = w.out;
+          back = w.back;
+          tap = w.tap;
+          transcript = transcript;
+        } in v) (append-nil w.transcript)
 
     nothing_happens : (line : List ℕ) → IsOpen line → TurnIs (turn c line w.near) w.near [] [] → Mirrors cfg end w (reads c j j.back (line ++ 10 ∷ []))
     nothing_happens line none turns = stays (subst (λ (v : World). Shows cfg end (reads c j j.back (line ++ 10 ∷ [])) v) stood
-        (subst (λ (back : List (List ℕ)). Shows cfg end (reads c j back (line ++ 10 ∷ [])) (after_step c w w.back still)) h.back (reads_shows w.back line still none turns)))
+        (subst (λ (back : List (List ℕ)). Shows cfg end (reads c j back (line ++ 10 ∷ [])) (after_step c w w.back still)) h.back
+        (reads_shows w.back line still none turns)))
 
     -- an act and its pulls are a step of both
     happens_pulling : (act : world.Act) (line : List ℕ) (back : List (List ℕ)) (step : Step) → IsOpen line → All AreOfFrame back
@@ -195,10 +247,12 @@ module _ (cfg : Cfg) (end : Role) (w : World) (fits : Fits w) where
         turned_by : (o : Outcome) → commands c step.near (Requests PullsAll) ≡ o
             → TurnIs (turn c line w.near) (pulled_behind step o).near (pulled_behind step o).entries (map (spelling_of end) (pulled_behind step o).out)
         turned_by o found =
-            subst (λ (o : Outcome). TurnIs (turn c line w.near) (pulled_behind step o).near (pulled_behind step o).entries (map (spelling_of end) (pulled_behind step o).out)) found turns
+            subst (λ (o : Outcome). TurnIs (turn c line w.near) (pulled_behind step o).near (pulled_behind step o).entries
+            (map (spelling_of end) (pulled_behind step o).out)) found turns
 
         by : (o : Outcome) → commands c step.near (Requests PullsAll) ≡ o → Mirrors cfg end w (reads c j back (line ++ 10 ∷ []))
-        by (Refused e) found = moves act (after_step c w back step) is octets (reads_shows back line step none (turned_by (Refused e) found)) (step_fits back step rest)
+        by (Refused e) found = moves act (after_step c w back step) is octets (reads_shows back line step none (turned_by (Refused e) found))
+            (step_fits back step rest)
         by (Did more) found =
             let both = pulled_behind step (Did more) in
             pulls act (after_step c w back step) (after_step c w back both) is
@@ -209,26 +263,32 @@ module _ (cfg : Cfg) (end : Role) (w : World) (fits : Fits w) where
         → TurnIs (turn c line w.near) (and_pulls c step).near (and_pulls c step).entries (map (spelling_of end) (and_pulls c step).out)
         → world.acts c w act ≡ Happened (after_step c w w.back step) → ActsInOctets act → Mirrors cfg end w (reads c j j.back (line ++ 10 ∷ []))
     something_happens act line step none turns is octets =
-        subst (λ (back : List (List ℕ)). Mirrors cfg end w (reads c j back (line ++ 10 ∷ []))) h.back (happens_pulling act line w.back step none fits.back turns is octets)
+        subst (λ (back : List (List ℕ)). Mirrors cfg end w (reads c j back (line ++ 10 ∷ []))) h.back
+        (happens_pulling act line w.back step none fits.back turns is octets)
 
-    commanded : (line : List ℕ) (command : Command) (o : Outcome) → IsOpen line → event_in cfg.wide end line ≡ Some (Asks command) → AsksOctets (Some (Asks command)) → commands c w.near command ≡ o
+    commanded : (line : List ℕ) (command : Command) (o : Outcome) → IsOpen line → event_in cfg.wide end line ≡ Some (Asks command)
+        → AsksOctets (Some (Asks command)) → commands c w.near command ≡ o
         → Mirrors cfg end w (reads c j j.back (line ++ 10 ∷ []))
     commanded line command (Did step) none asks octets is =
-        something_happens (world.Commands command) line step none (line_did c w.near line (Asks command) (and_pulls c step) asks (ap (with_pulls c) is)) (ap (of_station c w) is) octets
+        something_happens (world.Commands command) line step none (line_did c w.near line (Asks command) (and_pulls c step) asks (ap (with_pulls c) is))
+        (ap (of_station c w) is) octets
     commanded line command (Refused e) none asks octets is = nothing_happens line none (line_refused c w.near line (Asks command) e asks is)
 
     in_time : (awaits_ua (station_of c j.near).link.phase && is_on_line c j) ≡ false → (awaits_ua w.near.link.phase && world.is_on_line c w) ≡ false
     in_time free =
         ap (λ (s : Station). awaits_ua s.link.phase && world.is_on_line c w) (sym h.near.station)
-        ∙ ap₂ (λ (out back : List (List ℕ)). awaits_ua (station_of c j.near).link.phase && (carries Sabm end out || carries Ua (other end) back)) h.out h.back ∙ free
+        ∙ ap₂ (λ (out back : List (List ℕ)). awaits_ua (station_of c j.near).link.phase && (carries Sabm end out || carries Ua (other end) back)) h.out h.back
+        ∙ free
 
-    fired : (line : List ℕ) (o : Outcome) → IsOpen line → event_in cfg.wide end line ≡ Some Fires → IsInTime c j (Some Fires) → fires c w.near ≡ o → Mirrors cfg end w (reads c j j.back (line ++ 10 ∷ []))
+    fired : (line : List ℕ) (o : Outcome) → IsOpen line → event_in cfg.wide end line ≡ Some Fires → IsInTime c j (Some Fires) → fires c w.near ≡ o
+        → Mirrors cfg end w (reads c j j.back (line ++ 10 ∷ []))
     fired line (Did step) none asks free is =
         something_happens world.Fires line step none (line_did c w.near line Fires (and_pulls c step) asks (ap (with_pulls c) is))
         (ap (λ (b : Bool). cond b (Declined error.OnLine) (of_station c w (fires c w.near))) (in_time free) ∙ ap (of_station c w) is) tt
     fired line (Refused e) none asks free is = nothing_happens line none (line_refused c w.near line Fires e asks is)
 
-    asked : (line : List ℕ) (event : Option StationEvent) → IsOpen line → event_in cfg.wide end line ≡ event → IsNoFrame event → IsInTime c j event → AsksOctets event → Mirrors cfg end w (reads c j j.back (line ++ 10 ∷ []))
+    asked : (line : List ℕ) (event : Option StationEvent) → IsOpen line → event_in cfg.wide end line ≡ event → IsNoFrame event → IsInTime c j event
+        → AsksOctets event → Mirrors cfg end w (reads c j j.back (line ++ 10 ∷ []))
     asked line None none asks no_frame free octets = nothing_happens line none (line_none c w.near line asks)
     asked line (Some (Comes x)) none asks no_frame free octets = absurd no_frame
     asked line (Some (Asks command)) none asks no_frame free octets = commanded line command (commands c w.near command) none asks octets refl
@@ -257,30 +317,36 @@ module _ (cfg : Cfg) (end : Role) (w : World) (fits : Fits w) where
     same_place place = ap (λ (back : List (List ℕ)). nat_lt place (length back)) h.back
 
     lost : (place : ℕ) (b : Bool) → nat_lt place (length j.back) ≡ b → Mirrors cfg end w (on_line j (remove j.back place))
-    lost place false is = subst (λ (back : List (List ℕ)). Mirrors cfg end w (on_line j back)) (sym (none_lost j.back place (ltb-false place (length j.back) is))) (stays h)
+    lost place false is = subst (λ (back : List (List ℕ)). Mirrors cfg end w (on_line j back))
+        (sym (none_lost j.back place (ltb-false place (length j.back) is))) (stays h)
     lost place true is =
         moves (world.Loses place) (world.on_line w (remove w.back place))
         (ap (λ (b : Bool). cond b (Happened (world.on_line w (remove w.back place))) (Declined error.NoSuchFrame)) (same_place place ∙ is)) tt
         (changed (remove w.back place) (remove j.back place) (ap (λ (back : List (List ℕ)). remove back place) h.back))
         (λ tap. record {
           out = fits.out;
-          back = All-append AreOfFrame (take place w.back) (drop (suc place) w.back) (All-take AreOfFrame place w.back fits.back) (All-drop AreOfFrame (suc place) w.back fits.back);
+          back = All-append AreOfFrame (take place w.back) (drop (suc place) w.back) (All-take AreOfFrame place w.back fits.back)
+              (All-drop AreOfFrame (suc place) w.back fits.back);
         })
 
-    damaged : (place : ℕ) (octets : List ℕ) (b : Bool) → is_visible octets ≡ true → AreOfFrame octets → nat_lt place (length j.back) ≡ b → Mirrors cfg end w (on_line j (replaced j.back place (λ _. octets)))
-    damaged place octets false seen fit is = subst (λ (back : List (List ℕ)). Mirrors cfg end w (on_line j back)) (sym (none_damaged j.back place octets (ltb-false place (length j.back) is))) (stays h)
+    damaged : (place : ℕ) (octets : List ℕ) (b : Bool) → is_visible octets ≡ true → AreOfFrame octets → nat_lt place (length j.back) ≡ b
+        → Mirrors cfg end w (on_line j (replaced j.back place (λ _. octets)))
+    damaged place octets false seen fit is = subst (λ (back : List (List ℕ)). Mirrors cfg end w (on_line j back))
+        (sym (none_damaged j.back place octets (ltb-false place (length j.back) is))) (stays h)
     damaged place octets true seen fit is =
         let there = world.on_line w (replaced w.back place (λ _. octets)) in
         moves (world.Damages place octets) there
         (ap (λ (b : Bool). cond b (cond (is_visible octets) (Happened there) (Declined error.Unseen)) (Declined error.NoSuchFrame)) (same_place place ∙ is)
         ∙ ap (λ (b : Bool). cond b (Happened there) (Declined error.Unseen)) seen) tt
-        (changed (replaced w.back place (λ _. octets)) (replaced j.back place (λ _. octets)) (ap (λ (back : List (List ℕ)). replaced back place (λ _. octets)) h.back))
+        (changed (replaced w.back place (λ _. octets)) (replaced j.back place (λ _. octets))
+        (ap (λ (back : List (List ℕ)). replaced back place (λ _. octets)) h.back))
         (λ tap. record { out = fits.out; back = replaced_fit w.back place octets fits.back fit })
 
     -- ---- each act
 
     pub act_shows : ReadsOctets → (act : Act) → IsPossible c j act → Mirrors cfg end w (acts c j act)
-    act_shows octets (Reads line) may = asked line (event_in cfg.wide end line) may.is_line refl may.is_no_frame may.in_time (asks_octets octets cfg.wide end line)
+    act_shows octets (Reads line) may = asked line (event_in cfg.wide end line) may.is_line refl may.is_no_frame may.in_time
+        (asks_octets octets cfg.wide end line)
     act_shows octets Takes may = taken j.back refl
     act_shows octets (Loses place) may = lost place (nat_lt place (length j.back)) refl
     act_shows octets (Damages place x) may = damaged place x (nat_lt place (length j.back)) may.is_seen may.fits refl

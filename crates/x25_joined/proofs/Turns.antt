@@ -10,9 +10,11 @@ use Rattle.x25_station.specs.laws.TimerLaw.{StationEvent}
 use Rattle.x25_station.specs.Timer.{standing}
 use Rattle.x25_station.specs.declared.timer.Timer.{Timer}
 use Rattle.x25_station.specs.declared.error.StationError.{StationError}
-use Rattle.x25_pipe.specs.Pipe.{Saying, enters, sends, reads_nothing, refuses, Turn, marked, standing_turn, step_told, turn_of, pulling_turn, timer_with_pulls, with_pulls, event_in, event_turn, asked_turn, turn}
+use Rattle.x25_pipe.specs.Pipe.{Saying, enters, sends, reads_nothing, refuses, Turn, marked, standing_turn, step_told, turn_of, pulling_turn, timer_with_pulls}
+use Rattle.x25_pipe.specs.Pipe.{with_pulls, event_in, event_turn, asked_turn, turn}
 use Rattle.x25_joined.specs.laws.Joined.{entries_in, frames_in}
 
+-- the entries that both parts say
 pub entries-append : (xs ys : List Saying) → entries_in (xs ++ ys) ≡ entries_in xs ++ entries_in ys
 entries-append [] ys = refl
 entries-append (enters e ∷ xs) ys = ap (λ (es : List StationEntry). e ∷ es) (entries-append xs ys)
@@ -46,7 +48,8 @@ pub record TurnIs (t : Turn) (there : Station) (es : List StationEntry) (fs : Li
   pub frames : frames_in t.sayings ≡ fs
 
 -- the mark behind what is said is neither
-marked_is : (c : Settings) (t : Timer) (s : Station) (sayings : List Saying) (entries : List StationEntry) (frames : List (List ℕ)) → entries_in sayings ≡ entries → frames_in sayings ≡ frames
+marked_is : (c : Settings) (t : Timer) (s : Station) (sayings : List Saying) (entries : List StationEntry) (frames : List (List ℕ)) → entries_in sayings
+    ≡ entries → frames_in sayings ≡ frames
     → TurnIs (marked c t s sayings) s entries frames
 marked_is c t s sayings entries frames e f = record {
   next = refl;
@@ -54,6 +57,7 @@ marked_is c t s sayings entries frames e f = record {
   frames = frames-append sayings _ ∙ append-nil (frames_in sayings) ∙ f;
 }
 
+-- as it says how it stands a program says no entry and no frame
 pub first_is : (c : Settings) (s : Station) → TurnIs (standing_turn c s) s [] []
 first_is c s = record { next = refl; entries = refl; frames = refl }
 
@@ -63,30 +67,41 @@ module _ (c : Settings) (s : Station) where
       let fs = map (spelling_of c.role) step.out in
       subst (λ (o : Outcome). TurnIs (turn_of c t s o) step.near step.entries fs) (sym is)
       (marked_is c t step.near (step_told c step) step.entries fs
-      (entries-append (map enters step.entries) (map sends fs) ∙ ap (λ (es : List StationEntry). entries_in (map enters step.entries) ++ es) (entries_sent fs) ∙ append-nil (entries_in (map enters step.entries)) ∙ entries_entered step.entries)
-      (frames-append (map enters step.entries) (map sends fs) ∙ ap (λ (xs : List (List ℕ)). xs ++ frames_in (map sends fs)) (frames_entered step.entries) ∙ frames_sent fs))
+      (entries-append (map enters step.entries) (map sends fs) ∙ ap (λ (es : List StationEntry). entries_in (map enters step.entries) ++ es) (entries_sent fs)
+      ∙ append-nil (entries_in (map enters step.entries)) ∙ entries_entered step.entries)
+      (frames-append (map enters step.entries) (map sends fs) ∙ ap (λ (xs : List (List ℕ)). xs ++ frames_in (map sends fs)) (frames_entered step.entries)
+      ∙ frames_sent fs))
 
   refused : (t : Timer) (e : StationError) (o : Outcome) → o ≡ Refused e → TurnIs (turn_of c t s o) s [] []
   refused t e o is = subst (λ (o : Outcome). TurnIs (turn_of c t s o) s [] []) (sym is) (marked_is c t s (refuses e ∷ []) [] [] refl refl)
 
-  of_asked : (line : List ℕ) (asked : Option StationEvent) (next : Station) (entries : List StationEntry) (frames : List (List ℕ)) → event_in c.wide c.role line ≡ asked → TurnIs (asked_turn c s asked) next entries frames
+  of_asked : (line : List ℕ) (asked : Option StationEvent) (next : Station) (entries : List StationEntry) (frames : List (List ℕ))
+      → event_in c.wide c.role line ≡ asked → TurnIs (asked_turn c s asked) next entries frames
       → TurnIs (turn c line s) next entries frames
   unfolding turn
   of_asked line asked next entries frames is h = subst (λ (o : Option StationEvent). TurnIs (asked_turn c s o) next entries frames) (sym is) h
 
-  of_event : (event : StationEvent) (next : Station) (entries : List StationEntry) (frames : List (List ℕ)) → TurnIs (pulling_turn c s event (timer.outcome c s event)) next entries frames
+  of_event : (event : StationEvent) (next : Station) (entries : List StationEntry) (frames : List (List ℕ))
+      → TurnIs (pulling_turn c s event (timer.outcome c s event)) next entries frames
       → TurnIs (asked_turn c s (Some event)) next entries frames
   unfolding event_turn
   of_event event next entries frames h = h
 
-  -- a line that asks for a step, which is then one with its pulls; for one that is refused; or for nothing
-
-  pub line_did : (line : List ℕ) (event : StationEvent) (step : Step) → event_in c.wide c.role line ≡ Some event → with_pulls c (timer.outcome c s event) ≡ Did step
+  -- the turn of a line that asks for a step, which is then one with its pulls
+  pub line_did : (line : List ℕ) (event : StationEvent) (step : Step) → event_in c.wide c.role line ≡ Some event → with_pulls c (timer.outcome c s event)
+      ≡ Did step
       → TurnIs (turn c line s) step.near step.entries (map (spelling_of c.role) step.out)
-  line_did line event step asks is = of_asked line (Some event) step.near step.entries (map (spelling_of c.role) step.out) asks (of_event event step.near step.entries (map (spelling_of c.role) step.out) (did (timer_with_pulls c s event (timer.outcome c s event)) step (with_pulls c (timer.outcome c s event)) is))
+  line_did line event step asks is = of_asked line (Some event) step.near step.entries (map (spelling_of c.role) step.out) asks
+      (of_event event step.near step.entries (map (spelling_of c.role) step.out)
+      (did (timer_with_pulls c s event (timer.outcome c s event)) step (with_pulls c (timer.outcome c s event)) is))
 
-  pub line_refused : (line : List ℕ) (event : StationEvent) (e : StationError) → event_in c.wide c.role line ≡ Some event → timer.outcome c s event ≡ Refused e → TurnIs (turn c line s) s [] []
-  line_refused line event e asks is = of_asked line (Some event) s [] [] asks (of_event event s [] [] (refused (timer_with_pulls c s event (timer.outcome c s event)) e (with_pulls c (timer.outcome c s event)) (ap (with_pulls c) is)))
+  -- of one that asks for what is refused
+  pub line_refused : (line : List ℕ) (event : StationEvent) (e : StationError) → event_in c.wide c.role line ≡ Some event → timer.outcome c s event ≡ Refused e
+      → TurnIs (turn c line s) s [] []
+  line_refused line event e asks is = of_asked line (Some event) s [] [] asks
+      (of_event event s [] [] (refused (timer_with_pulls c s event (timer.outcome c s event)) e (with_pulls c (timer.outcome c s event))
+      (ap (with_pulls c) is)))
 
+  -- of one that asks for nothing
   pub line_none : (line : List ℕ) → event_in c.wide c.role line ≡ None → TurnIs (turn c line s) s [] []
   line_none line asks = of_asked line None s [] [] asks (marked_is c (standing s) s (reads_nothing ∷ []) [] [] refl refl)

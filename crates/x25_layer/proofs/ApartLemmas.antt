@@ -10,7 +10,8 @@ use Rattle.x25_layer.specs.Calls.{LayerOutcome, Accepted, Declined, layer_outcom
 use Rattle.x25_layer.specs.laws.TwoLayers as world
 use Rattle.x25_layer.specs.laws.TwoLayers.{End, TwoLayers, requested, pulled_in, handed_up, moves_in, moves, turned, settings_of, EndMove, happens, run, start}
 use Rattle.x25_layer.specs.laws.Law.{Always, KeepsOrder}
-use Rattle.x25_layer.specs.laws.Apart.{OwnMove, Requests, Pulls, Takes, GoesDown, as_move, coming, alone, own_moves, own_run, Ends, ApartEvent, apart_happens, apart_run, ends_of, IsNext, IsInOrder, AreInOrder, over_links, all_over_links, as_world, AlwaysApart}
+use Rattle.x25_layer.specs.laws.Apart.{OwnMove, Requests, Pulls, Takes, GoesDown, as_move, coming, alone, own_moves, own_run, Ends, ApartEvent, apart_happens}
+use Rattle.x25_layer.specs.laws.Apart.{apart_run, ends_of, IsNext, IsInOrder, AreInOrder, over_links, all_over_links, as_world, AlwaysApart}
 use Rattle.x25_layer.specs.laws.ApartLaw.{IsOverLinks, AreByThemselves, OwnMovesDecide, StaysDown, EventsRunOn}
 
 -- ---- own moves alone decide
@@ -18,7 +19,8 @@ use Rattle.x25_layer.specs.laws.ApartLaw.{IsOverLinks, AreByThemselves, OwnMoves
 abbrev pub event : Bool → OwnMove → ApartEvent
 event first what = record { first = first; what = what }
 
-one_decides : (long_data : Bool) (channels : Ranges) (first : Bool) (what : OwnMove) (es : List ApartEvent) (ends : Ends) → ((next : Ends) → AreByThemselves long_data channels es next)
+one_decides : (long_data : Bool) (channels : Ranges) (first : Bool) (what : OwnMove) (es : List ApartEvent) (ends : Ends)
+    → ((next : Ends) → AreByThemselves long_data channels es next)
     → AreByThemselves long_data channels (event first what ∷ es) ends
 one_decides long_data channels true what es ends rest =
     let r = rest (record { near = own_moves (settings_of Dte long_data channels) ends.near what; far = ends.far }) in record { near = r.near; far = r.far }
@@ -37,7 +39,8 @@ events_run_on long_data channels (e ∷ done) es ends =
 
 stays_out : (c : LayerSettings) (e : End) (own : List OwnMove) → e.is_out ≡ true → own_run c own e ≡ e
 stays_out c e [] out = refl
-stays_out c e (what ∷ own) out = ap (λ (v : End). own_run c own v) (ap (λ (b : Bool). (moves_in c (alone e (coming what)) b (as_move what)).near) out) ∙ stays_out c e own out
+stays_out c e (what ∷ own) out = ap (λ (v : End). own_run c own v) (ap (λ (b : Bool). (moves_in c (alone e (coming what)) b (as_move what)).near) out)
+    ∙ stays_out c e own out
 
 down_is_out : (c : LayerSettings) (e : End) (gone : Bool) → e.is_out ≡ gone → (own_moves c e GoesDown).is_out ≡ true
 down_is_out c e true is = ap (λ (b : Bool). (moves_in c (alone e []) b world.GoesDown).near.is_out) is ∙ is
@@ -53,9 +56,11 @@ front : (taken back given : List PlainPacket) (p : PlainPacket) → given ≡ ta
 front taken back given p order next = append_cancel_left taken back (p ∷ next.0) (sym order ∙ sym next.1 ∙ append_assoc taken (p ∷ []) next.0)
 
 abbrev Agrees : LayerSettings → TwoLayers → Bool → OwnMove → Type 0
-Agrees c w gone what = ((moves_in c (alone w.near (coming what)) gone (as_move what)).near ≡ (moves_in c w gone (as_move what)).near) × ((moves_in c w gone (as_move what)).far ≡ w.far)
+Agrees c w gone what = ((moves_in c (alone w.near (coming what)) gone (as_move what)).near ≡ (moves_in c w gone (as_move what)).near)
+    × ((moves_in c w gone (as_move what)).far ≡ w.far)
 
-agrees : (c : LayerSettings) (w : TwoLayers) (what : OwnMove) (gone : Bool) → w.near.is_out ≡ gone → KeepsOrder w → IsNext w.near w.far what → Agrees c w gone what
+agrees : (c : LayerSettings) (w : TwoLayers) (what : OwnMove) (gone : Bool) → w.near.is_out ≡ gone → KeepsOrder w → IsNext w.near w.far what
+    → Agrees c w gone what
 agrees c w what true is order next = (refl, refl)
 agrees c w (Requests full request) false is order next = by (layer_outcome c full w.near.layer request)
   where
@@ -65,7 +70,8 @@ agrees c w (Requests full request) false is order next = by (layer_outcome c ful
 agrees c w (Pulls h) false is order next = by (is_channel c.channels h)
   where
     by : (b : Bool)
-        → ((if b then pulled_in (alone w.near []) (layer_pulled c w.near.layer h) else alone w.near []).near ≡ (if b then pulled_in w (layer_pulled c w.near.layer h) else w).near)
+        → ((if b then pulled_in (alone w.near []) (layer_pulled c w.near.layer h) else alone w.near []).near
+        ≡ (if b then pulled_in w (layer_pulled c w.near.layer h) else w).near)
         × ((if b then pulled_in w (layer_pulled c w.near.layer h) else w).far ≡ w.far)
     by true = (refl, refl)
     by false = (refl, refl)
@@ -88,7 +94,8 @@ event_agrees long_data channels w false what order next =
     let same = agrees (settings_of Dce long_data channels) (turned w) what w.far.is_out refl (record { near = order.far; far = order.near }) next in
     ap₂ both (sym same.1) same.0
 
-run_agrees : (long_data : Bool) (channels : Ranges) (es : List ApartEvent) (w : TwoLayers) → ((behind : List EndMove) → KeepsOrder (run long_data channels behind w)) → AreInOrder long_data channels es (ends_of w)
+run_agrees : (long_data : Bool) (channels : Ranges) (es : List ApartEvent) (w : TwoLayers)
+    → ((behind : List EndMove) → KeepsOrder (run long_data channels behind w)) → AreInOrder long_data channels es (ends_of w)
     → apart_run long_data channels es (ends_of w) ≡ ends_of (run long_data channels (all_over_links es) w)
 run_agrees long_data channels [] w order next = refl
 run_agrees long_data channels (e ∷ es) w order next =
@@ -112,5 +119,7 @@ apart_is_over_links long_data channels order es next =
     ap as_world (run_agrees long_data channels es (start long_data channels) order next)
     ∙ ends_are_the_world (run long_data channels (all_over_links es) (start long_data channels)) (order (all_over_links es))
 
-pub always_apart : (P : TwoLayers → Type 0) (long_data : Bool) (channels : Ranges) → IsOverLinks long_data channels → Always P long_data channels → AlwaysApart P long_data channels
+-- what holds of two layers over links holds of two apart, where these are such two
+pub always_apart : (P : TwoLayers → Type 0) (long_data : Bool) (channels : Ranges) → IsOverLinks long_data channels → Always P long_data channels
+    → AlwaysApart P long_data channels
 always_apart P long_data channels same holds es next = subst P (sym (same es next)) (holds (all_over_links es))

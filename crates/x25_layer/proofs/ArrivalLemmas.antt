@@ -6,7 +6,7 @@ use Rattle.x25_handshakes.specs.laws.Terms.{Terms}
 use Rattle.x25_circuit.specs.Circuit.{Circuit, is_open, waits}
 use Rattle.x25_handshakes.specs.laws.Handshake.{Side, Live, Left, At, state_of}
 use Rattle.x25_handshakes.specs.laws.Stretch.{Stretch}
-use Rattle.x25_handshakes.specs.laws.Calls.{Phase, Unused, Waiting, Offered, Crossed, Talking, Connection}
+use Rattle.x25_handshakes.specs.laws.Calls.{Phase, Talking, Connection}
 use Rattle.x25_handshakes.specs.laws.Layers.{Channels}
 use Rattle.x25_handshakes.specs.laws.Names.{Name}
 use Rattle.x25_handshakes.specs.laws.Histories.{Lists, messages, interrupts, held_in, name_at, held_at}
@@ -45,17 +45,16 @@ false_true e = cc
 open_circuit : (a : Agreed) (x : At Connection) → is_open (view a x) ≡ true → OpenCircuit a x
 open_circuit a x is = side x.epoch x.side is
   where
-    transfer : (e : ℕ) (c : Connection) (t b : Terms) (s : ℕ) (z : Side Stretch) → let y : At Connection = record { epoch = e; side = Live (record { phase = Talking t b (record { epoch = s; side = z }); made = c.made; indicated = c.indicated }) } in
+    transfer : (e : ℕ) (c : Connection) (t b : Terms) (s : ℕ) (z : Side Stretch) → let y : At Connection =
+        record { epoch = e; side = Live (record { phase = Talking t b (record { epoch = s; side = z }); made = c.made; indicated = c.indicated }) } in
         is_open (view a y) ≡ true → OpenCircuit a y
     transfer e c t b s (Live x) opened = record { stretch = x; opened = refl; talk = refl; no_more = refl; messages_held = refl; interrupts_held = refl }
     transfer e c t b s (Left x) opened = absurd (false_true opened)
 
-    phase : (e : ℕ) (c : Connection) (p : Phase) → let y : At Connection = record { epoch = e; side = Live (record { phase = p; made = c.made; indicated = c.indicated }) } in is_open (view a y) ≡ true → OpenCircuit a y
+    phase : (e : ℕ) (c : Connection) (p : Phase) → let y : At Connection =
+        record { epoch = e; side = Live (record { phase = p; made = c.made; indicated = c.indicated }) } in is_open (view a y) ≡ true → OpenCircuit a y
     phase e c (Talking t b at) opened = transfer e c t b at.epoch at.side opened
-    phase e c Unused opened = absurd (false_true opened)
-    phase e c (Waiting mine) opened = absurd (false_true opened)
-    phase e c (Offered theirs) opened = absurd (false_true opened)
-    phase e c (Crossed mine) opened = absurd (false_true opened)
+    phase e c p opened = absurd (false_true opened)
 
     side : (e : ℕ) (z : Side Connection) → is_open (view a (record { epoch = e; side = z })) ≡ true → OpenCircuit a (record { epoch = e; side = z })
     side e (Live c) opened = phase e c c.phase opened
@@ -71,11 +70,13 @@ pub record OpenEnd (e : End) (s : Side (At Channels)) (k : ℕ) : Type 0 where
   pub messages_held : held_at messages (state_of s) k ≡ record { down = stretch.down; up = stretch.up }
   pub interrupts_held : held_at interrupts (state_of s) k ≡ record { down = stretch.int_down; up = stretch.int_up }
 
+-- an end with an open channel is in a stretch there
 pub open_end : (most : ℕ) (e : End) (s : Side (At Channels)) (k : ℕ) → SeesEnd most e s → is_open (e.layer.circuits k) ≡ true → OpenEnd e s k
 open_end most e (Left z) k sees opened = absurd (false_true (sym (ap (λ (l : Layer). is_open (l.circuits k)) sees.1) ∙ opened))
 open_end most e (Live z) k sees opened = ready z.epoch z.side sees.1.restarts sees.1.circuits
   where
-    ready : (epoch : ℕ) (y : Side Channels) → e.layer.restarts ≡ epoch → ((j : ℕ) → ShowsAt most y j (e.layer.circuits j)) → OpenEnd e (Live (record { epoch = epoch; side = y })) k
+    ready : (epoch : ℕ) (y : Side Channels) → e.layer.restarts ≡ epoch → ((j : ℕ) → ShowsAt most y j (e.layer.circuits j))
+        → OpenEnd e (Live (record { epoch = epoch; side = y })) k
     ready epoch (Left x) same each = absurd (false_true (sym (ap is_open (each k)) ∙ opened))
     ready epoch (Live x) same each =
         let o : OpenCircuit (each k).agreed (x k) = open_circuit (each k).agreed (x k) (sym (ap is_open (each k).is) ∙ opened) in
@@ -84,7 +85,8 @@ open_end most e (Live z) k sees opened = ready z.epoch z.side sees.1.restarts se
           opened = o.opened;
           talk = ap (λ (c : Circuit). c.talk) (each k).is ∙ o.talk;
           no_more = ap waits (each k).is ∙ o.no_more;
-          named = name_eq (name_of e.layer k) (name_at messages (record { epoch = epoch; side = Live x }) k) same (ap (λ (c : Circuit). c.clears) (each k).is) (ap (λ (c : Circuit). c.resets) (each k).is);
+          named = name_eq (name_of e.layer k) (name_at messages (record { epoch = epoch; side = Live x }) k) same (ap (λ (c : Circuit). c.clears) (each k).is)
+              (ap (λ (c : Circuit). c.resets) (each k).is);
           messages_held = o.messages_held;
           interrupts_held = o.interrupts_held;
         }
@@ -94,7 +96,8 @@ pub record AtPresent (e : End) (s : Side (At Channels)) (k : ℕ) : Type 0 where
   pub of_messages : messages_in (under k (name_at messages (state_of s) k) e.entries) ≡ held_at messages (state_of s) k
   pub of_interrupts : interrupts_in (under k (name_at messages (state_of s) k) e.entries) ≡ held_at interrupts (state_of s) k
 
-pub has_all : (most : ℕ) (e f : End) (s u : Side (At Channels)) (k acked : ℕ) → SeesEnd most e s → SeesEnd most f u → AtPresent e s k → AtPresent f u k → IsIdleTo k e f acked
+pub has_all : (most : ℕ) (e f : End) (s u : Side (At Channels)) (k acked : ℕ) → SeesEnd most e s → SeesEnd most f u → AtPresent e s k → AtPresent f u k
+    → IsIdleTo k e f acked
     → ((x y : Stretch) → open_at s k ≡ Some x → open_at u k ≡ Some y → name_at messages (state_of s) k ≡ name_at messages (state_of u) k → HasArrived x y)
     → HasAllOf k (name_of e.layer k) e.entries f.entries
 has_all most e f s u k acked sees there at at_there idle arrives =
@@ -111,5 +114,6 @@ has_all most e f s u k acked sees there at at_there idle arrives =
       interrupts =
           ap (λ (n : Name). (interrupts_in (under k n f.entries)).up) here ∙ ap (λ (l : Lists (List ℕ)). l.up) (at_there.of_interrupts ∙ p.interrupts_held)
           ∙ all.interrupts
-          ∙ sym (ap (λ (n : Name). (interrupts_in (under k n e.entries)).down) o.named ∙ ap (λ (l : Lists (List ℕ)). l.down) (at.of_interrupts ∙ o.interrupts_held));
+          ∙ sym (ap (λ (n : Name). (interrupts_in (under k n e.entries)).down) o.named
+          ∙ ap (λ (l : Lists (List ℕ)). l.down) (at.of_interrupts ∙ o.interrupts_held));
     }

@@ -1,12 +1,14 @@
 -- Channels in rising order.
-use Rattle.std.proofs.Common.{◌≡◌, ◌⊎◌, inl, inr, ℕ, zero, suc, ◌+◌, ◌-◌, ◌<◌, ◌≤◌, List, length, Result, Ok, Err, MatchResult, Bool, true, false, if◌then◌else◌, get_or, refl, sym, ap, subst, ◌∙◌, arith}
+use Rattle.std.proofs.Common.{◌≡◌, ◌⊎◌, inl, inr, ℕ, zero, suc, ◌+◌, ◌-◌, ◌<◌, ◌≤◌, List, length, Result, Ok, Err, MatchResult, Bool, true, false}
+use Rattle.std.proofs.Common.{if◌then◌else◌, get_or, refl, sym, ap, subst, ◌∙◌, arith}
 use Rattle.std.specs.Prelude.{IsOk}
 use Rattle.std.specs.Result.{is_ok, is_err}
 use Rattle.std.specs.List.{insert, remove}
 use Rattle.std.specs.List.Sorted.{IsBinarySearchResult}
 use Rattle.std.specs.Ordering.{nat_cmp}
 use Rattle.std.proofs.lemmas.List.Sorted.{searched}
-use Rattle.std.proofs.lemmas.List.Edits.{length-insert, get_or-insert_below, get_or-insert_at, get_or-insert_above, length-remove, get_or-remove_below, get_or-remove_above}
+use Rattle.std.proofs.lemmas.List.Edits.{length-insert, get_or-insert_below, get_or-insert_at, get_or-insert_above, length-remove, get_or-remove_below}
+use Rattle.std.proofs.lemmas.List.Edits.{get_or-remove_above}
 use Rattle.x25_circuit.specs.declared.circuit.Circuit as circuit_code
 use Rattle.x25_circuit.specs.Awaits.{awaited_in, is_any}
 use Rattle.x25_circuit.specs.Circuit.{Circuit, waits}
@@ -62,7 +64,8 @@ module _ (most : ℕ) (hs : List ℕ) (r : AreRising most hs) where
 
   -- what a search for a channel found
   pub found : (vs : List ℕ) (h : ℕ) (o : Result ℕ ℕ) → vs ≡ hs → IsBinarySearchResult (λ y. nat_cmp y h) vs o
-      → MatchResult o (λ i. (i < length hs) × (get_or hs i 0 ≡ h)) (λ i. (i ≤ length hs) × ((k : ℕ) → k < i → get_or hs k 0 < h) × ((k : ℕ) → i ≤ k → k < length hs → h < get_or hs k 0))
+      → MatchResult o (λ i. (i < length hs) × (get_or hs i 0 ≡ h))
+      (λ i. (i ≤ length hs) × ((k : ℕ) → k < i → get_or hs k 0 < h) × ((k : ℕ) → i ≤ k → k < length hs → h < get_or hs k 0))
   found vs h o same at = searched hs h o (subst (λ (xs : List ℕ). IsBinarySearchResult (λ y. nat_cmp y h) xs o) same at) rises
 
   -- those up to the one that was found are no higher
@@ -115,15 +118,20 @@ module _ (most : ℕ) (hs : List ℕ) (r : AreRising most hs) where
         at_most i within (inr (inr more)) = let e = behind i more in let f = r.high (i - 1) (omega (arith, more, within, count)) in omega (arith, e, f)
 
         rise : (i j : ℕ) → i < j → j < length hs₂ → (i < at) ⊎ ((i ≡ at) ⊎ (at < i)) → (j < at) ⊎ ((j ≡ at) ⊎ (at < j)) → get_or hs₂ i 0 < get_or hs₂ j 0
-        rise i j less within (inl a) (inl b) = let e = before i a in let f = before j b in let g = r.rise i j less (omega (arith, b, bound)) in omega (arith, e, f, g)
-        rise i j less within (inl a) (inr (inl b)) = let e = before i a in let f = ap (λ (n : ℕ). get_or hs₂ n 0) b in let g = below i a in omega (arith, e, f, g, here)
-        rise i j less within (inl a) (inr (inr b)) = let e = before i a in let f = behind j b in let g = r.rise i (j - 1) (omega (arith, a, b)) (omega (arith, b, within, count)) in omega (arith, e, f, g)
+        rise i j less within (inl a) (inl b) = let e = before i a in let f = before j b in let g = r.rise i j less (omega (arith, b, bound)) in
+            omega (arith, e, f, g)
+        rise i j less within (inl a) (inr (inl b)) = let e = before i a in let f = ap (λ (n : ℕ). get_or hs₂ n 0) b in let g = below i a in
+            omega (arith, e, f, g, here)
+        rise i j less within (inl a) (inr (inr b)) = let e = before i a in let f = behind j b in
+            let g = r.rise i (j - 1) (omega (arith, a, b)) (omega (arith, b, within, count)) in omega (arith, e, f, g)
         rise i j less within (inr (inl a)) (inl b) = absurd (omega (arith, less, a, b))
         rise i j less within (inr (inl a)) (inr (inl b)) = absurd (omega (arith, less, a, b))
-        rise i j less within (inr (inl a)) (inr (inr b)) = let e = ap (λ (n : ℕ). get_or hs₂ n 0) a in let f = behind j b in let g = above (j - 1) (omega (arith, b)) (omega (arith, b, within, count)) in omega (arith, e, f, g, here)
+        rise i j less within (inr (inl a)) (inr (inr b)) = let e = ap (λ (n : ℕ). get_or hs₂ n 0) a in let f = behind j b in
+            let g = above (j - 1) (omega (arith, b)) (omega (arith, b, within, count)) in omega (arith, e, f, g, here)
         rise i j less within (inr (inr a)) (inl b) = absurd (omega (arith, less, a, b))
         rise i j less within (inr (inr a)) (inr (inl b)) = absurd (omega (arith, less, a, b))
-        rise i j less within (inr (inr a)) (inr (inr b)) = let e = behind i a in let f = behind j b in let g = r.rise (i - 1) (j - 1) (omega (arith, a, less)) (omega (arith, b, within, count)) in omega (arith, e, f, g)
+        rise i j less within (inr (inr a)) (inr (inr b)) = let e = behind i a in let f = behind j b in
+            let g = r.rise (i - 1) (j - 1) (omega (arith, a, less)) (omega (arith, b, within, count)) in omega (arith, e, f, g)
 
     -- and a place for it
     pub has_place : AreRising most hs₂ → length hs < most
@@ -168,19 +176,25 @@ module _ (most : ℕ) (hs : List ℕ) (r : AreRising most hs) where
       high = λ i within. at_most i within (stood i (place i at));
     }
       where
-        at_least : (i : ℕ) → i < length hs₃ → ((k : ℕ) × (get_or hs₃ i 0 ≡ get_or hs k 0) × (((i < at) × (k ≡ i)) ⊎ ((at ≤ i) × (k ≡ i + 1)))) → 1 ≤ get_or hs₃ i 0
+        at_least : (i : ℕ) → i < length hs₃ → ((k : ℕ) × (get_or hs₃ i 0 ≡ get_or hs k 0) × (((i < at) × (k ≡ i)) ⊎ ((at ≤ i) × (k ≡ i + 1)))) → 1
+            ≤ get_or hs₃ i 0
         at_least i within (k, same, inl (less, is)) = let e = r.low k (omega (arith, within, count₃, is)) in omega (arith, e, same)
         at_least i within (k, same, inr (more, is)) = let e = r.low k (omega (arith, within, count₃, is)) in omega (arith, e, same)
 
-        at_most : (i : ℕ) → i < length hs₃ → ((k : ℕ) × (get_or hs₃ i 0 ≡ get_or hs k 0) × (((i < at) × (k ≡ i)) ⊎ ((at ≤ i) × (k ≡ i + 1)))) → get_or hs₃ i 0 ≤ most
+        at_most : (i : ℕ) → i < length hs₃ → ((k : ℕ) × (get_or hs₃ i 0 ≡ get_or hs k 0) × (((i < at) × (k ≡ i)) ⊎ ((at ≤ i) × (k ≡ i + 1)))) → get_or hs₃ i 0
+            ≤ most
         at_most i within (k, same, inl (less, is)) = let e = r.high k (omega (arith, within, count₃, is)) in omega (arith, e, same)
         at_most i within (k, same, inr (more, is)) = let e = r.high k (omega (arith, within, count₃, is)) in omega (arith, e, same)
 
-        rise : (i j : ℕ) → i < j → j < length hs₃ → ((k : ℕ) × (get_or hs₃ i 0 ≡ get_or hs k 0) × (((i < at) × (k ≡ i)) ⊎ ((at ≤ i) × (k ≡ i + 1)))) → ((k : ℕ) × (get_or hs₃ j 0 ≡ get_or hs k 0) × (((j < at) × (k ≡ j)) ⊎ ((at ≤ j) × (k ≡ j + 1)))) → get_or hs₃ i 0 < get_or hs₃ j 0
-        rise i j less within (k, same, inl (a, is)) (n, same₂, inl (b, is₂)) = let e = r.rise k n (omega (arith, less, is, is₂)) (omega (arith, within, count₃, is₂)) in omega (arith, e, same, same₂)
-        rise i j less within (k, same, inl (a, is)) (n, same₂, inr (b, is₂)) = let e = r.rise k n (omega (arith, less, is, is₂)) (omega (arith, within, count₃, is₂)) in omega (arith, e, same, same₂)
+        rise : (i j : ℕ) → i < j → j < length hs₃ → ((k : ℕ) × (get_or hs₃ i 0 ≡ get_or hs k 0) × (((i < at) × (k ≡ i)) ⊎ ((at ≤ i) × (k ≡ i + 1))))
+            → ((k : ℕ) × (get_or hs₃ j 0 ≡ get_or hs k 0) × (((j < at) × (k ≡ j)) ⊎ ((at ≤ j) × (k ≡ j + 1)))) → get_or hs₃ i 0 < get_or hs₃ j 0
+        rise i j less within (k, same, inl (a, is)) (n, same₂, inl (b, is₂)) =
+            let e = r.rise k n (omega (arith, less, is, is₂)) (omega (arith, within, count₃, is₂)) in omega (arith, e, same, same₂)
+        rise i j less within (k, same, inl (a, is)) (n, same₂, inr (b, is₂)) =
+            let e = r.rise k n (omega (arith, less, is, is₂)) (omega (arith, within, count₃, is₂)) in omega (arith, e, same, same₂)
         rise i j less within (k, same, inr (a, is)) (n, same₂, inl (b, is₂)) = absurd (omega (arith, less, a, b))
-        rise i j less within (k, same, inr (a, is)) (n, same₂, inr (b, is₂)) = let e = r.rise k n (omega (arith, less, is, is₂)) (omega (arith, within, count₃, is₂)) in omega (arith, e, same, same₂)
+        rise i j less within (k, same, inr (a, is)) (n, same₂, inr (b, is₂)) =
+            let e = r.rise k n (omega (arith, less, is, is₂)) (omega (arith, within, count₃, is₂)) in omega (arith, e, same, same₂)
 
     -- any other that is outside of these was so before
     pub outside_without : (k : ℕ) → (k ≡ get_or hs at 0 → ⊥) → IsOutside hs₃ k → IsOutside hs k
@@ -191,7 +205,8 @@ module _ (most : ℕ) (hs : List ℕ) (r : AreRising most hs) where
         by (inr (inl same)) = differs (sym is ∙ ap (λ (n : ℕ). get_or hs n 0) same)
         by (inr (inr more)) =
             let back : (i - 1) + 1 ≡ i = omega (arith, more) in
-            out (i - 1) (omega (arith, more, within, count₃)) (get_or-remove_above hs at 0 (i - 1) (omega (arith, more)) bound ∙ ap (λ (n : ℕ). get_or hs n 0) back ∙ is)
+            out (i - 1) (omega (arith, more, within, count₃))
+            (get_or-remove_above hs at 0 (i - 1) (omega (arith, more)) bound ∙ ap (λ (n : ℕ). get_or hs n 0) back ∙ is)
 
 -- all are up to a channel
 pub none_behind : (hs : List ℕ) (at h : ℕ) → ((i : ℕ) → i < at → get_or hs i 0 ≤ h) → at ≡ length hs → (k : ℕ) → h < k → IsOutside hs k
@@ -239,7 +254,8 @@ module _ (c : LayerSettings) (vs : List circuit_code.Circuit) (hs : List ℕ) (f
     awaited_past =
         ap (λ (k : ℕ). awaited_up_to f k) behind_is
         ∙ past (λ k. awaited_up_to f k) (λ k. if is_any (awaited_in (f k).state) then 1 else 0) (λ k. refl) (i - n) n
-        (λ k more less. ap (λ (b : Bool). if b then 1 else 0) (idle_on k (omega (arith, more)) (omega (arith, less, up, high)) (out k more (omega (arith, less, up)))).1)
+        (λ k more less. ap (λ (b : Bool). if b then 1 else 0)
+        (idle_on k (omega (arith, more)) (omega (arith, less, up, high)) (out k more (omega (arith, less, up)))).1)
 
 -- no answer is awaited on a channel that isn't one of the busy ones
 pub none_awaited : (c : LayerSettings) (v : code.Layer) (l : Layer) → FitsLayer c v l → (k : ℕ) → IsOutside v.busy.channels.items k → awaited_at c l k ≡ Nothing
@@ -256,4 +272,6 @@ none_awaited c v l fits k out = by (is_channel c.channels k) refl
     by true is =
         let within = configured c.channels.count k is in
         let channels = fits.channels in
-        not_any (awaited_in (l.circuits k).state) (idle_on c v.circuits.items v.busy.channels.items l.circuits fits.circuits v.still k within.0 (let high = within.1 in omega (arith, high, channels)) out).1
+        not_any (awaited_in (l.circuits k).state)
+        (idle_on c v.circuits.items v.busy.channels.items l.circuits fits.circuits v.still k within.0
+        (let high = within.1 in omega (arith, high, channels)) out).1

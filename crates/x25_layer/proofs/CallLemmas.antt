@@ -1,5 +1,6 @@
 -- The calls of the user: the circuit of a channel is asked, and its packet goes on that channel.
-use Rattle.std.proofs.Common.{◌≡◌, ◌≢◌, ◌⊎◌, inl, inr, OnOk, ℕ, suc, ◌-◌, ◌<◌, ◌≤◌, List, [], length, Option, Some, None, Bool, true, false, nat_le, ◌==◌, if◌then◌else◌, get_or, set, refl, sym, ap, subst, ◌∙◌, arith, Result, Ok, Err, IsErrAnd}
+use Rattle.std.proofs.Common.{◌≡◌, ◌≢◌, ◌⊎◌, inl, inr, OnOk, ℕ, suc, ◌-◌, ◌<◌, ◌≤◌, List, [], length, Option, Some, None, Bool, true, false, nat_le}
+use Rattle.std.proofs.Common.{if◌then◌else◌, get_or, set, refl, sym, ap, subst, ◌∙◌, arith, Result, Ok, Err, IsErrAnd}
 use Rattle.std.proofs.Math.ListN.{length-set}
 use Rattle.std.proofs.lemmas.Bool.{leb-true, and_parts}
 use Rattle.x25_circuit.specs.declared.requested.Requested.{Requested}
@@ -9,7 +10,7 @@ use Rattle.x25_circuit.specs.declared.circuit.Circuit as circuit_code
 use Rattle.x25_circuit.specs.declared.error.CircuitError.{CircuitError}
 use Rattle.x25_circuit.specs.declared.error.CircuitError.TheVariants as circuit_error
 use Rattle.x25_circuit.specs.Circuit.{Circuit}
-use Rattle.x25_circuit.specs.Calling.{Outcome, Done, Refused, Request, Calls, Accepts, Clears, Sends, Interrupts, Resets, SaysReady, SaysNotReady, outcome}
+use Rattle.x25_circuit.specs.Calling.{Outcome, Done, Refused, Request, Calls, Accepts, Sends, outcome}
 use Rattle.x25_circuit.specs.code.Replies.{plain_sent}
 use Rattle.x25_circuit.specs.Request.{refusal_of, asks_memory, may_ask_memory, AnswersRequest, MayPut}
 use Rattle.x25_circuit.specs.code.FitsCircuit.{FitsCircuit}
@@ -19,7 +20,8 @@ use Rattle.x25_layer.specs.declared.error.LayerError.{LayerError}
 use Rattle.x25_layer.specs.declared.error.LayerError.TheVariants as error
 use Rattle.x25_layer.specs.Error.{of_circuit}
 use Rattle.x25_layer.specs.Layer.{LayerSettings, Layer, is_channel, put_at, packet_on, is_ready, restarting_from}
-use Rattle.x25_layer.specs.Calls.{LayerRequest, Asks, Dials, Restarts, LayerOutcome, Accepted, Declined, free_channel, puts_at_once, where_room, if_at_once, dialled, restarted_for, outcome_in, layer_outcome, outcome_on, asked_where, declined_for}
+use Rattle.x25_layer.specs.Calls.{LayerRequest, Asks, Dials, Restarts, LayerOutcome, Accepted, Declined, free_channel, puts_at_once, where_room, if_at_once}
+use Rattle.x25_layer.specs.Calls.{dialled, restarted_for, outcome_in, layer_outcome, outcome_on, asked_where, declined_for}
 use Rattle.x25_circuit.specs.Cause.{may_restart_for}
 use Rattle.x25_layer.specs.code.FitsLayer.{FitsCircuits, FitsLayer}
 use Rattle.x25_layer.specs.code.Answering.{spelled, Gives, Does, Answers}
@@ -28,11 +30,13 @@ use Rattle.x25_layer.specs.Asking.{with_circuit, AsksCircuit, refusal_on}
 use Rattle.x25_layer.proofs.FitLemmas.{read_at}
 use Rattle.x25_layer.proofs.PullLemmas.{fits_put, fits_same}
 
+-- a channel's number is from 1 to their count
 pub configured : (n h : ℕ) → is_number n h ≡ true → (1 ≤ h) × (h ≤ n)
 configured n h is = (leb-true 1 h (and_parts (nat_le 1 h) (nat_le h n) is).0, leb-true h n (and_parts (nat_le 1 h) (nat_le h n) is).1)
 
 -- the circuit that a look-up for a channel finds
-pub found_at : (c : LayerSettings) (v : code.Layer) (l : Layer) (h place : ℕ) (x : circuit_code.Circuit) → FitsLayer c v l → is_number (length v.circuits.items) h ≡ true → place ≡ h → x ≡ get_or v.circuits.items (place - 1) x
+pub found_at : (c : LayerSettings) (v : code.Layer) (l : Layer) (h place : ℕ) (x : circuit_code.Circuit) → FitsLayer c v l
+    → is_number (length v.circuits.items) h ≡ true → place ≡ h → x ≡ get_or v.circuits.items (place - 1) x
     → (suc (place - 1) ≡ h) × FitsCircuit c.circuit x (l.circuits h)
 found_at c v l h place x fits is same read =
     let within = configured (length v.circuits.items) h is in
@@ -63,7 +67,8 @@ layer_same c v v₂ l like items fits = record {
   circuits = subst (λ (vs : List circuit_code.Circuit). FitsCircuits c vs l.circuits) (sym items) fits.circuits;
 }
 
-pub layer_put : (c : LayerSettings) (v v₂ : code.Layer) (l : Layer) (h : ℕ) (i : ℕ) (y : circuit_code.Circuit) (next : Circuit) → FitsLayer c v l → suc i ≡ h → IsLike v v₂ → v₂.circuits.items ≡ set v.circuits.items i y
+pub layer_put : (c : LayerSettings) (v v₂ : code.Layer) (l : Layer) (h : ℕ) (i : ℕ) (y : circuit_code.Circuit) (next : Circuit) → FitsLayer c v l → suc i ≡ h
+    → IsLike v v₂ → v₂.circuits.items ≡ set v.circuits.items i y
     → FitsCircuit c.circuit y next → FitsLayer c v₂ (with_circuit l h next)
 layer_put c v v₂ l h i y next fits at like items fit = record {
   role = like.role ∙ fits.role;
@@ -74,10 +79,12 @@ layer_put c v v₂ l h i y next fits at like items fit = record {
   restarting = like.restarting ∙ fits.restarting;
   restarts = like.restarts ∙ fits.restarts;
   circuits = subst (λ (vs : List circuit_code.Circuit). FitsCircuits c vs (put_at l.circuits h next)) (sym items)
-      (subst (λ (k : ℕ). FitsCircuits c (set v.circuits.items i y) (put_at l.circuits k next)) at (fits_put c v.circuits.items l.circuits i y next fits.circuits fit));
+      (subst (λ (k : ℕ). FitsCircuits c (set v.circuits.items i y) (put_at l.circuits k next)) at
+      (fits_put c v.circuits.items l.circuits i y next fits.circuits fit));
 }
 
-pub layer_kept : (c : LayerSettings) (v v₂ : code.Layer) (l : Layer) (h i : ℕ) (y : circuit_code.Circuit) → FitsLayer c v l → suc i ≡ h → IsLike v v₂ → v₂.circuits.items ≡ set v.circuits.items i y
+pub layer_kept : (c : LayerSettings) (v v₂ : code.Layer) (l : Layer) (h i : ℕ) (y : circuit_code.Circuit) → FitsLayer c v l → suc i ≡ h → IsLike v v₂
+    → v₂.circuits.items ≡ set v.circuits.items i y
     → FitsCircuit c.circuit y (l.circuits h) → FitsLayer c v₂ l
 layer_kept c v v₂ l h i y fits at like items fit = record {
   role = like.role ∙ fits.role;
@@ -93,18 +100,15 @@ layer_kept c v v₂ l h i y fits at like items fit = record {
 
 -- ---- what the circuit answers
 
-pub asks_ok : (c : LayerSettings) (v v₂ : code.Layer) (l : Layer) (h i : ℕ) (y : circuit_code.Circuit) (packet : Option Requested) (o : Outcome) → FitsLayer c v l → suc i ≡ h → IsLike v v₂ → v₂.circuits.items ≡ set v.circuits.items i y
+pub asks_ok : (c : LayerSettings) (v v₂ : code.Layer) (l : Layer) (h i : ℕ) (y : circuit_code.Circuit) (packet : Option Requested) (o : Outcome)
+    → FitsLayer c v l → suc i ≡ h → IsLike v v₂ → v₂.circuits.items ≡ set v.circuits.items i y
     → AnswersRequest c.circuit y (Ok packet) o → AsksCircuit c v₂ (Ok packet) l h o
 asks_ok c v v₂ l h i y packet (Done next p) fits at like items a = (layer_put c v v₂ l h i y next fits at like items a.0, a.1)
 asks_ok c v v₂ l h i y packet (Refused e) fits at like items a = cc
 
 named : (e : CircuitError) → (e ≡ circuit_error.NoMemory → ⊥) → of_circuit e ≡ error.Circuit e
-named circuit_error.WrongState other = refl
-named circuit_error.Full other = refl
-named circuit_error.TooLong other = refl
-named circuit_error.InterruptOutstanding other = refl
-named circuit_error.BadParameter other = refl
 named circuit_error.NoMemory other = absurd (other refl)
+named e other = refl
 
 circuit_err_is : (e f : CircuitError) → ◌≡◌ {A = Result (Option Requested) CircuitError} (Err e) (Err f) → e ≡ f
 circuit_err_is e f same = cc
@@ -114,14 +118,11 @@ some_is_none e is = cc
 
 -- want of memory of the layer is that of its circuit
 pub memory_is : (e : CircuitError) → of_circuit e ≡ error.NoMemory → e ≡ circuit_error.NoMemory
-memory_is circuit_error.WrongState is = absurd (cc)
-memory_is circuit_error.Full is = absurd (cc)
-memory_is circuit_error.TooLong is = absurd (cc)
-memory_is circuit_error.InterruptOutstanding is = absurd (cc)
-memory_is circuit_error.BadParameter is = absurd (cc)
 memory_is circuit_error.NoMemory is = refl
+memory_is e is = absurd (cc)
 
-pub asks_err : (c : LayerSettings) (v : code.Layer) (l : Layer) (h : ℕ) (y : circuit_code.Circuit) (e : CircuitError) (o : Outcome) → AnswersRequest c.circuit y (Err e) o → (e ≡ circuit_error.NoMemory → refusal_of o ≡ None)
+pub asks_err : (c : LayerSettings) (v : code.Layer) (l : Layer) (h : ℕ) (y : circuit_code.Circuit) (e : CircuitError) (o : Outcome)
+    → AnswersRequest c.circuit y (Err e) o → (e ≡ circuit_error.NoMemory → refusal_of o ≡ None)
     → AsksCircuit c v (Err (of_circuit e)) l h o
 asks_err c v l h y e (Done next p) a accepted = ap of_circuit a
 asks_err c v l h y e (Refused f) a accepted =
@@ -134,7 +135,8 @@ pub record IsAccepted (c : LayerSettings) (v : code.Layer) (l : Layer) (h : ℕ)
   pub fits : FitsLayer c v next
   pub accepted : outcome_on l.restarts l.circuits h o ≡ Accepted next (packet_on h (plain_sent packet))
 
-pub is_accepted : (c : LayerSettings) (v : code.Layer) (l : Layer) (h : ℕ) (packet : Option Requested) (o : Outcome) → l.restarting ≡ false → AsksCircuit c v (Ok packet) l h o → IsAccepted c v l h packet o
+pub is_accepted : (c : LayerSettings) (v : code.Layer) (l : Layer) (h : ℕ) (packet : Option Requested) (o : Outcome) → l.restarting ≡ false
+    → AsksCircuit c v (Ok packet) l h o → IsAccepted c v l h packet o
 is_accepted c v l h packet (Done next p) ready a = record {
   next = is_ready l.restarts (put_at l.circuits h next);
   fits = subst (λ (b : Bool). FitsLayer c v (record { restarting = b; restarts = l.restarts; circuits = put_at l.circuits h next })) ready a.0;
@@ -143,21 +145,17 @@ is_accepted c v l h packet (Done next p) ready a = record {
 is_accepted c v l h packet (Refused e) ready a = cc
 
 -- what an accepted call of the circuit leaves, with its packet to be put
-pub accepted : (T : Type 0) (u : T) (c : LayerSettings) (v v₂ : code.Layer) (l : Layer) (h : ℕ) (packet : Option Requested) (o : Outcome) → IsAccepted c v l h packet o → IsLike v v₂ → v₂.circuits.items ≡ v.circuits.items
+pub accepted : (T : Type 0) (u : T) (c : LayerSettings) (v v₂ : code.Layer) (l : Layer) (h : ℕ) (packet : Option Requested) (o : Outcome)
+    → IsAccepted c v l h packet o → IsLike v v₂ → v₂.circuits.items ≡ v.circuits.items
     → v₂.sheet ≡ spelled (packet_on h (plain_sent packet)) → Gives c v₂ (Ok u) (outcome_on l.restarts l.circuits h o)
 accepted T u c v v₂ l h packet o a like items put =
     subst (λ (r : LayerOutcome). Gives c v₂ (Ok u) r) (sym a.accepted) (layer_same c v v₂ a.next like items a.fits, put)
 
 -- a message puts none at once
-pub put_later : (request : Request) (h : ℕ) (packet : Option Requested) (octets : List ℕ) → MayPut request packet → octets ≡ spelled (packet_on h (plain_sent packet)) → puts_at_once request ≡ false → octets ≡ []
+pub put_later : (request : Request) (h : ℕ) (packet : Option Requested) (octets : List ℕ) → MayPut request packet → octets
+    ≡ spelled (packet_on h (plain_sent packet)) → puts_at_once request ≡ false → octets ≡ []
 put_later (Sends marks user) h packet octets none put later = put ∙ ap (λ (o : Option Requested). spelled (packet_on h (plain_sent o))) none
-put_later (Calls called calling user proposal) h packet octets may put later = absurd (cc)
-put_later (Accepts answer) h packet octets may put later = absurd (cc)
-put_later (Clears cause diagnostic) h packet octets may put later = absurd (cc)
-put_later (Interrupts user) h packet octets may put later = absurd (cc)
-put_later (Resets cause diagnostic) h packet octets may put later = absurd (cc)
-put_later SaysReady h packet octets may put later = absurd (cc)
-put_later SaysNotReady h packet octets may put later = absurd (cc)
+put_later request h packet octets may put later = absurd (cc)
 
 -- so that a link that is full only for what is put at once takes what is to be put
 pub takes_it : (b full : Bool) (octets : List ℕ) → (b ≡ true → full ≡ false) → (b ≡ false → octets ≡ []) → (octets ≡ []) ⊎ (full ≡ false)
@@ -173,7 +171,8 @@ on_ok_then (Ok x) by p = by p
 on_ok_then (Err e) by p = tt
 
 -- a refusal of the circuit is one of the layer, as it is handed on
-pub declined : {T : Type 0} (r : Result T LayerError) (c : LayerSettings) (v v₂ : code.Layer) (l : Layer) (h : ℕ) (e : LayerError) (o : Outcome) → AsksCircuit c v (Err e) l h o → IsErrAnd r (λ f. f ≡ e)
+pub declined : {T : Type 0} (r : Result T LayerError) (c : LayerSettings) (v v₂ : code.Layer) (l : Layer) (h : ℕ) (e : LayerError) (o : Outcome)
+    → AsksCircuit c v (Err e) l h o → IsErrAnd r (λ f. f ≡ e)
     → Gives c v₂ r (outcome_on l.restarts l.circuits h o)
 declined (Ok x) c v v₂ l h e o a is = absurd is
 declined (Err f) c v v₂ l h e (Done next p) a is = is ∙ a
@@ -196,7 +195,8 @@ refusal_goes restarts circuits h (Refused e) = refl
 -- ---- a call with a channel
 
 -- where nothing of the link or layer refuses it, the circuit of the channel is asked
-pub asked_goes : (c : LayerSettings) (is_up is_full : Bool) (l : Layer) (h : ℕ) (request : Request) → is_up ≡ true → l.restarting ≡ false → is_channel c.channels h ≡ true → (puts_at_once request ≡ true → is_full ≡ false)
+pub asked_goes : (c : LayerSettings) (is_up is_full : Bool) (l : Layer) (h : ℕ) (request : Request) → is_up ≡ true → l.restarting ≡ false
+    → is_channel c.channels h ≡ true → (puts_at_once request ≡ true → is_full ≡ false)
     → asked_where c is_up is_full l (Asks h request) ≡ outcome_on l.restarts l.circuits h (outcome c.circuit (l.circuits h) request)
 asked_goes c is_up is_full l h request up ready is free =
     ap (λ (b : Bool). if b then layer_outcome c is_full l (Asks h request) else Declined error.NotUp) up
@@ -214,8 +214,10 @@ asked_goes c is_up is_full l h request up ready is free =
 -- ---- a new call
 
 -- where nothing of the link or layer refuses it, the circuit of the free channel is asked
-pub dial_goes : (c : LayerSettings) (is_up is_full : Bool) (l : Layer) (called calling user : List ℕ) (proposal : Proposal) (h : ℕ) → is_up ≡ true → l.restarting ≡ false → free_channel c.circuit.role l.circuits c.channels ≡ Some h
-    → is_full ≡ false → asked_where c is_up is_full l (Dials called calling user proposal) ≡ outcome_on l.restarts l.circuits h (outcome c.circuit (l.circuits h) (Calls called calling user proposal))
+pub dial_goes : (c : LayerSettings) (is_up is_full : Bool) (l : Layer) (called calling user : List ℕ) (proposal : Proposal) (h : ℕ) → is_up ≡ true
+    → l.restarting ≡ false → free_channel c.circuit.role l.circuits c.channels ≡ Some h
+    → is_full ≡ false → asked_where c is_up is_full l (Dials called calling user proposal)
+    ≡ outcome_on l.restarts l.circuits h (outcome c.circuit (l.circuits h) (Calls called calling user proposal))
 dial_goes c is_up is_full l called calling user proposal h up ready is free =
     ap (λ (b : Bool). if b then layer_outcome c is_full l (Dials called calling user proposal) else Declined error.NotUp) up
     ∙ ap (λ (b : Bool). outcome_in c is_full b l.restarts l.circuits (Dials called calling user proposal)) ready
@@ -224,16 +226,19 @@ dial_goes c is_up is_full l called calling user proposal h up ready is free =
 
 -- ---- a restart
 
-pub restart_goes : (c : LayerSettings) (is_up is_full : Bool) (l : Layer) (cause diagnostic : ℕ) (b : Bool) → is_up ≡ true → l.restarting ≡ false → is_full ≡ false → may_restart_for c.circuit.role cause ≡ b
+pub restart_goes : (c : LayerSettings) (is_up is_full : Bool) (l : Layer) (cause diagnostic : ℕ) (b : Bool) → is_up ≡ true → l.restarting ≡ false → is_full
+    ≡ false → may_restart_for c.circuit.role cause ≡ b
     → asked_where c is_up is_full l (Restarts cause diagnostic)
     ≡ (if b then Accepted (restarting_from l.restarts l.circuits) (Some (restart cause diagnostic)) else Declined (error.Circuit circuit_error.BadParameter))
 restart_goes c is_up is_full l cause diagnostic b up ready free given =
     ap (λ (a : Bool). if a then layer_outcome c is_full l (Restarts cause diagnostic) else Declined error.NotUp) up
     ∙ ap (λ (a : Bool). outcome_in c is_full a l.restarts l.circuits (Restarts cause diagnostic)) ready
     ∙ ap (λ (a : Bool). where_room a (restarted_for c.circuit.role l.restarts l.circuits cause diagnostic)) free
-    ∙ ap (λ (a : Bool). if a then Accepted (restarting_from l.restarts l.circuits) (Some (restart cause diagnostic)) else Declined (error.Circuit circuit_error.BadParameter)) given
+    ∙ ap (λ (a : Bool). if a then Accepted (restarting_from l.restarts l.circuits) (Some (restart cause diagnostic))
+    else Declined (error.Circuit circuit_error.BadParameter)) given
 
-pub restart_full : (c : LayerSettings) (is_up is_full : Bool) (l : Layer) (cause diagnostic : ℕ) → is_up ≡ true → l.restarting ≡ false → is_full ≡ true → asked_where c is_up is_full l (Restarts cause diagnostic) ≡ Declined error.QueueFull
+pub restart_full : (c : LayerSettings) (is_up is_full : Bool) (l : Layer) (cause diagnostic : ℕ) → is_up ≡ true → l.restarting ≡ false → is_full ≡ true
+    → asked_where c is_up is_full l (Restarts cause diagnostic) ≡ Declined error.QueueFull
 restart_full c is_up is_full l cause diagnostic up ready full =
     ap (λ (a : Bool). if a then layer_outcome c is_full l (Restarts cause diagnostic) else Declined error.NotUp) up
     ∙ ap (λ (a : Bool). outcome_in c is_full a l.restarts l.circuits (Restarts cause diagnostic)) ready
@@ -264,15 +269,12 @@ pub asks_some : (v : circuit_code.Circuit) (request : Request) → asks_memory v
 asks_some v (Sends q user) asks = refl
 asks_some v (Calls called calling user proposal) asks = refl
 asks_some v (Accepts answer) asks = refl
-asks_some v (Clears cause diagnostic) asks = absurd (cc)
-asks_some v (Interrupts user) asks = absurd (cc)
-asks_some v (Resets cause diagnostic) asks = absurd (cc)
-asks_some v SaysReady asks = absurd (cc)
-asks_some v SaysNotReady asks = absurd (cc)
+asks_some v request asks = absurd (cc)
 
 -- ---- a refusal that is known before anything is done
 
-pub refuses_all : (T : Type 0) (v : code.Layer) (e : LayerError) (asks : Bool) (said : LayerSettings → Layer → LayerOutcome) → e ≢ error.NoMemory → ((c : LayerSettings) (l : Layer) → FitsLayer c v l → said c l ≡ Declined e)
+pub refuses_all : (T : Type 0) (v : code.Layer) (e : LayerError) (asks : Bool) (said : LayerSettings → Layer → LayerOutcome) → e ≢ error.NoMemory
+    → ((c : LayerSettings) (l : Layer) → FitsLayer c v l → said c l ≡ Declined e)
     → Does {T = T} v v (Err e) asks said
 refuses_all T v e asks said named is = record {
   gives = λ c l fits. subst (λ (o : LayerOutcome). Gives {T = T} c v (Err e) o) (sym (is c l fits)) refl;
@@ -281,6 +283,8 @@ refuses_all T v e asks said named is = record {
   missing = λ none. absurd (named (err_is e error.NoMemory none));
 }
 
-pub refuses : (T : Type 0) (v : code.Layer) (e : LayerError) (link : LinkState) (request : LayerRequest) → e ≢ error.NoMemory → ((c : LayerSettings) (l : Layer) → FitsLayer c v l → asked_where c link.is_up link.is_full l request ≡ Declined e)
+-- a request that is refused with this error changes nothing
+pub refuses : (T : Type 0) (v : code.Layer) (e : LayerError) (link : LinkState) (request : LayerRequest) → e ≢ error.NoMemory
+    → ((c : LayerSettings) (l : Layer) → FitsLayer c v l → asked_where c link.is_up link.is_full l request ≡ Declined e)
     → Answers {T = T} v v (Err e) link request
 refuses T v e link request named is = record { does = refuses_all T v e _ _ named is; up = tt; free = tt }

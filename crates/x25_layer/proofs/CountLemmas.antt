@@ -1,5 +1,6 @@
 -- After every event the name of each stretch is what the user was told.
-use Rattle.std.proofs.Common.{◌≡◌, ℕ, List, [], ◌∷◌, ◌++◌, Option, Some, None, Bool, true, false, ◌==◌, if◌then◌else◌, refl, sym, ap, subst, ◌∙◌, append_assoc, append-nil}
+use Rattle.std.proofs.Common.{◌≡◌, ℕ, List, [], ◌∷◌, ◌++◌, Option, Some, None, Bool, true, false, ◌==◌, if◌then◌else◌, refl, sym, ap, subst, ◌∙◌, append_assoc}
+use Rattle.std.proofs.Common.{append-nil}
 use Rattle.std.proofs.lemmas.Bool.{eqb-true}
 use Rattle.x25_bits.specs.declared.role.Role.TheVariants.{Dte, Dce}
 use Rattle.x25_packet.specs.Packet.{PlainPacket, clear, restart, restart_conf}
@@ -15,10 +16,13 @@ use Rattle.x25_handshakes.specs.laws.Names.{Name}
 use Rattle.x25_layer.specs.declared.ranges.Ranges.{Ranges}
 use Rattle.x25_layer.specs.declared.error.LayerError.{LayerError}
 use Rattle.x25_layer.specs.declared.error.LayerError.TheVariants as error
-use Rattle.x25_layer.specs.Layer.{LayerSettings, Layer, LayerNotice, LayerAnswer, is_channel, notices_on, is_ready, answers_on, drops, restarting_from, answers_ready, answers_restarting, answers_in, layer_answers}
-use Rattle.x25_layer.specs.Calls.{LayerRequest, Asks, Dials, Restarts, PullsAll, LayerOutcome, Accepted, Declined, free_channel, puts_at_once, where_room, if_at_once, outcome_on, dialled, restarted_for, outcome_ready, outcome_in, layer_outcome, layer_pulled}
+use Rattle.x25_layer.specs.Layer.{LayerSettings, Layer, LayerNotice, LayerAnswer, is_channel, notices_on, is_ready, answers_on, drops, restarting_from}
+use Rattle.x25_layer.specs.Layer.{answers_ready, answers_restarting, answers_in, layer_answers}
+use Rattle.x25_layer.specs.Calls.{LayerRequest, Asks, Dials, Restarts, PullsAll, LayerOutcome, Accepted, Declined, free_channel, puts_at_once, where_room}
+use Rattle.x25_layer.specs.Calls.{if_at_once, outcome_on, dialled, restarted_for, outcome_ready, outcome_in, layer_outcome, layer_pulled}
 use Rattle.x25_layer.specs.laws.Transcript.{name_of}
-use Rattle.x25_layer.specs.laws.TwoLayers.{End, TwoLayers, Move, Requests, Pulls, HandsUp, GoesDown, requested, pulled_in, handed_up, moves_in, turned, settings_of, EndMove, happens, run, start}
+use Rattle.x25_layer.specs.laws.TwoLayers.{End, TwoLayers, Move, Requests, Pulls, HandsUp, GoesDown, requested, pulled_in, handed_up, moves_in, turned}
+use Rattle.x25_layer.specs.laws.TwoLayers.{settings_of, EndMove, happens, run, start}
 use Rattle.x25_layer.specs.laws.Law.{Always}
 use Rattle.x25_layer.specs.laws.NameLaw.{first_name, named_by, named_after, counted, NamesAreCounted, IsNoClearInP1, FrontIsNoClearInP1, NoClearComesInP1}
 use Rattle.x25_layer.proofs.LayerLemmas.{true≢false}
@@ -36,7 +40,8 @@ told_elsewhere k h is n [] = refl
 told_elsewhere k h is n (notice ∷ notices) =
     ap (λ (b : Bool). counted k (if b then named_by n notice else n) (notices_on h notices)) is ∙ told_elsewhere k h is n notices
 
-on_channel_counts : (e h : ℕ) (circuits : ℕ → Circuit) (a : Answer) → name_in e a.next ≡ named_by_all (name_in e (circuits h)) a.notices → (k : ℕ) (b : Bool) → (k == h) ≡ b
+on_channel_counts : (e h : ℕ) (circuits : ℕ → Circuit) (a : Answer) → name_in e a.next ≡ named_by_all (name_in e (circuits h)) a.notices → (k : ℕ) (b : Bool)
+    → (k == h) ≡ b
     → name_in e (if b then a.next else circuits k) ≡ counted k (name_in e (circuits k)) (notices_on h a.notices)
 on_channel_counts e h circuits a there k true is =
     there ∙ ap (λ (j : ℕ). named_by_all (name_in e (circuits j)) a.notices) (sym (eqb-true k h is)) ∙ sym (told_there k h is (name_in e (circuits k)) a.notices)
@@ -49,15 +54,18 @@ Counts l a = (k : ℕ) → name_of a.next k ≡ counted k (name_of l k) a.notice
 channel_counts : (c : LayerSettings) (e : ℕ) (circuits : ℕ → Circuit) (p : PlainPacket) → ClearsNotFree (circuits (channel_of p)) p → (b : Bool)
     → Counts (is_ready e circuits) (if b then answers_on e circuits (channel_of p) (answers c.circuit (circuits (channel_of p)) p) else drops false e circuits)
 channel_counts c e circuits p ok true k =
-    on_channel_counts e (channel_of p) circuits (answers c.circuit (circuits (channel_of p)) p) (circuit_counts c.circuit e (circuits (channel_of p)) p ok) k (k == channel_of p) refl
+    on_channel_counts e (channel_of p) circuits (answers c.circuit (circuits (channel_of p)) p) (circuit_counts c.circuit e (circuits (channel_of p)) p ok) k
+    (k == channel_of p) refl
 channel_counts c e circuits p ok false k = refl
 
-ready_counts : (c : LayerSettings) (e : ℕ) (circuits : ℕ → Circuit) (p : PlainPacket) → ClearsNotFree (circuits (channel_of p)) p → Counts (is_ready e circuits) (answers_ready c e circuits p)
+ready_counts : (c : LayerSettings) (e : ℕ) (circuits : ℕ → Circuit) (p : PlainPacket) → ClearsNotFree (circuits (channel_of p)) p
+    → Counts (is_ready e circuits) (answers_ready c e circuits p)
 ready_counts c e circuits (restart cause diagnostic) ok = λ k. refl
 ready_counts c e circuits restart_conf ok = λ k. refl
 ready_counts c e circuits other ok = channel_counts c e circuits other ok (is_channel c.channels (channel_of other))
 
-restarting_counts : (e : ℕ) (circuits : ℕ → Circuit) (p : PlainPacket) → Counts (record { restarting = true; restarts = e; circuits = circuits }) (answers_restarting e circuits p)
+restarting_counts : (e : ℕ) (circuits : ℕ → Circuit) (p : PlainPacket)
+    → Counts (record { restarting = true; restarts = e; circuits = circuits }) (answers_restarting e circuits p)
 restarting_counts e circuits (restart cause diagnostic) = λ k. refl
 restarting_counts e circuits restart_conf = λ k. refl
 restarting_counts e circuits other = λ k. refl
@@ -97,21 +105,25 @@ kept_if : (l : Layer) (b : Bool) (good : LayerOutcome) (e : LayerError) → Keep
 kept_if l true good e keeps = keeps
 kept_if l false good e keeps = tt
 
-kept_dial : (c : LayerSettings) (full : Bool) (l : Layer) (o : Option ℕ) (called calling user : List ℕ) (proposal : Proposal) → KeepsNames l (dialled c full l.restarts l.circuits o called calling user proposal)
+kept_dial : (c : LayerSettings) (full : Bool) (l : Layer) (o : Option ℕ) (called calling user : List ℕ) (proposal : Proposal)
+    → KeepsNames l (dialled c full l.restarts l.circuits o called calling user proposal)
 kept_dial c full l None called calling user proposal = tt
 kept_dial c full l (Some h) called calling user proposal =
     kept_room l full (outcome_on l.restarts l.circuits h (outcome c.circuit (l.circuits h) (Calls called calling user proposal)))
-    (kept_on l h (outcome c.circuit (l.circuits h) (Calls called calling user proposal)) (outcome_keeps c.circuit (l.circuits h) (Calls called calling user proposal)))
+    (kept_on l h (outcome c.circuit (l.circuits h) (Calls called calling user proposal))
+    (outcome_keeps c.circuit (l.circuits h) (Calls called calling user proposal)))
 
 kept_ready : (c : LayerSettings) (full : Bool) (l : Layer) (request : LayerRequest) → KeepsNames l (outcome_ready c full l.restarts l.circuits request)
 kept_ready c full l (Asks h request) =
-    kept_if l (is_channel c.channels h) (if_at_once (puts_at_once request) full (outcome_on l.restarts l.circuits h (outcome c.circuit (l.circuits h) request))) error.NoSuchChannel
+    kept_if l (is_channel c.channels h) (if_at_once (puts_at_once request) full
+    (outcome_on l.restarts l.circuits h (outcome c.circuit (l.circuits h) request))) error.NoSuchChannel
     (kept_at_once l (puts_at_once request) full (outcome_on l.restarts l.circuits h (outcome c.circuit (l.circuits h) request))
     (kept_on l h (outcome c.circuit (l.circuits h) request) (outcome_keeps c.circuit (l.circuits h) request)))
 kept_ready c full l (Dials called calling user proposal) = kept_dial c full l (free_channel c.circuit.role l.circuits c.channels) called calling user proposal
 kept_ready c full l (Restarts cause diagnostic) =
     kept_room l full (restarted_for c.circuit.role l.restarts l.circuits cause diagnostic)
-    (kept_if l (may_restart_for c.circuit.role cause) (Accepted (restarting_from l.restarts l.circuits) (Some (restart cause diagnostic))) (error.Circuit circuit_error.BadParameter) (λ k. refl))
+    (kept_if l (may_restart_for c.circuit.role cause) (Accepted (restarting_from l.restarts l.circuits) (Some (restart cause diagnostic)))
+    (error.Circuit circuit_error.BadParameter) (λ k. refl))
 kept_ready c full l PullsAll = λ k. refl
 
 names_kept : (c : LayerSettings) (full : Bool) (l : Layer) (request : LayerRequest) → KeepsNames l (layer_outcome c full l request)
@@ -155,27 +167,33 @@ module _ (c : LayerSettings) (w : TwoLayers) (h : NamesAreCounted w) (up : w.nea
     far = h.far;
   }
 
-move_counted : (c : LayerSettings) (w : TwoLayers) (move : Move) (gone : Bool) → w.near.is_out ≡ gone → NamesAreCounted w → FrontIsNoClearInP1 w.near w.back → NamesAreCounted (moves_in c w gone move)
+move_counted : (c : LayerSettings) (w : TwoLayers) (move : Move) (gone : Bool) → w.near.is_out ≡ gone → NamesAreCounted w → FrontIsNoClearInP1 w.near w.back
+    → NamesAreCounted (moves_in c w gone move)
 move_counted c w move true is h front = h
-move_counted c w (Requests full request) false is h front = requested_counted c w h is request (layer_outcome c full w.near.layer request) (names_kept c full w.near.layer request)
+move_counted c w (Requests full request) false is h front = requested_counted c w h is request (layer_outcome c full w.near.layer request)
+    (names_kept c full w.near.layer request)
 move_counted c w (Pulls k) false is h front = pulled_counted c w h is k (is_channel c.channels k)
 move_counted c w HandsUp false is h front = handed_counted c w h is w.back front
 move_counted c w GoesDown false is h front = record { near = λ k on. absurd (true≢false on); far = h.far }
 
-event_counted : (long_data : Bool) (channels : Ranges) (w : TwoLayers) (first : Bool) (what : Move) → NamesAreCounted w → NoClearComesInP1 w → NamesAreCounted (happens long_data channels w (record { first = first; what = what }))
+event_counted : (long_data : Bool) (channels : Ranges) (w : TwoLayers) (first : Bool) (what : Move) → NamesAreCounted w → NoClearComesInP1 w
+    → NamesAreCounted (happens long_data channels w (record { first = first; what = what }))
 event_counted long_data channels w true what h front = move_counted (settings_of Dte long_data channels) w what w.near.is_out refl h front.near
 event_counted long_data channels w false what h front =
     let r = move_counted (settings_of Dce long_data channels) (turned w) what w.far.is_out refl (record { near = h.far; far = h.near }) front.far in
     record { near = r.far; far = r.near }
 
-run_more : (long_data : Bool) (channels : Ranges) (es : List EndMove) (e : EndMove) (w : TwoLayers) → run long_data channels (es ++ e ∷ []) w ≡ happens long_data channels (run long_data channels es w) e
+run_more : (long_data : Bool) (channels : Ranges) (es : List EndMove) (e : EndMove) (w : TwoLayers) → run long_data channels (es ++ e ∷ []) w
+    ≡ happens long_data channels (run long_data channels es w) e
 run_more long_data channels [] e w = refl
 run_more long_data channels (x ∷ es) e w = run_more long_data channels es e (happens long_data channels w x)
 
 -- the names are counted behind these events, where they were behind those before
-run_counted : (long_data : Bool) (channels : Ranges) → Always NoClearComesInP1 long_data channels → (done es : List EndMove) → NamesAreCounted (run long_data channels done (start long_data channels))
+run_counted : (long_data : Bool) (channels : Ranges) → Always NoClearComesInP1 long_data channels → (done es : List EndMove)
+    → NamesAreCounted (run long_data channels done (start long_data channels))
     → NamesAreCounted (run long_data channels (done ++ es) (start long_data channels))
-run_counted long_data channels front done [] h = subst (λ (l : List EndMove). NamesAreCounted (run long_data channels l (start long_data channels))) (sym (append-nil done)) h
+run_counted long_data channels front done [] h = subst (λ (l : List EndMove). NamesAreCounted (run long_data channels l (start long_data channels)))
+    (sym (append-nil done)) h
 run_counted long_data channels front done (e ∷ es) h =
     subst (λ (l : List EndMove). NamesAreCounted (run long_data channels l (start long_data channels))) (append_assoc done (e ∷ []) es)
     (run_counted long_data channels front (done ++ e ∷ []) es

@@ -13,7 +13,8 @@ use Rattle.x25_layer.specs.Layer.{LayerSettings, Layer, LayerNotice, restarted, 
 use Rattle.x25_layer.specs.Calls.{LayerRequest, LayerOutcome, Accepted, Declined, outcome_in, layer_outcome, layer_pulled}
 use Rattle.x25_layer.specs.laws.Quiet.{AreQuiet, AreNoFaults}
 use Rattle.x25_layer.specs.laws.TwoLayers.{End, requested, pulled_in, moves_in, settings_of, started}
-use Rattle.x25_layer.specs.laws.Apart.{OwnMove, Requests, Pulls, Takes, GoesDown, as_move, coming, alone, own_moves, own_run, Ends, ApartEvent, apart_happens, apart_run, apart_start, IsNext, IsInOrder, AreInOrder, as_world, AlwaysApart}
+use Rattle.x25_layer.specs.laws.Apart.{OwnMove, Requests, Pulls, Takes, GoesDown, as_move, coming, alone, own_moves, own_run, Ends, ApartEvent, apart_happens}
+use Rattle.x25_layer.specs.laws.Apart.{apart_run, apart_start, IsNext, IsInOrder, AreInOrder, as_world, AlwaysApart}
 use Rattle.x25_layer.specs.laws.ApartLaw.{BeginsRestarted, IsToldFirst, RestartsFirst, BeginsAlone}
 use Rattle.x25_layer.proofs.LayerLemmas.{true≢false}
 use Rattle.x25_layer.proofs.ApartLemmas.{event}
@@ -87,7 +88,8 @@ restart_is_quiet Dce channels = ((refl, λ no_channel. absurd no_channel), tt)
 pub begins_alone : BeginsAlone
 begins_alone c own none =
     let e : End = own_run c own (started (goes_up c)) in
-    let v : Waits c e = all_wait c own (started (goes_up c)) (λ start. record { waiting = λ up. refl; given = refl; told = refl; entries = refl; free = λ k. refl }) none in
+    let v : Waits c e = all_wait c own (started (goes_up c))
+    (λ start. record { waiting = λ up. refl; given = refl; told = refl; entries = refl; free = λ k. refl }) none in
     record {
       given = v.given;
       told = v.told;
@@ -116,13 +118,15 @@ restarted_more (restarted cause diagnostic ∷ notices) more begins = tt
 restarted_more (other ∷ notices) more begins = absurd begins
 
 -- a restart by the other end is told, whether the layer waits for it or not
-restart_is_told : (c : LayerSettings) (b : Bool) (restarts : ℕ) (circuits : ℕ → Circuit) (p : PlainPacket) (packets : List PlainPacket) → BeginsRestart (p ∷ packets)
+restart_is_told : (c : LayerSettings) (b : Bool) (restarts : ℕ) (circuits : ℕ → Circuit) (p : PlainPacket) (packets : List PlainPacket)
+    → BeginsRestart (p ∷ packets)
     → BeginsRestarted (answers_in c b restarts circuits p).notices
 restart_is_told c true restarts circuits (restart cause diagnostic) packets begins = tt
 restart_is_told c false restarts circuits (restart cause diagnostic) packets begins = tt
 restart_is_told c b restarts circuits other packets begins = absurd begins
 
-taken_is_told : (c : LayerSettings) (l : Layer) (taken : List PlainPacket) (told : List LayerNotice) (p : PlainPacket) (given : List PlainPacket) → IsToldFirst taken told → BeginsRestart given
+taken_is_told : (c : LayerSettings) (l : Layer) (taken : List PlainPacket) (told : List LayerNotice) (p : PlainPacket) (given : List PlainPacket)
+    → IsToldFirst taken told → BeginsRestart given
     → IsPrefix (taken ++ p ∷ []) given → IsToldFirst (taken ++ p ∷ []) (told ++ (layer_answers c l p).notices)
 taken_is_told c l [] told p given first begins next =
     subst (λ (before : List LayerNotice). BeginsRestarted (before ++ (layer_answers c l p).notices)) (sym first)
@@ -150,12 +154,16 @@ first_in c e giver (Takes p) false is h begins next =
     (restart_more e.given (option_to_list (layer_answers c e.layer p).owed) h.0, taken_is_told c e.layer e.taken e.told p giver.given h.1 begins (next is))
 first_in c e giver GoesDown false is h begins next = h
 
-one_first : (long_data : Bool) (channels : Ranges) (first : Bool) (what : OwnMove) (ends : Ends) → IsInOrder ends (event first what) → First ends.near → First ends.far
+one_first : (long_data : Bool) (channels : Ranges) (first : Bool) (what : OwnMove) (ends : Ends) → IsInOrder ends (event first what) → First ends.near
+    → First ends.far
     → let next = apart_happens long_data channels ends (event first what) in First next.near × First next.far
-one_first long_data channels true what ends next near far = (first_in (settings_of Dte long_data channels) ends.near ends.far what ends.near.is_out refl near far.0 next, far)
-one_first long_data channels false what ends next near far = (near, first_in (settings_of Dce long_data channels) ends.far ends.near what ends.far.is_out refl far near.0 next)
+one_first long_data channels true what ends next near far =
+    (first_in (settings_of Dte long_data channels) ends.near ends.far what ends.near.is_out refl near far.0 next, far)
+one_first long_data channels false what ends next near far =
+    (near, first_in (settings_of Dce long_data channels) ends.far ends.near what ends.far.is_out refl far near.0 next)
 
-run_first : (long_data : Bool) (channels : Ranges) (es : List ApartEvent) (ends : Ends) → AreInOrder long_data channels es ends → First ends.near → First ends.far
+run_first : (long_data : Bool) (channels : Ranges) (es : List ApartEvent) (ends : Ends) → AreInOrder long_data channels es ends → First ends.near
+    → First ends.far
     → RestartsFirst (as_world (apart_run long_data channels es ends))
 run_first long_data channels [] ends next near far = record { near = near.1; far = far.1 }
 run_first long_data channels (e ∷ es) ends next near far =

@@ -1,9 +1,11 @@
 -- What octets are read as, and the channel that they name.
-use Rattle.std.proofs.Common.{◌≡◌, ℕ, suc, ◌-◌, ◌<◌, ◌∙◌, All, List, [], ◌∷◌, length, Option, Some, None, Bool, true, false, Result, Ok, Err, if◌then◌else◌, IfOk, slice_get, get_or, refl, sym, ap, subst, arith}
+use Rattle.std.proofs.Common.{◌≡◌, ℕ, suc, ◌-◌, ◌<◌, ◌∙◌, All, List, [], ◌∷◌, length, Option, Some, None, Bool, true, false, Result, Ok, Err, if◌then◌else◌}
+use Rattle.std.proofs.Common.{IfOk, slice_get, get_or, refl, sym, ap, subst, arith}
 use Rattle.std.proofs.lemmas.Option.{same_Some}
 use Rattle.x25_packet.specs.declared.packet.Packet.{Packet}
 use Rattle.x25_packet.specs.declared.error.PacketError.{PacketError}
-use Rattle.x25_packet.specs.Packet.{PlainPacket, plain, call, accept, clear, clear_conf, user_data, rr, rnr, interrupt, interrupt_conf, reset, reset_conf, restart, restart_conf}
+use Rattle.x25_packet.specs.Packet.{PlainPacket, plain, call, accept, clear, clear_conf, user_data, rr, rnr, interrupt, interrupt_conf, reset, reset_conf}
+use Rattle.x25_packet.specs.Packet.{restart, restart_conf}
 use Rattle.x25_packet.specs.Reading.{channel_in}
 use Rattle.x25_packet.specs.Spelling.{HasChannel, channel_of}
 use Rattle.x25_packet.specs.Grammar.{Gives, read_of}
@@ -24,21 +26,24 @@ use Rattle.x25_circuit.specs.declared.circuit.Circuit as circuit_code
 -- ---- what was read, by the laws of reading
 
 -- it is of a channel, where it isn't RESTART or its confirmation
-pub of_channel : TakesWithoutMemory → (wide : Bool) (most : ℕ) (octets : List ℕ) (read : Result Packet PacketError) → All (λ octet. octet < 256) octets → Gives plain read (read_in wide most octets) → IfOk read (λ v. HasChannel (plain v))
+pub of_channel : TakesWithoutMemory → (wide : Bool) (most : ℕ) (octets : List ℕ) (read : Result Packet PacketError) → All (λ octet. octet < 256) octets
+    → Gives plain read (read_in wide most octets) → IfOk read (λ v. HasChannel (plain v))
     → IsOfChannel (plain_read read)
 of_channel never wide most octets (Ok packet) bytes exact has = has
 of_channel never wide most octets (Err e) bytes exact has = λ same. never wide most octets bytes (exact ∙ ap (λ (x : PacketError). Err x) same)
 
 -- ---- the answer of the layer, by the channel
 
-hears_error : (c : LayerSettings) (l : Layer) (octets : List ℕ) (h : ℕ) (e : PacketError) → channel_in octets ≡ Some h → answer_to c l octets (Err e) ≡ hears_on c l l.restarting h (Err e)
+hears_error : (c : LayerSettings) (l : Layer) (octets : List ℕ) (h : ℕ) (e : PacketError) → channel_in octets ≡ Some h → answer_to c l octets (Err e)
+    ≡ hears_on c l l.restarting h (Err e)
 hears_error c l octets h e at = ap (λ (o : Option ℕ). undecoded_at c l e o) at ∙ by l.restarting
   where
     by : (b : Bool) → undecoded_in c b l.restarts l.circuits h e ≡ hears_on c l b h (Err e)
     by true = refl
     by false = refl
 
-pub ready_hears : (c : LayerSettings) (l : Layer) (v : PlainPacket) → HasChannel v → (b : Bool) → answers_in c b l.restarts l.circuits v ≡ hears_on c l b (channel_of v) (Ok v)
+pub ready_hears : (c : LayerSettings) (l : Layer) (v : PlainPacket) → HasChannel v → (b : Bool) → answers_in c b l.restarts l.circuits v
+    ≡ hears_on c l b (channel_of v) (Ok v)
 ready_hears c l (call channel called calling facilities user) has true = refl
 ready_hears c l (call channel called calling facilities user) has false = refl
 ready_hears c l (accept channel facilities) has true = refl
@@ -64,20 +69,26 @@ ready_hears c l (reset_conf channel) has false = refl
 ready_hears c l (restart cause diagnostic) has b = absurd has
 ready_hears c l restart_conf has b = absurd has
 
-hears_packet : (c : LayerSettings) (l : Layer) (octets : List ℕ) (h : ℕ) (v : PlainPacket) → HasChannel v → channel_in octets ≡ Some (channel_of v) → channel_in octets ≡ Some h → answer_to c l octets (Ok v) ≡ hears_on c l l.restarting h (Ok v)
+hears_packet : (c : LayerSettings) (l : Layer) (octets : List ℕ) (h : ℕ) (v : PlainPacket) → HasChannel v → channel_in octets ≡ Some (channel_of v)
+    → channel_in octets ≡ Some h → answer_to c l octets (Ok v) ≡ hears_on c l l.restarting h (Ok v)
 hears_packet c l octets h v has named at =
     let same : channel_of v ≡ h = same_Some (channel_of v) h (sym named ∙ at) in
     ready_hears c l v has l.restarting ∙ ap (λ (k : ℕ). hears_on c l l.restarting k (Ok v)) same
 
 -- what a channel hears, by what was read
-pub hears_read : TakesOnItsChannel → (wide : Bool) (most : ℕ) (c : LayerSettings) (l : Layer) (octets : List ℕ) (h : ℕ) (read : Result Packet PacketError) → All (λ octet. octet < 256) octets → Gives plain read (read_in wide most octets)
-    → IsOfChannel (plain_read read) → channel_in octets ≡ Some h → answer_to c l octets (read_in wide most octets) ≡ hears_on c l l.restarting h (plain_read read)
+pub hears_read : TakesOnItsChannel → (wide : Bool) (most : ℕ) (c : LayerSettings) (l : Layer) (octets : List ℕ) (h : ℕ) (read : Result Packet PacketError)
+    → All (λ octet. octet < 256) octets → Gives plain read (read_in wide most octets)
+    → IsOfChannel (plain_read read) → channel_in octets ≡ Some h → answer_to c l octets (read_in wide most octets)
+    ≡ hears_on c l l.restarting h (plain_read read)
 hears_read law wide most c l octets h (Ok packet) bytes exact has at =
-    ap (λ (r : Result PlainPacket PacketError). answer_to c l octets r) exact ∙ hears_packet c l octets h (plain packet) has (law wide most (plain packet) octets bytes exact has) at
-hears_read law wide most c l octets h (Err e) bytes exact has at = ap (λ (r : Result PlainPacket PacketError). answer_to c l octets r) exact ∙ hears_error c l octets h e at
+    ap (λ (r : Result PlainPacket PacketError). answer_to c l octets r) exact
+    ∙ hears_packet c l octets h (plain packet) has (law wide most (plain packet) octets bytes exact has) at
+hears_read law wide most c l octets h (Err e) bytes exact has at =
+    ap (λ (r : Result PlainPacket PacketError). answer_to c l octets r) exact ∙ hears_error c l octets h e at
 
 -- what was heard, by a layer that stands for the same and by the same answer
-pub heard_from : (old mid new : code.Layer) (told : Report) (left : ℕ) (f h : LayerSettings → Layer → LayerAnswer) → ((c : LayerSettings) (l : Layer) → FitsLayer c old l → FitsLayer c mid l)
+pub heard_from : (old mid new : code.Layer) (told : Report) (left : ℕ) (f h : LayerSettings → Layer → LayerAnswer)
+    → ((c : LayerSettings) (l : Layer) → FitsLayer c old l → FitsLayer c mid l)
     → ((c : LayerSettings) (l : Layer) → FitsLayer c old l → f c l ≡ h c l) → Hears mid new told left f → Hears old new told left h
 heard_from old mid new told left f h still same by = record {
   layer = λ c l fits. subst (λ (a : LayerAnswer). FitsLayer c new a.next) (same c l fits) (by.layer c l (still c l fits));
@@ -88,11 +99,13 @@ heard_from old mid new told left f h still same by = record {
   spare = by.spare;
 }
 
+-- a layer fits what is equal
 pub fits_as : (c : LayerSettings) (v : code.Layer) (l m : Layer) → l ≡ m → FitsLayer c v l → FitsLayer c v m
 fits_as c v l m same fits = subst (λ (n : Layer). FitsLayer c v n) same fits
 
 -- fewer than three octets are dropped
-pub hears_none : (wide : Bool) (most : ℕ) (c : LayerSettings) (l : Layer) (octets : List ℕ) → channel_in octets ≡ None → answer_to c l octets (read_in wide most octets) ≡ drops l.restarting l.restarts l.circuits
+pub hears_none : (wide : Bool) (most : ℕ) (c : LayerSettings) (l : Layer) (octets : List ℕ) → channel_in octets ≡ None
+    → answer_to c l octets (read_in wide most octets) ≡ drops l.restarting l.restarts l.circuits
 unfolding read_of
 hears_none true most c l [] none = refl
 hears_none true most c l (a ∷ []) none = refl
@@ -104,19 +117,24 @@ hears_none wide most c l (a ∷ b ∷ d ∷ rest) none = absurd (cc)
 
 -- ---- the circuit of a channel
 
-pub read_there : (vs : List circuit_code.Circuit) (h place : ℕ) (x : circuit_code.Circuit) → is_number (length vs) h ≡ true → place ≡ h → x ≡ get_or vs (place - 1) x → slice_get vs (place - 1) ≡ Some x
+-- a channel's circuit is read at its place
+pub read_there : (vs : List circuit_code.Circuit) (h place : ℕ) (x : circuit_code.Circuit) → is_number (length vs) h ≡ true → place ≡ h → x
+    ≡ get_or vs (place - 1) x → slice_get vs (place - 1) ≡ Some x
 read_there vs h place x is same read =
     let within = configured (length vs) h is in
     read_at vs (place - 1) x (let e : place - 1 < length vs = omega (arith, within, same) in e) read
 
+-- the place before a channel's number
 pub place_of : (n h place : ℕ) → is_number n h ≡ true → place ≡ h → suc (place - 1) ≡ h
 place_of n h place is same = let within = configured n h is in omega (arith, within, same)
 
-pub hears_there : (c : LayerSettings) (l : Layer) (h : ℕ) (read : Result PlainPacket PacketError) → l.restarting ≡ false → is_channel c.channels h ≡ true → hears_on c l l.restarting h read ≡ channel_hears c l h read
+pub hears_there : (c : LayerSettings) (l : Layer) (h : ℕ) (read : Result PlainPacket PacketError) → l.restarting ≡ false → is_channel c.channels h ≡ true
+    → hears_on c l l.restarting h read ≡ channel_hears c l h read
 hears_there c l h read ready is =
     ap (λ (b : Bool). hears_on c l b h read) ready ∙ ap (λ (b : Bool). if b then channel_hears c l h read else drops false l.restarts l.circuits) is
 
-pub next_there : (c : LayerSettings) (l : Layer) (h : ℕ) (read : Result PlainPacket PacketError) → l.restarting ≡ false → is_channel c.channels h ≡ true → with_circuit l h (circuit_hears c.circuit (l.circuits h) read).next ≡ (hears_on c l l.restarting h read).next
+pub next_there : (c : LayerSettings) (l : Layer) (h : ℕ) (read : Result PlainPacket PacketError) → l.restarting ≡ false → is_channel c.channels h ≡ true
+    → with_circuit l h (circuit_hears c.circuit (l.circuits h) read).next ≡ (hears_on c l l.restarting h read).next
 next_there c l h read ready is =
     ap (λ (b : Bool). record { restarting = b; restarts = l.restarts; circuits = put_at l.circuits h (circuit_hears c.circuit (l.circuits h) read).next }) ready
     ∙ ap (λ (a : LayerAnswer). a.next) (sym (hears_there c l h read ready is))

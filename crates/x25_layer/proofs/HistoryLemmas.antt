@@ -38,7 +38,8 @@ pub record IsListed {M : Type 0} (kind : Kind M) (lists : Handed → Lists M) : 
   pub moves : (k : ℕ) (x y : At Channels) (h : Handed) → TurnOf k x y h → Moves kind k x y (lists h)
   pub named : (k : ℕ) (x y : At Channels) (h : Handed) → TurnOf k x y h → (lists h ≡ none) ⊎ (name_at kind y k ≡ present y k)
 
-under_more : {M : Type 0} (kind : Kind M) (lists : Handed → Lists M) → IsListed kind lists → (k : ℕ) (m : Name) (log es : List Entry) → lists (under k m (log ++ es)) ≡ joined (lists (under k m log)) (lists (under k m es))
+under_more : {M : Type 0} (kind : Kind M) (lists : Handed → Lists M) → IsListed kind lists → (k : ℕ) (m : Name) (log es : List Entry)
+    → lists (under k m (log ++ es)) ≡ joined (lists (under k m log)) (lists (under k m es))
 under_more {M} kind lists listed k m [] es = ap (λ (l : Lists M). joined l (lists (under k m es))) (sym listed.nothing)
 under_more {M} kind lists listed k m (e ∷ log) es =
     let one : Handed = if both (k == e.channel) (same_name m e.name) then says e.said else nothing_handed in
@@ -76,13 +77,16 @@ entered {M} kind lists listed k x y h turn m = by (listed.named k x y h turn)
     all_none false true e = sym e
     all_none false false e = refl
 
-    by : ((lists h ≡ none) ⊎ (name_at kind y k ≡ present y k)) → lists (if same_name m (present y k) then h else nothing_handed) ≡ (if same_name m (name_at kind y k) then lists h else none)
+    by : ((lists h ≡ none) ⊎ (name_at kind y k ≡ present y k)) → lists (if same_name m (present y k) then h else nothing_handed)
+        ≡ (if same_name m (name_at kind y k) then lists h else none)
     by (inl e) = as_lists (same_name m (present y k)) ∙ all_none (same_name m (present y k)) (same_name m (name_at kind y k)) e
     by (inr e) = as_lists (same_name m (present y k)) ∙ ap (λ (n : Name). if same_name m n then lists h else none) (sym e)
 
 -- So the transcript stays the history, where that held what the end holds under its present name, and nothing under later ones.
-pub recorded : {M : Type 0} (kind : Kind M) (lists : Handed → Lists M) → IsListed kind lists → (k : ℕ) (x y : At Channels) (log es : List Entry) (history : Name → Lists M)
-    → history (name_at kind x k) ≡ held_at kind x k → ((m : Name) → IsEarlier (name_at kind x k) m → history m ≡ none) → ((m : Name) → lists (under k m log) ≡ history m) → StepOf x y es
+pub recorded : {M : Type 0} (kind : Kind M) (lists : Handed → Lists M) → IsListed kind lists
+    → (k : ℕ) (x y : At Channels) (log es : List Entry) (history : Name → Lists M)
+    → history (name_at kind x k) ≡ held_at kind x k → ((m : Name) → IsEarlier (name_at kind x k) m → history m ≡ none)
+    → ((m : Name) → lists (under k m log) ≡ history m) → StepOf x y es
     → (m : Name) → lists (under k m (log ++ es)) ≡ written history (name_at kind y k) (held_at kind y k) m
 recorded {M} kind lists listed k x y log es history held later same step m =
     let s : Lists M = lists (step k).0 in
@@ -99,7 +103,8 @@ recorded {M} kind lists listed k x y log es history held later same step m =
 
 -- ---- messages and interrupts
 
-stretch_listed : {M : Type 0} (down up : Stretch → List M) (lists : Handed → Lists M) → lists nothing_handed ≡ none → ((a b : Handed) → lists (added a b) ≡ joined (lists a) (lists b))
+stretch_listed : {M : Type 0} (down up : Stretch → List M) (lists : Handed → Lists M) → lists nothing_handed ≡ none
+    → ((a b : Handed) → lists (added a b) ≡ joined (lists a) (lists b))
     → ((z : At Connection) → lists (held_of z) ≡ held_in down up (state_of z.side).phase) → IsListed (of_stretch down up) lists
 stretch_listed {M} down up lists nothing more held = record { nothing = nothing; more = more; moves = moved; named = λ k x y h turn. inr refl }
   where
@@ -112,7 +117,8 @@ stretch_listed {M} down up lists nothing more held = record { nothing = nothing;
       where
         held_none : (z : At Connection) → lists (held_phase (held_of z).made (held_of z).indicated Unused) ≡ none
         held_none z = held (record { epoch = 0; side = Live (record { phase = Unused; made = (held_of z).made; indicated = (held_of z).indicated }) })
-    moved k x y h (Here e (AfterClear c empty holds)) = GrowsAt (inr (sym e, inl c)) (sym (held (circuit_at y k)) ∙ ap lists holds ∙ nothing) (ap lists empty ∙ nothing)
+    moved k x y h (Here e (AfterClear c empty holds)) = GrowsAt (inr (sym e, inl c)) (sym (held (circuit_at y k)) ∙ ap lists holds ∙ nothing)
+        (ap lists empty ∙ nothing)
     moved k x y h (Afresh e holds empty) = GrowsAt (inl e) (sym (held (circuit_at y k)) ∙ ap lists holds ∙ nothing) (ap lists empty ∙ nothing)
 
 messages_held : (made indicated : List CallRequest) (a : Phase) → messages_in (held_phase made indicated a) ≡ held_in (λ x. x.down) (λ x. x.up) a
@@ -123,11 +129,15 @@ interrupts_held : (made indicated : List CallRequest) (a : Phase) → interrupts
 interrupts_held made indicated (Talking t b at) = refl
 interrupts_held made indicated other = refl
 
+-- the entries of messages are what the lists of messages gain
 pub messages_listed : IsListed messages messages_in
-messages_listed = stretch_listed (λ x. x.down) (λ x. x.up) messages_in refl (λ a b. refl) (λ z. messages_held (state_of z.side).made (state_of z.side).indicated (state_of z.side).phase)
+messages_listed = stretch_listed (λ x. x.down) (λ x. x.up) messages_in refl (λ a b. refl)
+    (λ z. messages_held (state_of z.side).made (state_of z.side).indicated (state_of z.side).phase)
 
+-- so are those of interrupts
 pub interrupts_listed : IsListed interrupts interrupts_in
-interrupts_listed = stretch_listed (λ x. x.int_down) (λ x. x.int_up) interrupts_in refl (λ a b. refl) (λ z. interrupts_held (state_of z.side).made (state_of z.side).indicated (state_of z.side).phase)
+interrupts_listed = stretch_listed (λ x. x.int_down) (λ x. x.int_up) interrupts_in refl (λ a b. refl)
+    (λ z. interrupts_held (state_of z.side).made (state_of z.side).indicated (state_of z.side).phase)
 
 -- ---- calls
 
@@ -144,8 +154,10 @@ calls_moved k x y h (Here e (Adds c r holds call)) =
     (sym (circuit_calls (circuit_at y k)) ∙ ap calls_in holds ∙ ap (λ (l : Lists CallRequest). joined l (calls_in h)) (circuit_calls (circuit_at x k)))
 calls_moved k x y h (Here e (AfterReset c r empty holds)) =
     StaysAt (name_eq (name_at calls y k) (name_at calls x k) e c refl)
-    (sym (circuit_calls (circuit_at y k)) ∙ ap calls_in holds ∙ circuit_calls (circuit_at x k) ∙ sym (joined_none (held_at calls x k)) ∙ ap (λ (l : Lists CallRequest). joined (held_at calls x k) l) (sym (ap calls_in empty)))
-calls_moved k x y h (Here e (AfterClear c empty holds)) = GrowsAt (inr (sym e, inl c)) (sym (circuit_calls (circuit_at y k)) ∙ ap calls_in holds) (ap calls_in empty)
+    (sym (circuit_calls (circuit_at y k)) ∙ ap calls_in holds ∙ circuit_calls (circuit_at x k) ∙ sym (joined_none (held_at calls x k))
+    ∙ ap (λ (l : Lists CallRequest). joined (held_at calls x k) l) (sym (ap calls_in empty)))
+calls_moved k x y h (Here e (AfterClear c empty holds)) = GrowsAt (inr (sym e, inl c)) (sym (circuit_calls (circuit_at y k)) ∙ ap calls_in holds)
+    (ap calls_in empty)
 calls_moved k x y h (Afresh e holds empty) = GrowsAt (inl e) (sym (circuit_calls (circuit_at y k)) ∙ ap calls_in holds) (ap calls_in empty)
 
 -- a call is made or indicated before the first reset
@@ -156,5 +168,6 @@ calls_named k x y h (Here e (AfterReset c r empty holds)) = inl (ap calls_in emp
 calls_named k x y h (Here e (AfterClear c empty holds)) = inl (ap calls_in empty)
 calls_named k x y h (Afresh e holds empty) = inl (ap calls_in empty)
 
+-- the entries of calls are what the lists of calls gain
 pub calls_listed : IsListed calls calls_in
 calls_listed = record { nothing = refl; more = λ a b. refl; moves = calls_moved; named = calls_named }

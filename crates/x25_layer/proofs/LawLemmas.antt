@@ -3,7 +3,8 @@ use Rattle.std.proofs.Common.{◌≡◌, Bool, ℕ, sym, ap, subst, ◌∙◌}
 use Rattle.x25_handshakes.specs.laws.Handshake.{state_of}
 use Rattle.x25_handshakes.specs.laws.Layers.{Pair, pair_run, pair_start}
 use Rattle.x25_handshakes.specs.laws.Names.{Name}
-use Rattle.x25_handshakes.specs.laws.Histories.{Lists, Kind, messages, interrupts, calls, name_at, held_at, IsPrefix, IsLawful, channel_view, Histories, histories_run, histories_start}
+use Rattle.x25_handshakes.specs.laws.Histories.{Lists, Kind, messages, interrupts, calls, name_at, held_at, IsPrefix, IsLawful, channel_view, Histories}
+use Rattle.x25_handshakes.specs.laws.Histories.{histories_run, histories_start}
 use Rattle.x25_layer.specs.declared.ranges.Ranges.{Ranges}
 use Rattle.x25_layer.specs.laws.Bare.{bare_layers}
 use Rattle.x25_layer.specs.laws.Transcript.{Handed, under, calls_in, messages_in, interrupts_in}
@@ -58,38 +59,49 @@ always_lawful p long_data channels es =
     }
 
 -- what stands under the present name of an end
-pub near_present : {M : Type 0} (kind : Kind M) (lists : Handed → Lists M) (w : TwoLayers) (j : Pair) (g : Histories M) → AreHistories kind lists w g → g.pair ≡ j → (k : ℕ)
+pub near_present : {M : Type 0} (kind : Kind M) (lists : Handed → Lists M) (w : TwoLayers) (j : Pair) (g : Histories M) → AreHistories kind lists w g → g.pair
+    ≡ j → (k : ℕ)
     → g.near k (name_at kind (state_of g.pair.near) k) ≡ held_at kind (state_of g.pair.near) k
     → lists (under k (name_at kind (state_of j.near) k) w.near.entries) ≡ held_at kind (state_of j.near) k
 near_present kind lists w j g histories same k held =
-    subst (λ (q : Pair). lists (under k (name_at kind (state_of q.near) k) w.near.entries) ≡ held_at kind (state_of q.near) k) same (histories.near k (name_at kind (state_of g.pair.near) k) ∙ held)
+    subst (λ (q : Pair). lists (under k (name_at kind (state_of q.near) k) w.near.entries) ≡ held_at kind (state_of q.near) k) same
+    (histories.near k (name_at kind (state_of g.pair.near) k) ∙ held)
 
-pub far_present : {M : Type 0} (kind : Kind M) (lists : Handed → Lists M) (w : TwoLayers) (j : Pair) (g : Histories M) → AreHistories kind lists w g → g.pair ≡ j → (k : ℕ)
+pub far_present : {M : Type 0} (kind : Kind M) (lists : Handed → Lists M) (w : TwoLayers) (j : Pair) (g : Histories M) → AreHistories kind lists w g → g.pair
+    ≡ j → (k : ℕ)
     → g.far k (name_at kind (state_of g.pair.far) k) ≡ held_at kind (state_of g.pair.far) k
     → lists (under k (name_at kind (state_of j.far) k) w.far.entries) ≡ held_at kind (state_of j.far) k
 far_present kind lists w j g histories same k held =
-    subst (λ (q : Pair). lists (under k (name_at kind (state_of q.far) k) w.far.entries) ≡ held_at kind (state_of q.far) k) same (histories.far k (name_at kind (state_of g.pair.far) k) ∙ held)
+    subst (λ (q : Pair). lists (under k (name_at kind (state_of q.far) k) w.far.entries) ≡ held_at kind (state_of q.far) k) same
+    (histories.far k (name_at kind (state_of g.pair.far) k) ∙ held)
 
+-- at each moment of two layers all has arrived that can have
 pub always_arrives : Premises → (long_data : Bool) (channels : Ranges) → Always ArrivesAll long_data channels
 always_arrives p long_data channels es =
     let w : TwoLayers = run long_data channels es (start long_data channels) in
     let h : InRun channels w = in_run p long_data channels es in
     let j : Pair = pair_run h.events pair_start in
     let near : (k : ℕ) → AtPresent w.near j.near k = λ k. record {
-      of_messages = near_present messages messages_in w j (histories_run messages h.events histories_start) h.messages (histories_pair messages h.events histories_start) k (p.messages h.events k).held;
-      of_interrupts = near_present interrupts interrupts_in w j (histories_run interrupts h.events histories_start) h.interrupts (histories_pair interrupts h.events histories_start) k (p.interrupts h.events k).held;
+      of_messages = near_present messages messages_in w j (histories_run messages h.events histories_start) h.messages
+          (histories_pair messages h.events histories_start) k (p.messages h.events k).held;
+      of_interrupts = near_present interrupts interrupts_in w j (histories_run interrupts h.events histories_start) h.interrupts
+          (histories_pair interrupts h.events histories_start) k (p.interrupts h.events k).held;
     } in
     let far : (k : ℕ) → AtPresent w.far j.far k = λ k. record {
-      of_messages = far_present messages messages_in w j (histories_run messages h.events histories_start) h.messages (histories_pair messages h.events histories_start) k (p.messages h.events k).held_there;
-      of_interrupts = far_present interrupts interrupts_in w j (histories_run interrupts h.events histories_start) h.interrupts (histories_pair interrupts h.events histories_start) k (p.interrupts h.events k).held_there;
+      of_messages = far_present messages messages_in w j (histories_run messages h.events histories_start) h.messages
+          (histories_pair messages h.events histories_start) k (p.messages h.events k).held_there;
+      of_interrupts = far_present interrupts interrupts_in w j (histories_run interrupts h.events histories_start) h.interrupts
+          (histories_pair interrupts h.events histories_start) k (p.interrupts h.events k).held_there;
     } in
     record {
       near = λ k acked idle. has_all channels.message w.near w.far j.near j.far k acked h.sees.near h.sees.far (near k) (far k) idle
           (λ x y open_x open_y same.
           (p.arrived h.events k x y open_x open_y same).0
-          (sym h.sees.out ∙ ap (bare_layers channels.message) (none_in_flight w.near.given w.far.taken w.out acked h.sees.order.near idle.all_acked idle.acked_taken)));
+          (sym h.sees.out ∙ ap (bare_layers channels.message)
+          (none_in_flight w.near.given w.far.taken w.out acked h.sees.order.near idle.all_acked idle.acked_taken)));
       far = λ k acked idle. has_all channels.message w.far w.near j.far j.near k acked h.sees.far h.sees.near (far k) (near k) idle
           (λ x y open_x open_y same.
           (p.arrived h.events k y x open_y open_x (sym same)).1
-          (sym h.sees.back ∙ ap (bare_layers channels.message) (none_in_flight w.far.given w.near.taken w.back acked h.sees.order.far idle.all_acked idle.acked_taken)));
+          (sym h.sees.back ∙ ap (bare_layers channels.message)
+          (none_in_flight w.far.given w.near.taken w.back acked h.sees.order.far idle.all_acked idle.acked_taken)));
     }

@@ -1,10 +1,11 @@
 -- Each answer of a layer, each accepted call and each pull is a step of the nested handshakes, where that is no error of procedure.
-use Rattle.std.proofs.Common.{◌≡◌, ℕ, zero, suc, ◌≤◌, List, [], ◌∷◌, Option, Some, None, Bool, true, false, ◌==◌, ◌&&◌, ◌||◌, not, if◌then◌else◌, option_to_list, refl, sym, ap, subst, ◌∙◌, arith}
+use Rattle.std.proofs.Common.{◌≡◌, ℕ, zero, suc, ◌≤◌, List, [], ◌∷◌, Option, Some, None, Bool, true, false, ◌==◌, ◌&&◌, ◌||◌, not, if◌then◌else◌}
+use Rattle.std.proofs.Common.{option_to_list, refl, sym, ap, subst, ◌∙◌, arith}
 use Rattle.std.proofs.lemmas.Option.{same_Some}
 use Rattle.std.proofs.lemmas.Bool.{eqb-true, le-leb}
 use Rattle.x25_bits.specs.declared.role.Role.{Role}
 use Rattle.x25_bits.specs.declared.role.Role.TheVariants.{Dte, Dce}
-use Rattle.x25_packet.specs.Packet.{PlainPacket, call, accept, clear, clear_conf, user_data, rr, rnr, interrupt, interrupt_conf, reset, reset_conf, restart, restart_conf}
+use Rattle.x25_packet.specs.Packet.{PlainPacket, call, accept, clear, reset, restart, restart_conf}
 use Rattle.x25_packet.specs.Spelling.{channel_of, HasChannel, moved_to}
 use Rattle.x25_circuit.specs.Params.{Proposal}
 use Rattle.x25_circuit.specs.declared.error.CircuitError.TheVariants as circuit_error
@@ -16,21 +17,26 @@ use Rattle.x25_circuit.specs.Calling.{Outcome, Done, Refused, Request, Calls, Ac
 use Rattle.x25_handshakes.specs.laws.Handshake.{Side, Live, Left, has_left, At, OwnStep, live, left}
 use Rattle.x25_handshakes.specs.laws.Calls.{Connection}
 use Rattle.x25_handshakes.specs.laws.Channel.{channel_takes, channel_acts, fresh_channel}
-use Rattle.x25_handshakes.specs.laws.Layers.{LayerPacket, On, Restart, Channels, put, addressed, on_channel, all_fresh, layer_takes, layer_side_takes, layer_acts, layer_side_acts, OnChannel}
+use Rattle.x25_handshakes.specs.laws.Layers.{LayerPacket, On, Restart, Channels, put, addressed, on_channel, all_fresh, layer_takes, layer_side_takes}
+use Rattle.x25_handshakes.specs.laws.Layers.{layer_acts, layer_side_acts, OnChannel}
 use Rattle.x25_handshakes.specs.laws.Names.{both, same_name}
 use Rattle.x25_layer.specs.Ranges.{is_number, may_call}
 use Rattle.x25_layer.specs.declared.ranges.Ranges.{Ranges}
-use Rattle.x25_layer.specs.Layer.{LayerSettings, Layer, LayerAnswer, is_channel, put_at, packet_on, notices_on, is_ready, answers_on, drops, answers_ready, answers_restarting, answers_in, layer_answers}
+use Rattle.x25_layer.specs.Layer.{LayerSettings, Layer, LayerAnswer, is_channel, put_at, packet_on, notices_on, is_ready, answers_on, drops, answers_ready}
+use Rattle.x25_layer.specs.Layer.{answers_restarting, answers_in, layer_answers}
 use Rattle.x25_layer.specs.declared.error.LayerError.TheVariants as layer_error
 use Rattle.x25_layer.specs.Layer as flat
-use Rattle.x25_layer.specs.Calls.{LayerRequest, Asks, Dials, Restarts, PullsAll, LayerOutcome, Accepted, Declined, first_of, lowest_free, highest_free, first_free, where_callable, free_channel, puts_at_once, where_room, if_at_once, outcome_on, dialled, restarted_for, outcome_ready, outcome_in, layer_outcome, LayerPulled, layer_pulled}
+use Rattle.x25_layer.specs.Calls.{LayerRequest, Asks, Dials, Restarts, PullsAll, LayerOutcome, Accepted, Declined, first_of, lowest_free, highest_free}
+use Rattle.x25_layer.specs.Calls.{first_free, where_callable, free_channel, puts_at_once, where_room, if_at_once, outcome_on, dialled, restarted_for}
+use Rattle.x25_layer.specs.Calls.{outcome_ready, outcome_in, layer_outcome, LayerPulled, layer_pulled}
 use Rattle.x25_handshakes.specs.laws.PeerLayers.{found, layer_found}
 use Rattle.x25_layer.specs.laws.PeerJoined.{IsConfigured}
 use Rattle.x25_layer.specs.laws.Bare.{bare, bare_layer, bare_layers}
 use Rattle.x25_layer.specs.laws.Quiet.{IsQuiet, IsQuietAt, AreQuiet, AreNoFaults}
 use Rattle.x25_layer.specs.laws.Transcript.{Handed, nothing_handed, added, told_by_all, asked_by, Entry, Asked, name_of}
 use Rattle.x25_layer.specs.laws.TwoLayers.{shown, entries_asked, entry_of_request, entry_of_dial, entries_told}
-use Rattle.x25_layer.proofs.Sees.{unagreed, view, Shows, ParamsLaws, bare_if, IsQuietIf, TellNoFault, Follows, Does, Heeds, act_of, pull_act, Notes, NotesOutcome}
+use Rattle.x25_layer.proofs.Sees.{unagreed, view, Shows, ParamsLaws, bare_if, IsQuietIf, TellNoFault, Follows, Does, Heeds, act_of, pull_act, Notes}
+use Rattle.x25_layer.proofs.Sees.{NotesOutcome}
 use Rattle.x25_layer.proofs.ViewLemmas.{some_none, follows, heeds, pulls_as}
 use Rattle.x25_layer.proofs.NoteLemmas.{still, notes_taken, notes_asked, notes_pulled}
 use Rattle.x25_layer.proofs.LayerSees.{ShowsAt, SeesLayer, StepOf, FollowsLayer, DoesLayer, dial_act, layer_act, DoesItself, HeedsLayer}
@@ -64,7 +70,8 @@ on_bare : (most : ℕ) (h : ℕ) (o : Option PlainPacket) → IsQuietIf o → ba
 on_bare most h None q = refl
 on_bare most h (Some p) q = ap (λ (x : LayerPacket). x ∷ []) (moved_bare most h p q.1)
 
-on_quiet : (channels : Ranges) (h : ℕ) (o : Option PlainPacket) → is_channel channels h ≡ true → IsQuietIf o → AreQuiet channels (option_to_list (packet_on h o))
+on_quiet : (channels : Ranges) (h : ℕ) (o : Option PlainPacket) → is_channel channels h ≡ true → IsQuietIf o
+    → AreQuiet channels (option_to_list (packet_on h o))
 on_quiet channels h None is q = tt
 on_quiet channels h (Some p) is q = (moved_quiet channels h p q.1 q.0 is, tt)
 
@@ -76,12 +83,14 @@ put_same : (most : ℕ) (b : Bool) (c d : Circuit) (s z : At Connection) → Sho
 put_same most true c d s z p q = p
 put_same most false c d s z p q = q
 
-sees_put : (most : ℕ) (e : ℕ) (f : ℕ → Circuit) (x : Channels) (h : ℕ) (c : Circuit) (s : At Connection) → ((k : ℕ) → Shows most (f k) (x k)) → Shows most c s → SeesLayer most (is_ready e (put_at f h c)) (live e (put x h s))
+sees_put : (most : ℕ) (e : ℕ) (f : ℕ → Circuit) (x : Channels) (h : ℕ) (c : Circuit) (s : At Connection) → ((k : ℕ) → Shows most (f k) (x k)) → Shows most c s
+    → SeesLayer most (is_ready e (put_at f h c)) (live e (put x h s))
 sees_put most e f x h c s each is = record { restarting = refl; restarts = refl; circuits = λ k. put_same most (k == h) c (f k) s (x k) is (each k) }
 
 -- ---- packets handed up
 
-answers_follow : (most : ℕ) (channels : Ranges) (e : ℕ) (f : ℕ → Circuit) (x : Channels) (h : ℕ) (a : Answer) (s : OwnStep (At Connection) Packet) → is_channel channels h ≡ true → ((k : ℕ) → Shows most (f k) (x k)) → Follows most a s
+answers_follow : (most : ℕ) (channels : Ranges) (e : ℕ) (f : ℕ → Circuit) (x : Channels) (h : ℕ) (a : Answer) (s : OwnStep (At Connection) Packet)
+    → is_channel channels h ≡ true → ((k : ℕ) → Shows most (f k) (x k)) → Follows most a s
     → Notes (x h) s.next (told_by_all a.notices) → FollowsLayer most channels (answers_on e f h a) (live e x) (on_channel e x h s)
 answers_follow most channels e f x h a s is each g notes =
     let sees : SeesLayer most (is_ready e (put_at f h a.next)) (live e (put x h s.next)) = sees_put most e f x h a.next s.next each g.next in
@@ -90,48 +99,54 @@ answers_follow most channels e f x h a s is each g notes =
       owed = on_bare most h a.owed g.quiet ∙ ap (λ o. addressed h o) g.owed;
       quiet = on_quiet channels h a.owed is g.quiet;
       no_fault = on_no_fault h a.notices g.no_fault;
-      step = step_on most e x h s.next (is_ready e (put_at f h a.next)) (told_by_all a.notices) (entries_told (is_ready e (put_at f h a.next)) (notices_on h a.notices)) sees notes
+      step = step_on most e x h s.next (is_ready e (put_at f h a.next)) (told_by_all a.notices)
+          (entries_told (is_ready e (put_at f h a.next)) (notices_on h a.notices)) sees notes
           (λ k m. told_under (is_ready e (put_at f h a.next)) h a.notices k m);
     }
 
-if_channel : (most : ℕ) (channels : Ranges) (b : Bool) (u v : LayerAnswer) (z : At Channels) (s : OwnStep (At Channels) LayerPacket) → b ≡ true → FollowsLayer most channels u z s → FollowsLayer most channels (if b then u else v) z s
+if_channel : (most : ℕ) (channels : Ranges) (b : Bool) (u v : LayerAnswer) (z : At Channels) (s : OwnStep (At Channels) LayerPacket) → b ≡ true
+    → FollowsLayer most channels u z s → FollowsLayer most channels (if b then u else v) z s
 if_channel most channels true u v z s is g = g
 if_channel most channels false u v z s is g = absurd (true≢false (sym is))
 
-on_its_channel : ParamsLaws → (c : LayerSettings) (e : ℕ) (f : ℕ → Circuit) (x : Channels) (p : PlainPacket) (has : HasChannel p) → ((k : ℕ) → Shows c.circuit.longest (f k) (x k)) → IsConfigured c.channels p
+on_its_channel : ParamsLaws → (c : LayerSettings) (e : ℕ) (f : ℕ → Circuit) (x : Channels) (p : PlainPacket) (has : HasChannel p)
+    → ((k : ℕ) → Shows c.circuit.longest (f k) (x k)) → IsConfigured c.channels p
     → found (bare c.circuit.longest p) (channel_takes c.circuit.role (x (channel_of p)) (bare c.circuit.longest p)).error ≡ None
-    → FollowsLayer c.circuit.longest c.channels (if is_channel c.channels (channel_of p) then answers_on e f (channel_of p) (answers c.circuit (f (channel_of p)) p) else drops false e f) (live e x)
+    → FollowsLayer c.circuit.longest c.channels
+    (if is_channel c.channels (channel_of p) then answers_on e f (channel_of p) (answers c.circuit (f (channel_of p)) p) else drops false e f) (live e x)
     (on_channel e x (channel_of p) (channel_takes c.circuit.role (x (channel_of p)) (bare c.circuit.longest p)))
 on_its_channel laws c e f x p has each ok q =
     let h : ℕ = channel_of p in
     let s : OwnStep (At Connection) Packet = channel_takes c.circuit.role (x h) (bare c.circuit.longest p) in
-    if_channel c.circuit.longest c.channels (is_channel c.channels h) (answers_on e f h (answers c.circuit (f h) p)) (drops false e f) (live e x) (on_channel e x h s) (ok has)
+    if_channel c.circuit.longest c.channels (is_channel c.channels h) (answers_on e f h (answers c.circuit (f h) p)) (drops false e f) (live e x)
+    (on_channel e x h s) (ok has)
     (answers_follow c.circuit.longest c.channels e f x h (answers c.circuit (f h) p) s (ok has) each
-    (subst (λ (y : Circuit). Follows c.circuit.longest (answers c.circuit y p) s) (sym (each h).is) (follows laws c.circuit (each h).agreed (x h) p (each h).fits has q))
-    (subst (λ (y : Circuit). Notes (x h) s.next (told_by_all (answers c.circuit y p).notices)) (sym (each h).is) (notes_taken c.circuit (each h).agreed (x h) p (each h).fits has q)))
+    (subst (λ (y : Circuit). Follows c.circuit.longest (answers c.circuit y p) s) (sym (each h).is)
+    (follows laws c.circuit (each h).agreed (x h) p (each h).fits has q))
+    (subst (λ (y : Circuit). Notes (x h) s.next (told_by_all (answers c.circuit y p).notices)) (sym (each h).is)
+    (notes_taken c.circuit (each h).agreed (x h) p (each h).fits has q)))
 
 abbrev Taken : LayerSettings → ℕ → Side Channels → PlainPacket → OwnStep (At Channels) LayerPacket
 Taken c e z p = layer_side_takes c.circuit.role e z (bare_layer c.circuit.longest p)
 
-row_ready : ParamsLaws → (c : LayerSettings) (e : ℕ) (f : ℕ → Circuit) (x : Channels) (p : PlainPacket) → ((k : ℕ) → Shows c.circuit.longest (f k) (x k)) → IsConfigured c.channels p → layer_found (bare_layer c.circuit.longest p) (Taken c e (Live x) p).error ≡ None
+row_ready : ParamsLaws → (c : LayerSettings) (e : ℕ) (f : ℕ → Circuit) (x : Channels) (p : PlainPacket) → ((k : ℕ) → Shows c.circuit.longest (f k) (x k))
+    → IsConfigured c.channels p → layer_found (bare_layer c.circuit.longest p) (Taken c e (Live x) p).error ≡ None
     → FollowsLayer c.circuit.longest c.channels (answers_ready c e f p) (live e x) (Taken c e (Live x) p)
 row_ready laws c e f x (restart cause diagnostic) each ok q =
-    record { next = record { restarting = refl; restarts = refl; circuits = λ k. begun_shown c.circuit.longest }; owed = refl; quiet = ((tt, λ no. absurd no), tt); no_fault = (tt, tt); step = restart_step e (Live x) }
+    record {
+      next = record { restarting = refl; restarts = refl; circuits = λ k. begun_shown c.circuit.longest };
+      owed = refl;
+      quiet = ((tt, λ no. absurd no), tt);
+      no_fault = (tt, tt);
+      step = restart_step e (Live x);
+    }
 row_ready laws c e f x restart_conf each ok q = absurd (some_none 17 q)
-row_ready laws c e f x (call h called calling facilities user) each ok q = on_its_channel laws c e f x (call h called calling facilities user) tt each ok q
-row_ready laws c e f x (accept h facilities) each ok q = on_its_channel laws c e f x (accept h facilities) tt each ok q
-row_ready laws c e f x (clear h cause diagnostic) each ok q = on_its_channel laws c e f x (clear h cause diagnostic) tt each ok q
-row_ready laws c e f x (clear_conf h) each ok q = on_its_channel laws c e f x (clear_conf h) tt each ok q
-row_ready laws c e f x (user_data h qualifier more ps pr user) each ok q = on_its_channel laws c e f x (user_data h qualifier more ps pr user) tt each ok q
-row_ready laws c e f x (rr h pr) each ok q = on_its_channel laws c e f x (rr h pr) tt each ok q
-row_ready laws c e f x (rnr h pr) each ok q = on_its_channel laws c e f x (rnr h pr) tt each ok q
-row_ready laws c e f x (interrupt h user) each ok q = on_its_channel laws c e f x (interrupt h user) tt each ok q
-row_ready laws c e f x (interrupt_conf h) each ok q = on_its_channel laws c e f x (interrupt_conf h) tt each ok q
-row_ready laws c e f x (reset h cause diagnostic) each ok q = on_its_channel laws c e f x (reset h cause diagnostic) tt each ok q
-row_ready laws c e f x (reset_conf h) each ok q = on_its_channel laws c e f x (reset_conf h) tt each ok q
+row_ready laws c e f x p each ok q = on_its_channel laws c e f x p tt each ok q
 
-restarted : (most : ℕ) (channels : Ranges) (e : ℕ) (x : Side Channels) (notices : List flat.LayerNotice) → AreNoFaults notices → entries_told (is_ready (suc e) (λ k. begun)) notices ≡ []
-    → FollowsLayer most channels (flat.restarts_to e None notices) (record { epoch = e; side = x }) (record { next = live (suc e) all_fresh; out = []; error = None })
+restarted : (most : ℕ) (channels : Ranges) (e : ℕ) (x : Side Channels) (notices : List flat.LayerNotice) → AreNoFaults notices
+    → entries_told (is_ready (suc e) (λ k. begun)) notices ≡ []
+    → FollowsLayer most channels (flat.restarts_to e None notices) (record { epoch = e; side = x })
+    (record { next = live (suc e) all_fresh; out = []; error = None })
 restarted most channels e x notices clean none = record {
   next = record { restarting = refl; restarts = refl; circuits = λ k. begun_shown most };
   owed = refl;
@@ -156,18 +171,24 @@ row_restarting c e f x (restart cause diagnostic) each = restarted c.circuit.lon
 row_restarting c e f x restart_conf each = restarted c.circuit.longest c.channels e (Left x) (flat.restart_done ∷ []) (tt, tt) refl
 row_restarting c e f x other each = dropped c.circuit.longest c.channels e f x each
 
-row_side : ParamsLaws → (c : LayerSettings) (b : Bool) (e g : ℕ) (f : ℕ → Circuit) (z : Side Channels) (p : PlainPacket) → b ≡ has_left z → e ≡ g → ((k : ℕ) → ShowsAt c.circuit.longest z k (f k)) → IsConfigured c.channels p
-    → layer_found (bare_layer c.circuit.longest p) (Taken c g z p).error ≡ None → FollowsLayer c.circuit.longest c.channels (answers_in c b e f p) (record { epoch = g; side = z }) (Taken c g z p)
+row_side : ParamsLaws → (c : LayerSettings) (b : Bool) (e g : ℕ) (f : ℕ → Circuit) (z : Side Channels) (p : PlainPacket) → b ≡ has_left z → e ≡ g
+    → ((k : ℕ) → ShowsAt c.circuit.longest z k (f k)) → IsConfigured c.channels p
+    → layer_found (bare_layer c.circuit.longest p) (Taken c g z p).error ≡ None
+    → FollowsLayer c.circuit.longest c.channels (answers_in c b e f p) (record { epoch = g; side = z }) (Taken c g z p)
 row_side laws c false e g f (Live x) p is same each ok q =
-    subst (λ (m : ℕ). FollowsLayer c.circuit.longest c.channels (answers_in c false m f p) (live g x) (Taken c g (Live x) p)) (sym same) (row_ready laws c g f x p each ok q)
+    subst (λ (m : ℕ). FollowsLayer c.circuit.longest c.channels (answers_in c false m f p) (live g x) (Taken c g (Live x) p)) (sym same)
+    (row_ready laws c g f x p each ok q)
 row_side laws c true e g f (Left x) p is same each ok q =
-    subst (λ (m : ℕ). FollowsLayer c.circuit.longest c.channels (answers_in c true m f p) (left g x) (Taken c g (Left x) p)) (sym same) (row_restarting c g f x p each)
+    subst (λ (m : ℕ). FollowsLayer c.circuit.longest c.channels (answers_in c true m f p) (left g x) (Taken c g (Left x) p)) (sym same)
+    (row_restarting c g f x p each)
 row_side laws c true e g f (Live x) p is same each ok q = absurd (true≢false is)
 row_side laws c false e g f (Left x) p is same each ok q = absurd (true≢false (sym is))
 
 -- A packet handed up.
-pub layer_follows : ParamsLaws → (c : LayerSettings) (l : Layer) (z : At Channels) (p : PlainPacket) → SeesLayer c.circuit.longest l z → IsConfigured c.channels p
-    → layer_found (bare_layer c.circuit.longest p) (layer_takes c.circuit.role z (bare_layer c.circuit.longest p)).error ≡ None → FollowsLayer c.circuit.longest c.channels (layer_answers c l p) z (layer_takes c.circuit.role z (bare_layer c.circuit.longest p))
+pub layer_follows : ParamsLaws → (c : LayerSettings) (l : Layer) (z : At Channels) (p : PlainPacket) → SeesLayer c.circuit.longest l z
+    → IsConfigured c.channels p
+    → layer_found (bare_layer c.circuit.longest p) (layer_takes c.circuit.role z (bare_layer c.circuit.longest p)).error ≡ None
+    → FollowsLayer c.circuit.longest c.channels (layer_answers c l p) z (layer_takes c.circuit.role z (bare_layer c.circuit.longest p))
 layer_follows laws c l z p s ok q = row_side laws c l.restarting l.restarts z.epoch l.circuits z.side p s.restarting s.restarts s.circuits ok q
 
 -- ---- calls of the user
@@ -177,7 +198,8 @@ asked_shown : (x : Circuit) (request : Request) → asked_by (shown x request) �
 asked_shown x (Accepts answer) = refl
 asked_shown x other = refl
 
-asked_on : (c : LayerSettings) (e : ℕ) (f : ℕ → Circuit) (x : Channels) (h : ℕ) (request : Request) (d : Outcome) (s : OwnStep (At Connection) Packet) → is_channel c.channels h ≡ true → ((k : ℕ) → Shows c.circuit.longest (f k) (x k)) → Heeds c.circuit.longest d s
+asked_on : (c : LayerSettings) (e : ℕ) (f : ℕ → Circuit) (x : Channels) (h : ℕ) (request : Request) (d : Outcome) (s : OwnStep (At Connection) Packet)
+    → is_channel c.channels h ≡ true → ((k : ℕ) → Shows c.circuit.longest (f k) (x k)) → Heeds c.circuit.longest d s
     → NotesOutcome d (x h) s.next (asked_by request) → (l : Layer) (r : LayerRequest) → ((n : Layer) → entries_asked c l n r ≡ entry_of_request n h request)
     → HeedsLayer c l r (outcome_on e f h d) (live e x) (on_channel e x h s)
 asked_on c e f x h request (Done next packet) s is each g notes l r same =
@@ -189,20 +211,24 @@ asked_on c e f x h request (Done next packet) s is each g notes l r same =
       quiet = on_quiet c.channels h packet is g.quiet;
       step = subst (λ (es : List Entry). StepOf (live e x) (live e (put x h s.next)) es) (sym (same n))
           (step_on c.circuit.longest e x h s.next n (asked_by request) (entry_of_request n h request) sees notes
-          (λ k m. ap (λ (said : Handed). added (if both (k == h) (same_name m (name_of n h)) then said else nothing_handed) nothing_handed) (asked_shown (n.circuits h) request)
+          (λ k m. ap (λ (said : Handed). added (if both (k == h) (same_name m (name_of n h)) then said else nothing_handed) nothing_handed)
+          (asked_shown (n.circuits h) request)
           ∙ sym (under_one k m (record { channel = h; name = name_of n h; said = Asked request }) (asked_by request))));
     }
 asked_on c e f x h request (Refused error) s is each g notes l r same = tt
 
-room : (c : LayerSettings) (l : Layer) (r : LayerRequest) (full : Bool) (good : LayerOutcome) (z : At Channels) (s : OwnStep (At Channels) LayerPacket) → HeedsLayer c l r good z s → HeedsLayer c l r (where_room full good) z s
+room : (c : LayerSettings) (l : Layer) (r : LayerRequest) (full : Bool) (good : LayerOutcome) (z : At Channels) (s : OwnStep (At Channels) LayerPacket)
+    → HeedsLayer c l r good z s → HeedsLayer c l r (where_room full good) z s
 room c l r true good z s h = tt
 room c l r false good z s h = h
 
-at_once : (c : LayerSettings) (l : Layer) (r : LayerRequest) (now full : Bool) (good : LayerOutcome) (z : At Channels) (s : OwnStep (At Channels) LayerPacket) → HeedsLayer c l r good z s → HeedsLayer c l r (if_at_once now full good) z s
+at_once : (c : LayerSettings) (l : Layer) (r : LayerRequest) (now full : Bool) (good : LayerOutcome) (z : At Channels) (s : OwnStep (At Channels) LayerPacket)
+    → HeedsLayer c l r good z s → HeedsLayer c l r (if_at_once now full good) z s
 at_once c l r true full good z s h = room c l r full good z s h
 at_once c l r false full good z s h = h
 
-if_there : (c : LayerSettings) (l : Layer) (r : LayerRequest) (b : Bool) (good : LayerOutcome) (error : _) (z : At Channels) (s : OwnStep (At Channels) LayerPacket) → (b ≡ true → HeedsLayer c l r good z s)
+if_there : (c : LayerSettings) (l : Layer) (r : LayerRequest) (b : Bool) (good : LayerOutcome) (error : _) (z : At Channels)
+    (s : OwnStep (At Channels) LayerPacket) → (b ≡ true → HeedsLayer c l r good z s)
     → HeedsLayer c l r (if b then good else Declined error) z s
 if_there c l r true good error z s h = h refl
 if_there c l r false good error z s h = tt
@@ -245,33 +271,43 @@ free_in role f channels h e = found (first_free role f channels.count) (λ k is.
     found (Some k) is same = may k (may_call role channels k) (is k refl) same
 
 -- the circuit of a configured channel does what is asked
-circuit_asked : ParamsLaws → (c : LayerSettings) (e : ℕ) (f : ℕ → Circuit) (x : Channels) (h : ℕ) (request : Request) → is_channel c.channels h ≡ true → ((k : ℕ) → Shows c.circuit.longest (f k) (x k))
+circuit_asked : ParamsLaws → (c : LayerSettings) (e : ℕ) (f : ℕ → Circuit) (x : Channels) (h : ℕ) (request : Request) → is_channel c.channels h ≡ true
+    → ((k : ℕ) → Shows c.circuit.longest (f k) (x k))
     → (l : Layer) (r : LayerRequest) → ((n : Layer) → entries_asked c l n r ≡ entry_of_request n h request)
-    → HeedsLayer c l r (outcome_on e f h (outcome c.circuit (f h) request)) (live e x) (on_channel e x h (channel_acts (x h) (act_of c.circuit.longest request)))
+    → HeedsLayer c l r (outcome_on e f h (outcome c.circuit (f h) request)) (live e x)
+    (on_channel e x h (channel_acts (x h) (act_of c.circuit.longest request)))
 circuit_asked laws c e f x h request is each l r same =
     asked_on c e f x h request (outcome c.circuit (f h) request) (channel_acts (x h) (act_of c.circuit.longest request)) is each
-    (subst (λ (y : Circuit). Heeds c.circuit.longest (outcome c.circuit y request) (channel_acts (x h) (act_of c.circuit.longest request))) (sym (each h).is) (heeds laws c.circuit (each h).agreed (x h) request (each h).fits))
-    (subst (λ (y : Circuit). NotesOutcome (outcome c.circuit y request) (x h) (channel_acts (x h) (act_of c.circuit.longest request)).next (asked_by request)) (sym (each h).is) (notes_asked c.circuit (each h).agreed (x h) request (each h).fits))
+    (subst (λ (y : Circuit). Heeds c.circuit.longest (outcome c.circuit y request) (channel_acts (x h) (act_of c.circuit.longest request))) (sym (each h).is)
+    (heeds laws c.circuit (each h).agreed (x h) request (each h).fits))
+    (subst (λ (y : Circuit). NotesOutcome (outcome c.circuit y request) (x h) (channel_acts (x h) (act_of c.circuit.longest request)).next (asked_by request))
+    (sym (each h).is) (notes_asked c.circuit (each h).agreed (x h) request (each h).fits))
     l r same
 
-dial : ParamsLaws → (c : LayerSettings) (full : Bool) (e : ℕ) (f : ℕ → Circuit) (x : Channels) (called calling user : List ℕ) (proposal : Proposal) → ((k : ℕ) → Shows c.circuit.longest (f k) (x k)) → (l : Layer) → l.circuits ≡ f
-    → HeedsLayer c l (Dials called calling user proposal) (dialled c full e f (free_channel c.circuit.role f c.channels) called calling user proposal) (live e x)
+dial : ParamsLaws → (c : LayerSettings) (full : Bool) (e : ℕ) (f : ℕ → Circuit) (x : Channels) (called calling user : List ℕ) (proposal : Proposal)
+    → ((k : ℕ) → Shows c.circuit.longest (f k) (x k)) → (l : Layer) → l.circuits ≡ f
+    → HeedsLayer c l (Dials called calling user proposal) (dialled c full e f (free_channel c.circuit.role f c.channels) called calling user proposal)
+    (live e x)
     (layer_side_acts e (Live x) (dial_act (free_channel c.circuit.role f c.channels) called calling user proposal))
 dial laws c full e f x called calling user proposal each l same = found (free_channel c.circuit.role f c.channels) refl
   where
     found : (o : Option ℕ) → free_channel c.circuit.role f c.channels ≡ o
-        → HeedsLayer c l (Dials called calling user proposal) (dialled c full e f o called calling user proposal) (live e x) (layer_side_acts e (Live x) (dial_act o called calling user proposal))
+        → HeedsLayer c l (Dials called calling user proposal) (dialled c full e f o called calling user proposal) (live e x)
+        (layer_side_acts e (Live x) (dial_act o called calling user proposal))
     found None is = tt
     found (Some h) is =
         room c l (Dials called calling user proposal) full (outcome_on e f h (outcome c.circuit (f h) (Calls called calling user proposal))) (live e x)
         (on_channel e x h (channel_acts (x h) (act_of c.circuit.longest (Calls called calling user proposal))))
-        (circuit_asked laws c e f x h (Calls called calling user proposal) (free_in c.circuit.role f c.channels h is) each l (Dials called calling user proposal)
+        (circuit_asked laws c e f x h (Calls called calling user proposal) (free_in c.circuit.role f c.channels h is) each l
+        (Dials called calling user proposal)
         (λ n. ap (λ o. entry_of_dial n o (Calls called calling user proposal)) (ap (λ (g : ℕ → Circuit). free_channel c.circuit.role g c.channels) same ∙ is)))
 
-asked_ready : ParamsLaws → (c : LayerSettings) (full : Bool) (e : ℕ) (l : Layer) (x : Channels) (r : LayerRequest) → DoesItself r → ((k : ℕ) → Shows c.circuit.longest (l.circuits k) (x k))
+asked_ready : ParamsLaws → (c : LayerSettings) (full : Bool) (e : ℕ) (l : Layer) (x : Channels) (r : LayerRequest) → DoesItself r
+    → ((k : ℕ) → Shows c.circuit.longest (l.circuits k) (x k))
     → HeedsLayer c l r (outcome_ready c full e l.circuits r) (live e x) (layer_side_acts e (Live x) (layer_act c l.circuits r))
 asked_ready laws c full e l x (Asks h request) does each =
-    if_there c l (Asks h request) (is_channel c.channels h) (if_at_once (puts_at_once request) full (outcome_on e l.circuits h (outcome c.circuit (l.circuits h) request))) _ (live e x)
+    if_there c l (Asks h request) (is_channel c.channels h)
+    (if_at_once (puts_at_once request) full (outcome_on e l.circuits h (outcome c.circuit (l.circuits h) request))) _ (live e x)
     (on_channel e x h (channel_acts (x h) (act_of c.circuit.longest request)))
     (λ is. at_once c l (Asks h request) (puts_at_once request) full (outcome_on e l.circuits h (outcome c.circuit (l.circuits h) request)) (live e x)
     (on_channel e x h (channel_acts (x h) (act_of c.circuit.longest request)))
@@ -279,13 +315,16 @@ asked_ready laws c full e l x (Asks h request) does each =
 asked_ready laws c full e l x (Dials called calling user proposal) does each = dial laws c full e l.circuits x called calling user proposal each l refl
 asked_ready laws c full e l x PullsAll does each = absurd does
 asked_ready laws c full e l x (Restarts cause diagnostic) does each =
-    room c l (Restarts cause diagnostic) full (restarted_for c.circuit.role e l.circuits cause diagnostic) (live e x) restarts (given (is_fault_of_restart cause) refl (cause == 0 || is_of_end c.circuit.role cause))
+    room c l (Restarts cause diagnostic) full (restarted_for c.circuit.role e l.circuits cause diagnostic) (live e x) restarts
+    (given (is_fault_of_restart cause) refl (cause == 0 || is_of_end c.circuit.role cause))
   where
     restarts : OwnStep (At Channels) LayerPacket
     restarts = record { next = left e x; out = Restart ∷ []; error = None }
 
     given : (is_fault : Bool) → is_fault_of_restart cause ≡ is_fault → (b : Bool)
-        → HeedsLayer c l (Restarts cause diagnostic) (if not is_fault && b then Accepted (flat.restarting_from e l.circuits) (Some (restart cause diagnostic)) else Declined (layer_error.Circuit circuit_error.BadParameter)) (live e x) restarts
+        → HeedsLayer c l (Restarts cause diagnostic)
+        (if not is_fault && b then Accepted (flat.restarting_from e l.circuits) (Some (restart cause diagnostic))
+        else Declined (layer_error.Circuit circuit_error.BadParameter)) (live e x) restarts
     given true is b = tt
     given false is false = tt
     given false is true = record {
@@ -296,21 +335,25 @@ asked_ready laws c full e l x (Restarts cause diagnostic) does each =
     }
 
 -- A call of the user.
-pub layer_heeds : ParamsLaws → (c : LayerSettings) (full : Bool) (l : Layer) (z : At Channels) (r : LayerRequest) → DoesItself r → SeesLayer c.circuit.longest l z
+pub layer_heeds : ParamsLaws → (c : LayerSettings) (full : Bool) (l : Layer) (z : At Channels) (r : LayerRequest) → DoesItself r
+    → SeesLayer c.circuit.longest l z
     → HeedsLayer c l r (layer_outcome c full l r) z (layer_acts z (layer_act c l.circuits r))
 layer_heeds laws c full l z r does s = side l.restarting z.side s.restarting s.circuits
   where
     side : (b : Bool) (w : Side Channels) → b ≡ has_left w → ((k : ℕ) → ShowsAt c.circuit.longest w k (l.circuits k))
-        → HeedsLayer c l r (outcome_in c full b l.restarts l.circuits r) (record { epoch = z.epoch; side = w }) (layer_side_acts z.epoch w (layer_act c l.circuits r))
+        → HeedsLayer c l r (outcome_in c full b l.restarts l.circuits r) (record { epoch = z.epoch; side = w })
+        (layer_side_acts z.epoch w (layer_act c l.circuits r))
     side true w is each = tt
     side false (Left x) is each = absurd (true≢false (sym is))
     side false (Live x) is each =
-        subst (λ (m : ℕ). HeedsLayer c l r (outcome_ready c full m l.circuits r) (live z.epoch x) (layer_side_acts z.epoch (Live x) (layer_act c l.circuits r))) (sym s.restarts)
+        subst (λ (m : ℕ). HeedsLayer c l r (outcome_ready c full m l.circuits r) (live z.epoch x)
+        (layer_side_acts z.epoch (Live x) (layer_act c l.circuits r))) (sym s.restarts)
         (asked_ready laws c full z.epoch l x r does each)
 
 -- ---- pulls
 
-pulled_forgotten : (k h : ℕ) (f : ℕ → Circuit) (x : Channels) → ((j : ℕ) → f j ≡ forgotten (view unagreed (x j))) → (y : Circuit) → y ≡ forgotten (view unagreed (x h)) → (b : Bool) → (k == h) ≡ b → (if b then y else f k) ≡ forgotten (view unagreed (x k))
+pulled_forgotten : (k h : ℕ) (f : ℕ → Circuit) (x : Channels) → ((j : ℕ) → f j ≡ forgotten (view unagreed (x j))) → (y : Circuit) → y
+    ≡ forgotten (view unagreed (x h)) → (b : Bool) → (k == h) ≡ b → (if b then y else f k) ≡ forgotten (view unagreed (x k))
 pulled_forgotten k h f x each y is true at = is ∙ ap (λ (j : ℕ). forgotten (view unagreed (x j))) (sym (eqb-true k h at))
 pulled_forgotten k h f x each y is false at = each k
 
@@ -318,19 +361,32 @@ pulled_note : (x : Channels) (h k : ℕ) (b : Bool) → (k == h) ≡ b → Notes
 pulled_note x h k true at = subst (λ (j : ℕ). Notes (x j) (channel_acts (x h) pull_act).next nothing_handed) (sym (eqb-true k h at)) (notes_pulled (x h))
 pulled_note x h k false at = still (x k)
 
+-- a pull of the layer is one of the nested handshakes
 pub layer_pulls : (c : LayerSettings) (l : Layer) (z : At Channels) (h : ℕ) → is_channel c.channels h ≡ true → SeesLayer c.circuit.longest l z
     → DoesLayer c.circuit.longest c.channels (layer_pulled c l h).next (layer_pulled c l h).packet [] z (layer_acts z (OnChannel h pull_act))
 layer_pulls c l z h is s = side l.restarting z.side s.restarting s.circuits
   where
     side : (b : Bool) (w : Side Channels) → b ≡ has_left w → ((k : ℕ) → ShowsAt c.circuit.longest w k (l.circuits k))
-        → let p : LayerPulled = record { next = record { restarting = b; restarts = l.restarts; circuits = put_at l.circuits h (pulled c.circuit (l.circuits h)).next }; packet = packet_on h (pulled c.circuit (l.circuits h)).packet } in
+        → let p : LayerPulled = record {
+          next = record {
+            restarting = b;
+            restarts = l.restarts;
+            circuits = put_at l.circuits h (pulled c.circuit (l.circuits h)).next;
+          };
+          packet = packet_on h (pulled c.circuit (l.circuits h)).packet;
+        } in
         DoesLayer c.circuit.longest c.channels p.next p.packet [] (record { epoch = z.epoch; side = w }) (layer_side_acts z.epoch w (OnChannel h pull_act))
     side true (Live x) differ each = absurd (true≢false differ)
     side false (Left x) differ each = absurd (true≢false (sym differ))
     side true (Left x) both each =
-        let kept : pulled c.circuit (l.circuits h) ≡ record { next = forgotten (view unagreed (x h)); packet = None } = ap (λ (y : Circuit). pulled c.circuit y) (each h) in
+        let kept : pulled c.circuit (l.circuits h) ≡ record { next = forgotten (view unagreed (x h)); packet = None } =
+        ap (λ (y : Circuit). pulled c.circuit y) (each h) in
         record {
-          next = record { restarting = refl; restarts = s.restarts; circuits = λ k. pulled_forgotten k h l.circuits x each (pulled c.circuit (l.circuits h)).next (ap (λ (p : Pulled). p.next) kept) (k == h) refl };
+          next = record {
+            restarting = refl;
+            restarts = s.restarts;
+            circuits = λ k. pulled_forgotten k h l.circuits x each (pulled c.circuit (l.circuits h)).next (ap (λ (p : Pulled). p.next) kept) (k == h) refl;
+          };
           put = ap (λ (p : Pulled). bare_layers c.circuit.longest (option_to_list (packet_on h p.packet))) kept;
           quiet = subst (λ (p : Pulled). AreQuiet c.channels (option_to_list (packet_on h p.packet))) (sym kept) tt;
           step = quiet_step (left z.epoch x) (left z.epoch x) refl (λ k. still (x k));
@@ -338,9 +394,14 @@ layer_pulls c l z h is s = side l.restarting z.side s.restarting s.circuits
     side false (Live x) both each =
         let t : OwnStep (At Connection) Packet = channel_acts (x h) pull_act in
         let g : Does c.circuit.longest (pulled c.circuit (l.circuits h)).next (pulled c.circuit (l.circuits h)).packet t =
-        subst (λ (y : Circuit). Does c.circuit.longest (pulled c.circuit y).next (pulled c.circuit y).packet t) (sym (each h).is) (pulls_as c.circuit (each h).agreed (x h) (each h).fits) in
+        subst (λ (y : Circuit). Does c.circuit.longest (pulled c.circuit y).next (pulled c.circuit y).packet t) (sym (each h).is)
+        (pulls_as c.circuit (each h).agreed (x h) (each h).fits) in
         record {
-          next = record { restarting = refl; restarts = s.restarts; circuits = λ k. put_same c.circuit.longest (k == h) (pulled c.circuit (l.circuits h)).next (l.circuits k) t.next (x k) g.next (each k) };
+          next = record {
+            restarting = refl;
+            restarts = s.restarts;
+            circuits = λ k. put_same c.circuit.longest (k == h) (pulled c.circuit (l.circuits h)).next (l.circuits k) t.next (x k) g.next (each k);
+          };
           put = on_bare c.circuit.longest h (pulled c.circuit (l.circuits h)).packet g.quiet ∙ ap (λ o. addressed h o) g.packet;
           quiet = on_quiet c.channels h (pulled c.circuit (l.circuits h)).packet is g.quiet;
           step = quiet_step (live z.epoch x) (live z.epoch (put x h t.next)) refl (λ k. pulled_note x h k (k == h) refl);

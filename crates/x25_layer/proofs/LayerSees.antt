@@ -51,7 +51,8 @@ pub record FollowsLayer (most : ℕ) (channels : Ranges) (a : LayerAnswer) (z : 
   pub step : StepOf z s.next (entries_told a.next a.notices)
 
 -- the same of a call or a pull, with the entries that it makes
-pub record DoesLayer (most : ℕ) (channels : Ranges) (l : Layer) (packet : Option PlainPacket) (es : List Entry) (z : At Channels) (s : OwnStep (At Channels) LayerPacket) : Type 0 where
+pub record DoesLayer (most : ℕ) (channels : Ranges) (l : Layer) (packet : Option PlainPacket) (es : List Entry) (z : At Channels)
+    (s : OwnStep (At Channels) LayerPacket) : Type 0 where
   pub next : SeesLayer most l s.next
   pub put : bare_layers most (option_to_list packet) ≡ s.out
   pub quiet : AreQuiet channels (option_to_list packet)
@@ -73,6 +74,7 @@ abbrev pub DoesItself : LayerRequest → Type 0
 DoesItself PullsAll = ⊥
 DoesItself request = Unit {0}
 
+-- a request that is accepted is a step of the nested handshakes
 abbrev pub HeedsLayer : LayerSettings → Layer → LayerRequest → LayerOutcome → At Channels → OwnStep (At Channels) LayerPacket → Type 0
 HeedsLayer c l request (Accepted next packet) z s = DoesLayer c.circuit.longest c.channels next packet (entries_asked c l next request) z s
 HeedsLayer c l request (Declined error) z s = Unit {0}

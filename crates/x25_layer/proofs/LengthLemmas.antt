@@ -1,7 +1,7 @@
 -- How many octets spell a packet at most.
 use Rattle.std.proofs.Common.{◌≡◌, ℕ, ◌+◌, ◌*◌, ◌≤◌, List, [], ◌∷◌, ◌++◌, length, length-append, Option, Some, None, ap, ◌∙◌, arith}
 use Rattle.x25_packet.specs.declared.facilities.Directions.{Directions}
-use Rattle.x25_packet.specs.Packet.{PlainPacket, call, accept, clear, clear_conf, user_data, rr, rnr, interrupt, interrupt_conf, reset, reset_conf, restart, restart_conf}
+use Rattle.x25_packet.specs.Packet.{PlainPacket, call, accept, user_data, interrupt}
 use Rattle.x25_packet.specs.Digits.{packed, IsAddress}
 use Rattle.x25_packet.specs.Facilities.{facility, IsFacilityField}
 use Rattle.x25_packet.specs.Spelling.{addresses, call_body, accept_body, spelling_of, IsInRange}
@@ -21,10 +21,12 @@ pub field_short : (field : List ℕ) → IsFacilityField field → length field 
 field_short field is =
     let a = facility_short 66 is.0.packet_size in
     let b = facility_short 67 is.0.window_size in
-    let e : length field ≡ length (facility 66 is.0.packet_size) + length (facility 67 is.0.window_size) = ap length is.2 ∙ length-append (facility 66 is.0.packet_size) (facility 67 is.0.window_size) in
+    let e : length field ≡ length (facility 66 is.0.packet_size) + length (facility 67 is.0.window_size) =
+    ap length is.2 ∙ length-append (facility 66 is.0.packet_size) (facility 67 is.0.window_size) in
     omega (arith, a, b, e)
 
-pub call_short : (called calling facilities user : List ℕ) → IsAddress called → IsAddress calling → IsFacilityField facilities → length (call_body called calling facilities user) ≤ 23 + length user
+pub call_short : (called calling facilities user : List ℕ) → IsAddress called → IsAddress calling → IsFacilityField facilities
+    → length (call_body called calling facilities user) ≤ 23 + length user
 call_short called calling facilities user a b f =
     let d = packed_short (called ++ calling) in
     let e = length-append called calling in
@@ -44,30 +46,15 @@ pub spelled_short : (p : PlainPacket) → IsInRange 128 p → user_octets p ≡ 
 spelled_short (call channel called calling facilities user) is none =
     let low = call_short called calling facilities user is.1 is.2 is.3 in let few : length user ≤ 128 = is.4 in omega (arith, low, few)
 spelled_short (accept channel facilities) is none = let low = accept_short facilities is.1 in omega (arith, low)
-spelled_short (clear channel cause diagnostic) is none = omega arith
-spelled_short (clear_conf channel) is none = omega arith
 spelled_short (user_data channel marks m ps pr user) is none = let empty : length user ≡ 0 = ap (λ (xs : List ℕ). length xs) none in omega (arith, empty)
-spelled_short (rr channel pr) is none = omega arith
-spelled_short (rnr channel pr) is none = omega arith
 spelled_short (interrupt channel user) is none = let low : length user ≤ 32 = is.2 in omega (arith, low)
-spelled_short (interrupt_conf channel) is none = omega arith
-spelled_short (reset channel cause diagnostic) is none = omega arith
-spelled_short (reset_conf channel) is none = omega arith
-spelled_short (restart cause diagnostic) is none = omega arith
-spelled_short restart_conf is none = omega arith
+spelled_short p is none = omega arith
 
 -- any packet
 pub spelled_long : (p : PlainPacket) → IsInRange 128 p → length (spelling_of p) ≤ 4099
-spelled_long (call channel called calling facilities user) is = let low = call_short called calling facilities user is.1 is.2 is.3 in let few : length user ≤ 128 = is.4 in omega (arith, low, few)
+spelled_long (call channel called calling facilities user) is =
+    let low = call_short called calling facilities user is.1 is.2 is.3 in let few : length user ≤ 128 = is.4 in omega (arith, low, few)
 spelled_long (accept channel facilities) is = let low = accept_short facilities is.1 in omega (arith, low)
-spelled_long (clear channel cause diagnostic) is = omega arith
-spelled_long (clear_conf channel) is = omega arith
 spelled_long (user_data channel marks m ps pr user) is = let low : length user ≤ 4096 = is.3 in omega (arith, low)
-spelled_long (rr channel pr) is = omega arith
-spelled_long (rnr channel pr) is = omega arith
 spelled_long (interrupt channel user) is = let low : length user ≤ 32 = is.2 in omega (arith, low)
-spelled_long (interrupt_conf channel) is = omega arith
-spelled_long (reset channel cause diagnostic) is = omega arith
-spelled_long (reset_conf channel) is = omega arith
-spelled_long (restart cause diagnostic) is = omega arith
-spelled_long restart_conf is = omega arith
+spelled_long p is = omega arith

@@ -2,7 +2,8 @@
 use Rattle.std.proofs.Common.{◌≡◌, ℕ, List, [], ◌∷◌, ◌++◌, length, Option, Some, None, Bool, true, false, nat_lt, nat_le, ◌&&◌, if◌then◌else◌, refl}
 use Rattle.x25_bits.specs.declared.role.Role.{Role}
 use Rattle.x25_bits.specs.declared.role.Role.TheVariants.{Dte, Dce}
-use Rattle.x25_packet.specs.Packet.{PlainPacket, call, accept, clear, clear_conf, user_data, rr, rnr, interrupt, interrupt_conf, reset, reset_conf, restart, restart_conf}
+use Rattle.x25_packet.specs.Packet.{PlainPacket, call, accept, clear, clear_conf, user_data, rr, rnr, interrupt, interrupt_conf, reset, reset_conf, restart}
+use Rattle.x25_packet.specs.Packet.{restart_conf}
 use Rattle.x25_packet.specs.declared.marks.Marks.{Marks}
 use Rattle.x25_circuit.specs.declared.error.CircuitError.TheVariants.{Full, TooLong, InterruptOutstanding, BadParameter}
 use Rattle.x25_circuit.specs.declared.state.State.{State}
@@ -13,8 +14,11 @@ use Rattle.x25_circuit.specs.Cause.{may_clear_for, may_reset_for}
 use Rattle.x25_circuit.specs.Message.{Message, Piece, piece_of, no_part, joining, completed, cut}
 use Rattle.x25_circuit.specs.Circuit.{CircuitSettings, Talk, Circuit, outgoing, incoming as terms_in, is_free, is_free_in, waits}
 use Rattle.x25_circuit.specs.Notice.{CallRequest, PlainNotice, connected, deliveries}
-use Rattle.x25_circuit.specs.Hearing.{Answer, answers, goes, clears_for, request_in, collides, connects, row_call, row_accept, row_clear, row_clear_conf, row_reset, row_reset_conf, unless, takes, hears_status, confirms, row_open, row_data, data_ground, number_ground}
-use Rattle.x25_circuit.specs.Calling.{Outcome, Done, Refused, Request, Calls, Accepts, Clears, Sends, Interrupts, Resets, SaysReady, SaysNotReady, does, keeps_on, call_sent, may_call, call_in, accept_with, accept_in, clear_with, clear_in, send_in, interrupt_in, reset_in, ready_in, outcome, Pulled, pull_open, pull_in, pulled}
+use Rattle.x25_circuit.specs.Hearing.{Answer, answers, goes, clears_for, request_in, collides, connects, row_call, row_accept, row_clear, row_clear_conf}
+use Rattle.x25_circuit.specs.Hearing.{row_reset, row_reset_conf, unless, takes, hears_status, confirms, row_open, row_data, data_ground, number_ground}
+use Rattle.x25_circuit.specs.Calling.{Outcome, Done, Refused, Request, Calls, Accepts, Clears, Sends, Interrupts, Resets, SaysReady, SaysNotReady, does}
+use Rattle.x25_circuit.specs.Calling.{keeps_on, call_sent, may_call, call_in, accept_with, accept_in, clear_with, clear_in, send_in, interrupt_in, reset_in}
+use Rattle.x25_circuit.specs.Calling.{ready_in, outcome, Pulled, pull_open, pull_in, pulled}
 use Rattle.x25_handshakes.specs.laws.Names.{Name}
 use Rattle.x25_layer.specs.laws.NameLaw.{named_by}
 
@@ -45,13 +49,8 @@ module _ (c : CircuitSettings) (e : ℕ) (x : Circuit) where
   collides_count Dce request = refl
 
   call_count : (s : State) (request : CallRequest) → Counts e x (row_call c x s request)
-  call_count Free request = refl
   call_count Calling request = collides_count c.role request
-  call_count Clearing request = refl
-  call_count Arriving request = refl
-  call_count Collision request = refl
-  call_count Open request = refl
-  call_count Resetting request = refl
+  call_count s request = refl
 
   connects_count : (answered : Params) → Counts e x (connects c x answered)
   connects_count answered = by (may_answer x.params answered)
@@ -63,11 +62,7 @@ module _ (c : CircuitSettings) (e : ℕ) (x : Circuit) where
   accept_count : (s : State) (facilities : List ℕ) → Counts e x (row_accept c x s facilities)
   accept_count Calling facilities = connects_count (said_in x.params facilities)
   accept_count Collision facilities = connects_count (said_in x.params facilities)
-  accept_count Clearing facilities = refl
-  accept_count Free facilities = refl
-  accept_count Arriving facilities = refl
-  accept_count Open facilities = refl
-  accept_count Resetting facilities = refl
+  accept_count s facilities = refl
 
   clear_count : (s : State) (cause diagnostic : ℕ) → is_free_in s ≡ false → Counts e x (row_clear x s cause diagnostic)
   clear_count Free cause diagnostic not_free = absurd (never not_free)
@@ -83,30 +78,15 @@ module _ (c : CircuitSettings) (e : ℕ) (x : Circuit) where
 
   clear_conf_count : (s : State) → Counts e x (row_clear_conf c x s)
   clear_conf_count Clearing = refl
-  clear_conf_count Free = refl
-  clear_conf_count Calling = refl
-  clear_conf_count Arriving = refl
-  clear_conf_count Collision = refl
-  clear_conf_count Open = refl
-  clear_conf_count Resetting = refl
+  clear_conf_count s = refl
 
   reset_count : (s : State) (cause diagnostic : ℕ) → Counts e x (row_reset c x s cause diagnostic)
   reset_count Open cause diagnostic = refl
-  reset_count Resetting cause diagnostic = refl
-  reset_count Clearing cause diagnostic = refl
-  reset_count Free cause diagnostic = refl
-  reset_count Calling cause diagnostic = refl
-  reset_count Arriving cause diagnostic = refl
-  reset_count Collision cause diagnostic = refl
+  reset_count s cause diagnostic = refl
 
   reset_conf_count : (s : State) → Counts e x (row_reset_conf c x s)
   reset_conf_count Open = refl
-  reset_conf_count Resetting = refl
-  reset_conf_count Clearing = refl
-  reset_conf_count Free = refl
-  reset_conf_count Calling = refl
-  reset_conf_count Arriving = refl
-  reset_conf_count Collision = refl
+  reset_conf_count s = refl
 
   unless_count : (ground : Option ℕ) (good : Answer) → Counts e x good → Counts e x (unless c x ground good)
   unless_count None good h = h
@@ -118,7 +98,8 @@ module _ (c : CircuitSettings) (e : ℕ) (x : Circuit) where
 
   open_count : (t : Talk) (p : PlainPacket) → Counts e x (row_open c x t p)
   open_count t (user_data channel q m ps pr user) =
-      unless_count (data_ground c.longest (terms_in x).size t ps pr (piece_of q m user)) (takes x t pr (piece_of q m user)) (deliveries_count (name_in e x) (completed (joining no_part t.taken) (piece_of q m user)))
+      unless_count (data_ground c.longest (terms_in x).size t ps pr (piece_of q m user)) (takes x t pr (piece_of q m user))
+      (deliveries_count (name_in e x) (completed (joining no_part t.taken) (piece_of q m user)))
   open_count t (rr channel pr) = unless_count (number_ground t pr) (hears_status x t true pr) refl
   open_count t (rnr channel pr) = unless_count (number_ground t pr) (hears_status x t false pr) refl
   open_count t (interrupt channel user) = refl
@@ -127,12 +108,7 @@ module _ (c : CircuitSettings) (e : ℕ) (x : Circuit) where
 
   data_count : (s : State) (p : PlainPacket) → Counts e x (row_data c x s p)
   data_count Open p = open_count x.talk p
-  data_count Resetting p = refl
-  data_count Clearing p = refl
-  data_count Free p = refl
-  data_count Calling p = refl
-  data_count Arriving p = refl
-  data_count Collision p = refl
+  data_count s p = refl
 
   pub circuit_counts : (p : PlainPacket) → ClearsNotFree x p → Counts e x (answers c x p)
   circuit_counts (call channel called calling facilities user) ok = call_count x.state (request_in called calling facilities user)
@@ -143,11 +119,7 @@ module _ (c : CircuitSettings) (e : ℕ) (x : Circuit) where
   circuit_counts (reset_conf channel) ok = reset_conf_count x.state
   circuit_counts (restart cause diagnostic) ok = refl
   circuit_counts restart_conf ok = refl
-  circuit_counts (user_data channel q m ps pr user) ok = data_count x.state (user_data channel q m ps pr user)
-  circuit_counts (rr channel pr) ok = data_count x.state (rr channel pr)
-  circuit_counts (rnr channel pr) ok = data_count x.state (rnr channel pr)
-  circuit_counts (interrupt channel user) ok = data_count x.state (interrupt channel user)
-  circuit_counts (interrupt_conf channel) ok = data_count x.state (interrupt_conf channel)
+  circuit_counts p ok = data_count x.state p
 
 -- ---- calls of the user, and pulls, count nothing
 
@@ -162,87 +134,74 @@ keeps_if x false u v h g = g
 module _ (c : CircuitSettings) (x : Circuit) where
   call_keeps : (s : State) (called calling user : List ℕ) (proposal : Proposal) → KeepsName x (call_in c x s called calling user proposal)
   call_keeps Free called calling user proposal =
-      keeps_if x (may_call c.long_data called calling user proposal.params) (does x Calling proposal.params true (call_sent called calling user proposal)) (Refused BadParameter) (λ e. refl) tt
-  call_keeps Calling called calling user params = tt
-  call_keeps Arriving called calling user params = tt
-  call_keeps Collision called calling user params = tt
-  call_keeps Open called calling user params = tt
-  call_keeps Resetting called calling user params = tt
-  call_keeps Clearing called calling user params = tt
+      keeps_if x (may_call c.long_data called calling user proposal.params) (does x Calling proposal.params true (call_sent called calling user proposal))
+      (Refused BadParameter) (λ e. refl) tt
+  call_keeps s called calling user params = tt
 
   answer_keeps : (answer : Option Proposal) → KeepsName x (accept_with x answer)
   answer_keeps None = λ e. refl
-  answer_keeps (Some answer) = keeps_if x (may_answer x.params answer.params) (does x Open answer.params false (accept 1 (field_for x.params answer))) (Refused BadParameter) (λ e. refl) tt
+  answer_keeps (Some answer) = keeps_if x (may_answer x.params answer.params) (does x Open answer.params false (accept 1 (field_for x.params answer)))
+      (Refused BadParameter) (λ e. refl) tt
 
   accept_keeps : (s : State) (answer : Option Proposal) → KeepsName x (accept_in x s answer)
   accept_keeps Arriving answer = answer_keeps answer
-  accept_keeps Free answer = tt
-  accept_keeps Calling answer = tt
-  accept_keeps Collision answer = tt
-  accept_keeps Open answer = tt
-  accept_keeps Resetting answer = tt
-  accept_keeps Clearing answer = tt
+  accept_keeps s answer = tt
 
   clear_with_keeps : (cause diagnostic : ℕ) → KeepsName x (clear_with c x cause diagnostic)
-  clear_with_keeps cause diagnostic = keeps_if x (may_clear_for c.role cause) (does x Clearing default_params false (clear 1 cause diagnostic)) (Refused BadParameter) (λ e. refl) tt
+  clear_with_keeps cause diagnostic = keeps_if x (may_clear_for c.role cause) (does x Clearing default_params false (clear 1 cause diagnostic))
+      (Refused BadParameter) (λ e. refl) tt
 
   clear_keeps : (s : State) (cause diagnostic : ℕ) → KeepsName x (clear_in c x s cause diagnostic)
   clear_keeps Free cause diagnostic = tt
   clear_keeps Clearing cause diagnostic = tt
-  clear_keeps Calling cause diagnostic = clear_with_keeps cause diagnostic
-  clear_keeps Arriving cause diagnostic = clear_with_keeps cause diagnostic
-  clear_keeps Collision cause diagnostic = clear_with_keeps cause diagnostic
-  clear_keeps Open cause diagnostic = clear_with_keeps cause diagnostic
-  clear_keeps Resetting cause diagnostic = clear_with_keeps cause diagnostic
+  clear_keeps s cause diagnostic = clear_with_keeps cause diagnostic
 
   -- a message more waits; and an interrupt is out
   abbrev sends : Talk → Marks → List ℕ → Outcome
   sends t q user =
-      keeps_on x (record { sent = t.sent; taken = t.taken; acked = t.acked; rest = t.rest ++ cut (outgoing x).size q user; int_out = t.int_out; peer_ready = t.peer_ready; own_ready = t.own_ready }) None
+      keeps_on x (record {
+        sent = t.sent;
+        taken = t.taken;
+        acked = t.acked;
+        rest = t.rest ++ cut (outgoing x).size q user;
+        int_out = t.int_out;
+        peer_ready = t.peer_ready;
+        own_ready = t.own_ready;
+      }) None
 
   abbrev interrupts : Talk → List ℕ → Outcome
   interrupts t user =
-      keeps_on x (record { sent = t.sent; taken = t.taken; acked = t.acked; rest = t.rest; int_out = true; peer_ready = t.peer_ready; own_ready = t.own_ready }) (Some (interrupt 1 user))
+      keeps_on x (record {
+        sent = t.sent;
+        taken = t.taken;
+        acked = t.acked;
+        rest = t.rest;
+        int_out = true;
+        peer_ready = t.peer_ready;
+        own_ready = t.own_ready;
+      }) (Some (interrupt 1 user))
 
   send_keeps : (s : State) (q : Marks) (user : List ℕ) → KeepsName x (send_in c x s q user)
   send_keeps Open q user =
       keeps_if x (nat_le (length user) c.longest) (if nat_lt (waits x) 8 then sends x.talk q user else Refused Full) (Refused TooLong)
       (keeps_if x (nat_lt (waits x) 8) (sends x.talk q user) (Refused Full) (λ e. refl) tt) tt
-  send_keeps Free q user = tt
-  send_keeps Calling q user = tt
-  send_keeps Arriving q user = tt
-  send_keeps Collision q user = tt
-  send_keeps Resetting q user = tt
-  send_keeps Clearing q user = tt
+  send_keeps s q user = tt
 
   interrupt_keeps : (s : State) (user : List ℕ) → KeepsName x (interrupt_in x s user)
   interrupt_keeps Open user =
-      keeps_if x (nat_le 1 (length user) && nat_le (length user) 32) (if x.talk.int_out then Refused InterruptOutstanding else interrupts x.talk user) (Refused BadParameter)
+      keeps_if x (nat_le 1 (length user) && nat_le (length user) 32) (if x.talk.int_out then Refused InterruptOutstanding else interrupts x.talk user)
+      (Refused BadParameter)
       (keeps_if x x.talk.int_out (Refused InterruptOutstanding) (interrupts x.talk user) tt (λ e. refl)) tt
-  interrupt_keeps Free user = tt
-  interrupt_keeps Calling user = tt
-  interrupt_keeps Arriving user = tt
-  interrupt_keeps Collision user = tt
-  interrupt_keeps Resetting user = tt
-  interrupt_keeps Clearing user = tt
+  interrupt_keeps s user = tt
 
   reset_keeps : (s : State) (cause diagnostic : ℕ) → KeepsName x (reset_in c x s cause diagnostic)
-  reset_keeps Open cause diagnostic = keeps_if x (may_reset_for c.role cause) (does x Resetting x.params x.calls (reset 1 cause diagnostic)) (Refused BadParameter) (λ e. refl) tt
-  reset_keeps Free cause diagnostic = tt
-  reset_keeps Calling cause diagnostic = tt
-  reset_keeps Arriving cause diagnostic = tt
-  reset_keeps Collision cause diagnostic = tt
-  reset_keeps Resetting cause diagnostic = tt
-  reset_keeps Clearing cause diagnostic = tt
+  reset_keeps Open cause diagnostic = keeps_if x (may_reset_for c.role cause) (does x Resetting x.params x.calls (reset 1 cause diagnostic))
+      (Refused BadParameter) (λ e. refl) tt
+  reset_keeps s cause diagnostic = tt
 
   ready_keeps : (s : State) (is_ready : Bool) → KeepsName x (ready_in x s is_ready)
   ready_keeps Open is_ready = λ e. refl
-  ready_keeps Free is_ready = tt
-  ready_keeps Calling is_ready = tt
-  ready_keeps Arriving is_ready = tt
-  ready_keeps Collision is_ready = tt
-  ready_keeps Resetting is_ready = tt
-  ready_keeps Clearing is_ready = tt
+  ready_keeps s is_ready = tt
 
   pub outcome_keeps : (request : Request) → KeepsName x (outcome c x request)
   outcome_keeps (Calls called calling user params) = call_keeps x.state called calling user params
@@ -254,7 +213,8 @@ module _ (c : CircuitSettings) (x : Circuit) where
   outcome_keeps SaysReady = ready_keeps x.state true
   outcome_keeps SaysNotReady = ready_keeps x.state false
 
-  pull_if : (e : ℕ) (b : Bool) (u v : Pulled) → name_in e u.next ≡ name_in e x → name_in e v.next ≡ name_in e x → (let p : Pulled = if b then u else v in name_in e p.next) ≡ name_in e x
+  pull_if : (e : ℕ) (b : Bool) (u v : Pulled) → name_in e u.next ≡ name_in e x → name_in e v.next ≡ name_in e x
+      → (let p : Pulled = if b then u else v in name_in e p.next) ≡ name_in e x
   pull_if e true u v h g = h
   pull_if e false u v h g = g
 
@@ -264,12 +224,7 @@ module _ (c : CircuitSettings) (x : Circuit) where
 
   pull_in_keeps : (e : ℕ) (s : State) → name_in e (pull_in c x s).next ≡ name_in e x
   pull_in_keeps e Open = pull_open_keeps e x.talk x.talk.rest
-  pull_in_keeps e Free = refl
-  pull_in_keeps e Calling = refl
-  pull_in_keeps e Arriving = refl
-  pull_in_keeps e Collision = refl
-  pull_in_keeps e Resetting = refl
-  pull_in_keeps e Clearing = refl
+  pull_in_keeps e s = refl
 
   pub pulled_keeps : (e : ℕ) → name_in e (pulled c x).next ≡ name_in e x
   pulled_keeps e = pull_in_keeps e x.state

@@ -1,5 +1,6 @@
 -- The next data packet, one circuit after another.
-use Rattle.std.proofs.Common.{◌≡◌, ℕ, zero, suc, ◌+◌, ◌<◌, ◌≤◌, List, length, Option, Some, None, Bool, true, false, slice_get, refl, sym, ap, subst, ◌∙◌, ◌⊎◌, inl, inr, arith, IfSome, MatchOption}
+use Rattle.std.proofs.Common.{◌≡◌, ℕ, zero, suc, ◌+◌, ◌<◌, ◌≤◌, List, length, Option, Some, None, Bool, true, false, slice_get, refl, sym, ap, subst, ◌∙◌, ◌⊎◌}
+use Rattle.std.proofs.Common.{inl, inr, arith, IfSome, MatchOption}
 use Rattle.std.proofs.lemmas.Option.{none-some}
 use Rattle.x25_packet.specs.Packet.{PlainPacket}
 use Rattle.x25_packet.specs.Spelling.{moved_to}
@@ -26,7 +27,8 @@ off_channel h None none = refl
 off_channel h (Some packet) none = absurd (none-some (moved_to h packet) (sym none))
 
 -- a circuit that has none stays as it was
-pub kept_one : (b : Bool) (sheet : List ℕ) (c : CircuitSettings) (h : ℕ) (v : circuit_code.Circuit) (x : Circuit) → b ≡ false → IsPut b sheet (packet_on h (pulled c x).packet) → FitsCircuit c v (pulled c x).next → FitsCircuit c v x
+pub kept_one : (b : Bool) (sheet : List ℕ) (c : CircuitSettings) (h : ℕ) (v : circuit_code.Circuit) (x : Circuit) → b ≡ false
+    → IsPut b sheet (packet_on h (pulled c x).packet) → FitsCircuit c v (pulled c x).next → FitsCircuit c v x
 kept_one false sheet c h v x is none fits = subst (λ (y : Circuit). FitsCircuit c v y) (none_kept c x (off_channel h (pulled c x).packet none)) fits
 kept_one true sheet c h v x is none fits = absurd (cc)
 
@@ -39,7 +41,8 @@ some_put true sheet o is put = put
 some_put false sheet o is put = absurd (cc)
 
 -- nor one that is idle
-pub quiet : PullsWhatWaits → (c : LayerSettings) (vs : List circuit_code.Circuit) (hs : List ℕ) (f : ℕ → Circuit) → FitsCircuits c vs f → IdleBeside hs vs → (k : ℕ) → 1 ≤ k → k ≤ length vs → IsOutside hs k → next_packet c f k ≡ None
+pub quiet : PullsWhatWaits → (c : LayerSettings) (vs : List circuit_code.Circuit) (hs : List ℕ) (f : ℕ → Circuit) → FitsCircuits c vs f → IdleBeside hs vs
+    → (k : ℕ) → 1 ≤ k → k ≤ length vs → IsOutside hs k → next_packet c f k ≡ None
 quiet pulls c vs hs f fits still zero low high out = absurd (omega (arith, low))
 quiet pulls c vs hs f fits still (suc k) low high out =
     let found = there vs k (let e : k < length vs = omega (arith, high) in e) in
@@ -47,8 +50,10 @@ quiet pulls c vs hs f fits still (suc k) low high out =
     ap (λ (p : Pulled). packet_on (suc k) p.packet) (pulls c.circuit found.0 (f (suc k)) (fits k found.0 found.1) idle.none)
 
 -- those up to a channel have none, and those between it and another are idle
-pub none_before : PullsWhatWaits → (c : LayerSettings) (vs : List circuit_code.Circuit) (hs : List ℕ) (f : ℕ → Circuit) → FitsCircuits c vs f → IdleBeside hs vs → (behind n h : ℕ) → h ≤ length vs + 1
-    → ((k : ℕ) → behind < k → k ≤ n → next_packet c f k ≡ None) → ((k : ℕ) → n < k → k < h → IsOutside hs k) → (k : ℕ) → behind < k → k < h → next_packet c f k ≡ None
+pub none_before : PullsWhatWaits → (c : LayerSettings) (vs : List circuit_code.Circuit) (hs : List ℕ) (f : ℕ → Circuit) → FitsCircuits c vs f
+    → IdleBeside hs vs → (behind n h : ℕ) → h ≤ length vs + 1
+    → ((k : ℕ) → behind < k → k ≤ n → next_packet c f k ≡ None) → ((k : ℕ) → n < k → k < h → IsOutside hs k) → (k : ℕ) → behind < k → k < h → next_packet c f k
+    ≡ None
 none_before pulls c vs hs f fits still behind n h high none out k more less = by (place k n)
   where
     by : (k < n) ⊎ ((k ≡ n) ⊎ (n < k)) → next_packet c f k ≡ None
@@ -57,7 +62,8 @@ none_before pulls c vs hs f fits still behind n h high none out k more less = by
     by (inr (inr far)) = quiet pulls c vs hs f fits still k (omega (arith, far)) (omega (arith, less, high)) (out k far less)
 
 -- and so has that one
-pub none_to : (c : LayerSettings) (f : ℕ → Circuit) (behind h : ℕ) → ((k : ℕ) → behind < k → k < h → next_packet c f k ≡ None) → next_packet c f h ≡ None → (k : ℕ) → behind < k → k ≤ h → next_packet c f k ≡ None
+pub none_to : (c : LayerSettings) (f : ℕ → Circuit) (behind h : ℕ) → ((k : ℕ) → behind < k → k < h → next_packet c f k ≡ None) → next_packet c f h ≡ None
+    → (k : ℕ) → behind < k → k ≤ h → next_packet c f k ≡ None
 none_to c f behind h below here k more low = by (place k h)
   where
     by : (k < h) ⊎ ((k ≡ h) ⊎ (h < k)) → next_packet c f k ≡ None
@@ -67,8 +73,10 @@ none_to c f behind h below here k more low = by (place k h)
 
 -- ---- what a layer pulls, by its circuits
 
-pub pulls_next : (c : LayerSettings) (v v₂ : code.Layer) (l : Layer) (behind : ℕ) (o : Option ℕ) → FitsLayer c v l → IsLike v v₂ → length v₂.circuits.items ≡ length v.circuits.items → IfSome o (λ (h : ℕ). h ≤ length v₂.circuits.items)
-    → MatchOption o (GoesNowhere c l.circuits v₂.circuits.items behind) (λ (h : ℕ). GoesTo c l.circuits v₂.circuits.items v₂.sheet behind h) → MatchOption o (GivesNone c l v₂ behind) (λ (h : ℕ). GivesNext c l v₂ behind h)
+pub pulls_next : (c : LayerSettings) (v v₂ : code.Layer) (l : Layer) (behind : ℕ) (o : Option ℕ) → FitsLayer c v l → IsLike v v₂ → length v₂.circuits.items
+    ≡ length v.circuits.items → IfSome o (λ (h : ℕ). h ≤ length v₂.circuits.items)
+    → MatchOption o (GoesNowhere c l.circuits v₂.circuits.items behind) (λ (h : ℕ). GoesTo c l.circuits v₂.circuits.items v₂.sheet behind h)
+    → MatchOption o (GivesNone c l v₂ behind) (λ (h : ℕ). GivesNext c l v₂ behind h)
 pulls_next c v v₂ l behind None fits like count within goes =
     let all = count ∙ fits.channels in
     record {

@@ -11,7 +11,8 @@ pub no_field : IsFacilityField []
 no_field = (record { packet_size = None; window_size = None }, record { sizes = tt; windows = tt }, refl)
 
 -- what a call proposes may be proposed
-pub call_proposes : (long_data : Bool) (called calling user : List ℕ) (params : Params) → may_call long_data called calling user params ≡ true → may_propose params ≡ true
+pub call_proposes : (long_data : Bool) (called calling user : List ℕ) (params : Params) → may_call long_data called calling user params ≡ true
+    → may_propose params ≡ true
 call_proposes long_data called calling user params e =
     (and_parts (nat_le (length user) (longest_user long_data)) (may_propose params)
     (and_parts (is_address_text calling) (nat_le (length user) (longest_user long_data) && may_propose params)

@@ -1,5 +1,6 @@
 -- Of a layer and a peer: the transcript has what the channels hold under their present names, and the order of the nested handshakes is that of the transcript.
-use Rattle.std.proofs.Common.{◌≡◌, inl, inr, ℕ, List, [], ◌++◌, length, Option, Some, Bool, true, false, if◌then◌else◌, refl, sym, ap, subst, ◌∙◌, eq-eqb, arith}
+use Rattle.std.proofs.Common.{◌≡◌, inl, inr, ℕ, List, [], ◌++◌, length, Option, Some, Bool, true, false, if◌then◌else◌, refl, sym, ap, subst, ◌∙◌, eq-eqb}
+use Rattle.std.proofs.Common.{arith}
 use Rattle.x25_circuit.specs.Message.{carried, wholes}
 use Rattle.x25_circuit.specs.Circuit.{Circuit, forgotten, is_open}
 use Rattle.x25_handshakes.specs.laws.Handshake.{Side, Live, Left, At, state_of}
@@ -7,7 +8,8 @@ use Rattle.x25_handshakes.specs.laws.Stretch.{Stretch}
 use Rattle.x25_handshakes.specs.laws.Calls.{Phase, Unused, Waiting, Offered, Crossed, Talking, Connection}
 use Rattle.x25_handshakes.specs.laws.Layers.{Channels}
 use Rattle.x25_handshakes.specs.laws.Names.{Name, same_name, IsEarlier, IsEarlierCount}
-use Rattle.x25_handshakes.specs.laws.Histories.{Lists, none, Kind, messages, interrupts, calls, resets_in, held_in, circuit_at, name_at, held_at, written, IsPrefix}
+use Rattle.x25_handshakes.specs.laws.Histories.{Lists, none, Kind, messages, interrupts, calls, resets_in, held_in, circuit_at, name_at, held_at, written}
+use Rattle.x25_handshakes.specs.laws.Histories.{IsPrefix}
 use Rattle.x25_handshakes.specs.laws.PeerLayer.{PeerChannels}
 use Rattle.x25_handshakes.specs.laws.Arrivals.{open_in, open_phase, open_call, open_channel}
 use Rattle.x25_handshakes.specs.laws.PeerClaims as nested
@@ -40,13 +42,15 @@ earlier_trans a b c (inl p) (inr (same, q)) = inl (omega (arith, p, same))
 earlier_trans a b c (inr (same, p)) (inl q) = inl (omega (arith, same, q))
 earlier_trans a b c (inr (same, p)) (inr (same₂, q)) = inr (same ∙ same₂, counts p q)
   where
-    counts : IsEarlierCount a.clears a.resets b.clears b.resets → IsEarlierCount b.clears b.resets c.clears c.resets → IsEarlierCount a.clears a.resets c.clears c.resets
+    counts : IsEarlierCount a.clears a.resets b.clears b.resets → IsEarlierCount b.clears b.resets c.clears c.resets
+        → IsEarlierCount a.clears a.resets c.clears c.resets
     counts (inl p) (inl q) = inl (omega (arith, p, q))
     counts (inl p) (inr (e, q)) = inl (omega (arith, p, e))
     counts (inr (e, p)) (inl q) = inl (omega (arith, e, q))
     counts (inr (e, p)) (inr (f, q)) = inr (e ∙ f, omega (arith, p, q))
 
-pub written_on : {M : Type 0} (kind : Kind M) (lists : Handed → Lists M) → IsListed kind lists → (x y : At Channels) (entries es : List Entry) → StepOf x y es → Written kind lists entries x
+pub written_on : {M : Type 0} (kind : Kind M) (lists : Handed → Lists M) → IsListed kind lists → (x y : At Channels) (entries es : List Entry) → StepOf x y es
+    → Written kind lists entries x
     → Written kind lists (entries ++ es) y
 written_on {M} kind lists listed x y entries es step h = record {
   held = λ k. now k (name_at kind y k) ∙ at_name k (same_name (name_at kind y k) (name_at kind y k)) (same_itself (name_at kind y k));
@@ -67,7 +71,8 @@ written_on {M} kind lists listed x y entries es step h = record {
     before k m earlier (StaysAt name more) = subst (λ (n : Name). IsEarlier n m) name earlier
     before k m earlier (GrowsAt less empty nothing) = earlier_trans (name_at kind x k) (name_at kind y k) m less earlier
 
-    other : (k : ℕ) (m : Name) (b : Bool) → same_name m (name_at kind y k) ≡ b → IsEarlier (name_at kind y k) m → (if b then held_at kind y k else old k m) ≡ none
+    other : (k : ℕ) (m : Name) (b : Bool) → same_name m (name_at kind y k) ≡ b → IsEarlier (name_at kind y k) m → (if b then held_at kind y k else old k m)
+        ≡ none
     other k m true is earlier = absurd (not_itself m (subst (λ (n : Name). IsEarlier n m) (sym (same_name-is m (name_at kind y k) is)) earlier))
     other k m false is earlier = h.later k m (before k m earlier (listed.moves k x y (step k).0 (step k).1))
 
@@ -77,20 +82,20 @@ pub name_shown : (most : ℕ) (l : Layer) (z : At Channels) (k : ℕ) → SeesLa
 name_shown most l z k s = by z.side (s.circuits k)
   where
     by : (side : Side Channels) → ShowsAt most side k (l.circuits k) → name_of l k ≡ present (record { epoch = z.epoch; side = side }) k
-    by (Live x) shows = name_eq (name_of l k) (present (record { epoch = z.epoch; side = Live x }) k) s.restarts (ap (λ (c : Circuit). c.clears) shows.is) (ap (λ (c : Circuit). c.resets) shows.is)
-    by (Left x) shows = name_eq (name_of l k) (present (record { epoch = z.epoch; side = Left x }) k) s.restarts (ap (λ (c : Circuit). c.clears) shows) (ap (λ (c : Circuit). c.resets) shows)
+    by (Live x) shows = name_eq (name_of l k) (present (record { epoch = z.epoch; side = Live x }) k) s.restarts (ap (λ (c : Circuit). c.clears) shows.is)
+        (ap (λ (c : Circuit). c.resets) shows.is)
+    by (Left x) shows = name_eq (name_of l k) (present (record { epoch = z.epoch; side = Left x }) k) s.restarts (ap (λ (c : Circuit). c.clears) shows)
+        (ap (λ (c : Circuit). c.resets) shows)
 
 resets_there : (a : Phase) → resets_in a ≡ (nested.transfer_of a).epoch
 resets_there (Talking t b at) = refl
 resets_there other = refl
 
-held_there : {M : Type 0} (down up : Stretch → List M) (a : Phase) → down (state_of (nested.transfer_of Unused).side) ≡ [] → up (state_of (nested.transfer_of Unused).side) ≡ []
+held_there : {M : Type 0} (down up : Stretch → List M) (a : Phase) → down (state_of (nested.transfer_of Unused).side) ≡ []
+    → up (state_of (nested.transfer_of Unused).side) ≡ []
     → (down (state_of (nested.transfer_of a).side) ≡ (held_in down up a).down) × (up (state_of (nested.transfer_of a).side) ≡ (held_in down up a).up)
 held_there down up (Talking t b at) p q = (refl, refl)
-held_there down up Unused p q = (p, q)
-held_there down up (Waiting mine) p q = (p, q)
-held_there down up (Offered theirs) p q = (p, q)
-held_there down up (Crossed mine) p q = (p, q)
+held_there down up a p q = (p, q)
 
 -- an open circuit is in d1 of the stretch that stands there
 record IsThere (c : Circuit) (x : Stretch) (o : Option Stretch) : Type 0 where
@@ -105,22 +110,31 @@ open_there most (Left x) k c shows is = absurd (closed c shows is)
   where
     closed : (c : Circuit) → c ≡ forgotten (view unagreed (x k)) → is_open c ≡ true → ⊥
     closed c e is = let no : is_open (forgotten (view unagreed (x k))) ≡ true = ap is_open (sym e) ∙ is in cc
-open_there most (Live x) k c shows is = subst (λ (d : Circuit). IsThere d (state_of (nested.transfer_of (state_of (x k).side).phase).side) (open_call (x k).side)) (sym shows.is) (at shows.agreed (x k).epoch (x k).side (ap is_open (sym shows.is) ∙ is))
+open_there most (Live x) k c shows is = subst
+    (λ (d : Circuit). IsThere d (state_of (nested.transfer_of (state_of (x k).side).phase).side) (open_call (x k).side)) (sym shows.is)
+    (at shows.agreed (x k).epoch (x k).side (ap is_open (sym shows.is) ∙ is))
   where
-    at : (g : Agreed) (e : ℕ) (side : Side Connection) → is_open (view g (record { epoch = e; side = side })) ≡ true → IsThere (view g (record { epoch = e; side = side })) (state_of (nested.transfer_of (state_of side).phase).side) (open_call side)
+    at : (g : Agreed) (e : ℕ) (side : Side Connection) → is_open (view g (record { epoch = e; side = side })) ≡ true
+        → IsThere (view g (record { epoch = e; side = side })) (state_of (nested.transfer_of (state_of side).phase).side) (open_call side)
     at g e (Left n) is = absurd (cc)
     at g e (Live n) is = phase n.phase n.made n.indicated is
       where
         phase : (a : Phase) (m i : List _) → is_open (view g (record { epoch = e; side = Live (record { phase = a; made = m; indicated = i }) })) ≡ true
-            → IsThere (view g (record { epoch = e; side = Live (record { phase = a; made = m; indicated = i }) })) (state_of (nested.transfer_of a).side) (open_phase a)
+            → IsThere (view g (record { epoch = e; side = Live (record { phase = a; made = m; indicated = i }) })) (state_of (nested.transfer_of a).side)
+            (open_phase a)
         phase Unused m i is = absurd (cc)
         phase (Waiting mine) m i is = absurd (cc)
         phase (Offered theirs) m i is = absurd (cc)
         phase (Crossed mine) m i is = absurd (cc)
         phase (Talking t b at) m i is = d1 at.epoch at.side is
           where
-            d1 : (s : ℕ) (side : Side Stretch) → is_open (view g (record { epoch = e; side = Live (record { phase = Talking t b (record { epoch = s; side = side }); made = m; indicated = i }) })) ≡ true
-                → IsThere (view g (record { epoch = e; side = Live (record { phase = Talking t b (record { epoch = s; side = side }); made = m; indicated = i }) })) (state_of side) (open_in side)
+            d1 : (s : ℕ) (side : Side Stretch) → is_open
+                (view g (record { epoch = e; side = Live (record { phase = Talking t b (record { epoch = s; side = side }); made = m; indicated = i }) }))
+                ≡ true
+                → IsThere (view g (record {
+                  epoch = e;
+                  side = Live (record { phase = Talking t b (record { epoch = s; side = side }); made = m; indicated = i });
+                })) (state_of side) (open_in side)
             d1 s (Live x) is = record { opened = refl; rest = refl; acked = refl; sent = refl }
             d1 s (Left x) is = absurd (cc)
 
@@ -139,7 +153,8 @@ module _ (most : ℕ) (l : Layer) (z : At Channels) (y : At PeerChannels) (entri
   pub calls_order : of_call (name_of l k) ≡ of_call (peer_name y k) → CallIsInOrder k (name_of l k) entries (peer_call y k)
   calls_order same =
       let o = call_there same in
-      let held : calls_in (under k (of_call (name_of l k)) entries) ≡ held_at calls z k = ap (λ (n : Name). calls_in (under k (of_call n) entries)) here ∙ c.held k in
+      let held : calls_in (under k (of_call (name_of l k)) entries) ≡ held_at calls z k =
+      ap (λ (n : Name). calls_in (under k (of_call n) entries)) here ∙ c.held k in
       record {
         up = subst (λ (h : Lists _). IsPrefix h.up (peer_call y k).made) (sym held) o.up;
         there = subst (λ (h : Lists _). IsPrefix (peer_call y k).indicated h.down) (sym held) o.there;
@@ -149,12 +164,14 @@ module _ (most : ℕ) (l : Layer) (z : At Channels) (y : At PeerChannels) (entri
   stretch_order same =
       let phase : Phase = (state_of (circuit_at z k).side).phase in
       let x : Stretch = state_of (nested.transfer_of phase).side in
-      let resets : (nested.transfer_of phase).epoch ≡ (nested.peer_transfer_of (peer_call y k).stage).epoch = sym (resets_there phase) ∙ ap (λ (n : Name). n.resets) (sym here ∙ same) in
+      let resets : (nested.transfer_of phase).epoch ≡ (nested.peer_transfer_of (peer_call y k).stage).epoch =
+      sym (resets_there phase) ∙ ap (λ (n : Name). n.resets) (sym here ∙ same) in
       let o = (call_there (ap of_call same)).stretches.same resets in
       let of_m = held_there (λ x. x.down) (λ x. x.up) phase refl refl in
       let of_i = held_there (λ x. x.int_down) (λ x. x.int_up) phase refl refl in
       let held_m : messages_in (under k (name_of l k) entries) ≡ held_at messages z k = ap (λ (n : Name). messages_in (under k n entries)) here ∙ m.held k in
-      let held_i : interrupts_in (under k (name_of l k) entries) ≡ held_at interrupts z k = ap (λ (n : Name). interrupts_in (under k n entries)) here ∙ i.held k in
+      let held_i : interrupts_in (under k (name_of l k) entries) ≡ held_at interrupts z k =
+      ap (λ (n : Name). interrupts_in (under k n entries)) here ∙ i.held k in
       let up_m : x.up ≡ (messages_in (under k (name_of l k) entries)).up = of_m.1 ∙ ap (λ (h : Lists _). h.up) (sym held_m) in
       let down_m : x.down ≡ (messages_in (under k (name_of l k) entries)).down = of_m.0 ∙ ap (λ (h : Lists _). h.down) (sym held_m) in
       let up_i : x.int_up ≡ (interrupts_in (under k (name_of l k) entries)).up = of_i.1 ∙ ap (λ (h : Lists _). h.up) (sym held_i) in
@@ -172,7 +189,8 @@ module _ (most : ℕ) (l : Layer) (z : At Channels) (y : At PeerChannels) (entri
 
 -- ---- with nothing on the way to the peer
 
-module _ (most : ℕ) (l : Layer) (z : At Channels) (y : At PeerChannels) (entries : List Entry) (sees : SeesLayer most l z) (m : Written messages messages_in entries z) (i : Written interrupts interrupts_in entries z) (k : ℕ) where
+module _ (most : ℕ) (l : Layer) (z : At Channels) (y : At PeerChannels) (entries : List Entry) (sees : SeesLayer most l z)
+    (m : Written messages messages_in entries z) (i : Written interrupts interrupts_in entries z) (k : ℕ) where
   pub has_arrived : ((x : Stretch) → open_channel z.side k ≡ Some x → nested.TookLayer k z y x) → is_open (l.circuits k) ≡ true → HasArrived k l entries y
   has_arrived took is =
       let here : name_of l k ≡ present z k = name_shown most l z k sees in
@@ -183,7 +201,8 @@ module _ (most : ℕ) (l : Layer) (z : At Channels) (y : At PeerChannels) (entri
       let of_m = held_there (λ x. x.down) (λ x. x.up) phase refl refl in
       let of_i = held_there (λ x. x.int_down) (λ x. x.int_up) phase refl refl in
       let held_m : messages_in (under k (name_of l k) entries) ≡ held_at messages z k = ap (λ (n : Name). messages_in (under k n entries)) here ∙ m.held k in
-      let held_i : interrupts_in (under k (name_of l k) entries) ≡ held_at interrupts z k = ap (λ (n : Name). interrupts_in (under k n entries)) here ∙ i.held k in
+      let held_i : interrupts_in (under k (name_of l k) entries) ≡ held_at interrupts z k =
+      ap (λ (n : Name). interrupts_in (under k n entries)) here ∙ i.held k in
       record {
         name = here ∙ name_eq (present z k) (peer_name y k) all.restarts all.channel.clears (resets_there phase ∙ all.channel.call.resets);
         messages = λ none. all.channel.call.all.messages (ap wholes (sym there.rest) ∙ none) ∙ of_m.0 ∙ ap (λ (h : Lists _). h.down) (sym held_m);

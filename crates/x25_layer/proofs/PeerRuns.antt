@@ -15,9 +15,11 @@ use Rattle.x25_layer.specs.Layer.{LayerSettings, Layer, LayerAnswer, is_channel,
 use Rattle.x25_layer.specs.Calls.{LayerRequest, PullsAll, LayerOutcome, Accepted, Declined, layer_outcome, LayerPulled, layer_pulled}
 use Rattle.x25_layer.specs.laws.Bare.{bare, bare_layer, bare_layers}
 use Rattle.x25_layer.specs.laws.Transcript.{Entry, calls_in, messages_in, interrupts_in}
-use Rattle.x25_layer.specs.laws.TwoLayers.{TwoLayers, entries_asked, entries_told, Move, Requests, Pulls, HandsUp, GoesDown, puts, requested, pulled_in, handed_up, moves_in, settings_of}
+use Rattle.x25_layer.specs.laws.TwoLayers.{TwoLayers, entries_asked, entries_told, Move, Requests, Pulls, HandsUp, GoesDown, puts, requested, pulled_in}
+use Rattle.x25_layer.specs.laws.TwoLayers.{handed_up, moves_in, settings_of}
 use Rattle.x25_layer.specs.laws.Law.{IsQuietEnd}
-use Rattle.x25_layer.specs.laws.PeerJoined.{PeerJoined, start, our_end, with_peer, AreConfigured, StaysUp, PeerMoves, Does, Hears, HearsChannel, Happens, Ours, Theirs, IsReached, at_start, goes_on}
+use Rattle.x25_layer.specs.laws.PeerJoined.{PeerJoined, start, our_end, with_peer, AreConfigured, StaysUp, PeerMoves, Does, Hears, HearsChannel, Happens, Ours}
+use Rattle.x25_layer.specs.laws.PeerJoined.{Theirs, IsReached, at_start, goes_on}
 use Rattle.x25_layer.specs.laws.PeerClaims.{WithAnyPeer, IsAllInOrder, FindsNoError, AllHaveArrived}
 use Rattle.x25_layer.proofs.Sees.{ParamsLaws, pull_act}
 use Rattle.x25_layer.proofs.LayerSees.{SeesLayer, StepOf, FollowsLayer, DoesLayer, layer_act, HeedsLayer}
@@ -37,7 +39,13 @@ pub record PeerPremises : Type 0 where
 record Stands (r : Role) (channels : Ranges) (w : PeerJoined) : Type 0 where
   nested_end : At Channels
   error : Option ℕ
-  reached : nested.ReachedInLayers r (record { near = nested_end; peer = w.peer; out = bare_layers channels.message w.out; back = bare_layers channels.message w.back; error = error })
+  reached : nested.ReachedInLayers r (record {
+    near = nested_end;
+    peer = w.peer;
+    out = bare_layers channels.message w.out;
+    back = bare_layers channels.message w.back;
+    error = error;
+  })
   up : w.near.is_out ≡ false
   sees : SeesLayer channels.message w.near.layer nested_end
   configured : AreConfigured channels w.back
@@ -46,7 +54,8 @@ record Stands (r : Role) (channels : Ranges) (w : PeerJoined) : Type 0 where
   of_interrupts : Written interrupts interrupts_in w.near.entries nested_end
   of_calls : Written calls calls_in w.near.entries nested_end
 
-reached_at : (r : Role) (z : At Channels) (y : At PeerChannels) (u u₂ v v₂ : List LayerPacket) (e : Option ℕ) → u ≡ u₂ → v ≡ v₂ → nested.ReachedInLayers r (record { near = z; peer = y; out = u; back = v; error = e })
+reached_at : (r : Role) (z : At Channels) (y : At PeerChannels) (u u₂ v v₂ : List LayerPacket) (e : Option ℕ) → u ≡ u₂ → v ≡ v₂
+    → nested.ReachedInLayers r (record { near = z; peer = y; out = u; back = v; error = e })
     → nested.ReachedInLayers r (record { near = z; peer = y; out = u₂; back = v₂; error = e })
 reached_at r z y u u₂ v v₂ e p q h =
     subst (λ (b : List LayerPacket). nested.ReachedInLayers r (record { near = z; peer = y; out = u₂; back = b; error = e })) q
@@ -58,14 +67,17 @@ configured_more channels (x ∷ L) o p q = (p.0, configured_more channels L o p.
 
 -- our layer has gone to this, and put these packets
 put_stands : (r : Role) (channels : Ranges) (w : PeerJoined) (l : Layer) (o : List PlainPacket) (es : List Entry) (h : Stands r channels w) (act : LayerAct)
-    → SeesLayer channels.message l (layer_acts h.nested_end act).next → bare_layers channels.message o ≡ (layer_acts h.nested_end act).out → IsQuietEnd channels (puts (our_end w) l o es).near → StepOf h.nested_end (layer_acts h.nested_end act).next es
+    → SeesLayer channels.message l (layer_acts h.nested_end act).next → bare_layers channels.message o ≡ (layer_acts h.nested_end act).out
+    → IsQuietEnd channels (puts (our_end w) l o es).near → StepOf h.nested_end (layer_acts h.nested_end act).next es
     → Stands r channels (with_peer w.peer (puts (our_end w) l o es))
 put_stands r channels w l o es h act sees put quiet step =
     let s : OwnStep (At Channels) LayerPacket = layer_acts h.nested_end act in
     record {
       nested_end = s.next;
       error = _;
-      reached = reached_at r s.next w.peer (bare_layers channels.message w.out ++ s.out) (bare_layers channels.message (w.out ++ o)) (bare_layers channels.message w.back) (bare_layers channels.message w.back) _ (sym (bare_more channels.message w.out o (bare_layers channels.message w.out) s.out refl put)) refl
+      reached = reached_at r s.next w.peer (bare_layers channels.message w.out ++ s.out) (bare_layers channels.message (w.out ++ o))
+          (bare_layers channels.message w.back) (bare_layers channels.message w.back)
+          _ (sym (bare_more channels.message w.out o (bare_layers channels.message w.out) s.out refl put)) refl
           (nested.goes_on _ _ h.reached (nested.Acts act));
       up = refl;
       sees = sees;
@@ -80,19 +92,23 @@ module _ (p : PeerPremises) (r : Role) (long_data : Bool) (channels : Ranges) wh
   abbrev c : LayerSettings
   c = settings_of r long_data channels
 
-  does_stands : (w : PeerJoined) (h : Stands r channels w) (l : Layer) (packet : Option PlainPacket) (es : List Entry) (act : LayerAct) → DoesLayer channels.message channels l packet es h.nested_end (layer_acts h.nested_end act)
+  does_stands : (w : PeerJoined) (h : Stands r channels w) (l : Layer) (packet : Option PlainPacket) (es : List Entry) (act : LayerAct)
+      → DoesLayer channels.message channels l packet es h.nested_end (layer_acts h.nested_end act)
       → Stands r channels (with_peer w.peer (puts (our_end w) l (option_to_list packet) es))
   does_stands w h l packet es act g =
       put_stands r channels w l (option_to_list packet) es h act g.next g.put
       (record { given = quiet_more channels w.near.given (option_to_list packet) h.quiet.given g.quiet; told = h.quiet.told }) g.step
 
-  asks : (w : PeerJoined) (h : Stands r channels w) (full : Bool) (request : LayerRequest) → Stands r channels (with_peer w.peer (requested c (our_end w) request (layer_outcome c full w.near.layer request)))
+  asks : (w : PeerJoined) (h : Stands r channels w) (full : Bool) (request : LayerRequest)
+      → Stands r channels (with_peer w.peer (requested c (our_end w) request (layer_outcome c full w.near.layer request)))
   asks w h full PullsAll = subst (λ (v : TwoLayers). Stands r channels (with_peer w.peer v)) (sym (pulls_change_nothing c full (our_end w) h.up)) h
   asks w h full other = did other (layer_outcome c full w.near.layer other) (layer_heeds p.params c full w.near.layer h.nested_end other tt h.sees)
     where
-      did : (request : LayerRequest) (d : LayerOutcome) → HeedsLayer c w.near.layer request d h.nested_end (layer_acts h.nested_end (layer_act c w.near.layer.circuits request))
+      did : (request : LayerRequest) (d : LayerOutcome)
+          → HeedsLayer c w.near.layer request d h.nested_end (layer_acts h.nested_end (layer_act c w.near.layer.circuits request))
           → Stands r channels (with_peer w.peer (requested c (our_end w) request d))
-      did request (Accepted next packet) g = does_stands w h next packet (entries_asked c w.near.layer next request) (layer_act c w.near.layer.circuits request) g
+      did request (Accepted next packet) g = does_stands w h next packet (entries_asked c w.near.layer next request)
+          (layer_act c w.near.layer.circuits request) g
       did request (Declined e) g = h
 
   pulls : (w : PeerJoined) (h : Stands r channels w) (k : ℕ) (b : Bool) → is_channel channels k ≡ b
@@ -106,10 +122,18 @@ module _ (p : PeerPremises) (r : Role) (long_data : Bool) (channels : Ranges) wh
   hands_up w h [] front = h
   hands_up w h (packet ∷ K) front =
       let s : OwnStep (At Channels) LayerPacket = layer_takes r h.nested_end (bare_layer channels.message packet) in
-      let back : bare_layers channels.message w.back ≡ bare_layer channels.message packet ∷ bare_layers channels.message K = ap (bare_layers channels.message) front in
-      let j : JoinedLayers = record { near = h.nested_end; peer = w.peer; out = bare_layers channels.message w.out; back = bare_layers channels.message w.back; error = h.error } in
+      let back : bare_layers channels.message w.back ≡ bare_layer channels.message packet ∷ bare_layers channels.message K =
+      ap (bare_layers channels.message) front in
+      let j : JoinedLayers = record {
+        near = h.nested_end;
+        peer = w.peer;
+        out = bare_layers channels.message w.out;
+        back = bare_layers channels.message w.back;
+        error = h.error;
+      } in
       let found : Option ℕ = layer_found (bare_layer channels.message packet) s.error in
-      let next : nested.ReachedInLayers r (near_stepped j (bare_layers channels.message K) s found) = nested.goes_on j _ h.reached (nested.Takes (bare_layer channels.message packet) (bare_layers channels.message K) back) in
+      let next : nested.ReachedInLayers r (near_stepped j (bare_layers channels.message K) s found) =
+      nested.goes_on j _ h.reached (nested.Takes (bare_layer channels.message packet) (bare_layers channels.message K) back) in
       let clean : found ≡ None = second h.error found (p.quiet r (near_stepped j (bare_layers channels.message K) s found) next) in
       let ok = subst (λ (l : List PlainPacket). AreConfigured channels l) front h.configured in
       let a : LayerAnswer = layer_answers c w.near.layer packet in
@@ -118,12 +142,16 @@ module _ (p : PeerPremises) (r : Role) (long_data : Bool) (channels : Ranges) wh
       record {
         nested_end = s.next;
         error = _;
-        reached = reached_at r s.next w.peer (bare_layers channels.message w.out ++ s.out) (bare_layers channels.message (w.out ++ option_to_list a.owed)) (bare_layers channels.message K) (bare_layers channels.message K) _
+        reached = reached_at r s.next w.peer (bare_layers channels.message w.out ++ s.out) (bare_layers channels.message (w.out ++ option_to_list a.owed))
+            (bare_layers channels.message K) (bare_layers channels.message K) _
             (sym (bare_more channels.message w.out (option_to_list a.owed) (bare_layers channels.message w.out) s.out refl g.owed)) refl next;
         up = refl;
         sees = g.next;
         configured = ok.1;
-        quiet = record { given = quiet_more channels w.near.given (option_to_list a.owed) h.quiet.given g.quiet; told = no_faults_more w.near.told a.notices h.quiet.told g.no_fault };
+        quiet = record {
+          given = quiet_more channels w.near.given (option_to_list a.owed) h.quiet.given g.quiet;
+          told = no_faults_more w.near.told a.notices h.quiet.told g.no_fault;
+        };
         of_messages = written_on messages messages_in messages_listed h.nested_end s.next w.near.entries es g.step h.of_messages;
         of_interrupts = written_on interrupts interrupts_in interrupts_listed h.nested_end s.next w.near.entries es g.step h.of_interrupts;
         of_calls = written_on calls calls_in calls_listed h.nested_end s.next w.near.entries es g.step h.of_calls;
@@ -136,13 +164,23 @@ module _ (p : PeerPremises) (r : Role) (long_data : Bool) (channels : Ranges) wh
   ours w h GoesDown stays = absurd stays
 
   -- the peer has gone to this, and put these packets
-  peer_stands : (w : PeerJoined) (h : Stands r channels w) (y : At PeerChannels) (out packets : List PlainPacket) (o : List LayerPacket) → bare_layers channels.message packets ≡ o → AreConfigured channels packets
-      → nested.ReachedInLayers r (record { near = h.nested_end; peer = y; out = bare_layers channels.message out; back = bare_layers channels.message w.back ++ o; error = h.error })
+  peer_stands : (w : PeerJoined) (h : Stands r channels w) (y : At PeerChannels) (out packets : List PlainPacket) (o : List LayerPacket)
+      → bare_layers channels.message packets ≡ o → AreConfigured channels packets
+      → nested.ReachedInLayers r (record {
+        near = h.nested_end;
+        peer = y;
+        out = bare_layers channels.message out;
+        back = bare_layers channels.message w.back
+            ++ o;
+        error = h.error;
+      })
       → Stands r channels (record { near = w.near; peer = y; out = out; back = w.back ++ packets })
   peer_stands w h y out packets o put is reached = record {
     nested_end = h.nested_end;
     error = h.error;
-    reached = reached_at r h.nested_end y (bare_layers channels.message out) (bare_layers channels.message out) (bare_layers channels.message w.back ++ o) (bare_layers channels.message (w.back ++ packets)) h.error refl (sym (bare_more channels.message w.back packets (bare_layers channels.message w.back) o refl put)) reached;
+    reached = reached_at r h.nested_end y (bare_layers channels.message out) (bare_layers channels.message out) (bare_layers channels.message w.back ++ o)
+        (bare_layers channels.message (w.back ++ packets)) h.error refl
+        (sym (bare_more channels.message w.back packets (bare_layers channels.message w.back) o refl put)) reached;
     up = h.up;
     sees = h.sees;
     configured = configured_more channels w.back packets h.configured is;
@@ -157,22 +195,32 @@ module _ (p : PeerPremises) (r : Role) (long_data : Bool) (channels : Ranges) wh
   bare_on restart_conf has = absurd has
   bare_on other has = refl
 
-  peer_moves : (w : PeerJoined) (h : Stands r channels w) {y : At PeerChannels} {out packets : List PlainPacket} → PeerMoves r channels w.peer w.out y out packets
+  peer_moves : (w : PeerJoined) (h : Stands r channels w) {y : At PeerChannels} {out packets : List PlainPacket}
+      → PeerMoves r channels w.peer w.out y out packets
       → Stands r channels (record w { peer = y; out = out; back = w.back ++ packets })
   peer_moves w h (Does deed packet may is at) =
       peer_stands w h _ w.out (packet ∷ []) _ (ap (λ q. q ∷ []) is) (at, tt) (nested.goes_on _ _ h.reached (nested.Does deed may))
   peer_moves w h (Hears packet rest packets front answers) =
-      peer_stands w h _ rest packets _ answers.are answers.configured (nested.goes_on _ _ h.reached (nested.Hears (bare_layer channels.message packet) (bare_layers channels.message rest) (ap (bare_layers channels.message) front)))
+      peer_stands w h _ rest packets _ answers.are answers.configured
+      (nested.goes_on _ _ h.reached (nested.Hears (bare_layer channels.message packet) (bare_layers channels.message rest)
+      (ap (bare_layers channels.message) front)))
   peer_moves w h (HearsChannel y passed packet rest packets live has apart front answers) =
       let k : ℕ = channel_of packet in
-      let line : bare_layers channels.message w.out ≡ bare_layers channels.message passed ++ On k (bare channels.message packet) ∷ bare_layers channels.message rest =
-      ap (bare_layers channels.message) front ∙ bare_more channels.message passed (packet ∷ rest) (bare_layers channels.message passed) (On k (bare channels.message packet) ∷ bare_layers channels.message rest) refl (ap (λ q. q ∷ bare_layers channels.message rest) (bare_on packet has)) in
+      let line : bare_layers channels.message w.out ≡ bare_layers channels.message passed
+      ++ On k (bare channels.message packet) ∷ bare_layers channels.message rest =
+      ap (bare_layers channels.message) front
+      ∙ bare_more channels.message passed (packet ∷ rest) (bare_layers channels.message passed)
+      (On k (bare channels.message packet) ∷ bare_layers channels.message rest) refl (ap (λ q. q ∷ bare_layers channels.message rest) (bare_on packet has))
+      in
       peer_stands w h _ (passed ++ rest) packets _ answers.are answers.configured
-      (reached_at r h.nested_end _ (bare_layers channels.message passed ++ bare_layers channels.message rest) (bare_layers channels.message (passed ++ rest)) _ _ h.error (sym (bare_more channels.message passed rest (bare_layers channels.message passed) (bare_layers channels.message rest) refl refl)) refl
-      (nested.goes_on _ _ h.reached (nested.HearsChannel y k (bare_layers channels.message passed) (bare channels.message packet) (bare_layers channels.message rest) live apart line)))
+      (reached_at r h.nested_end _ (bare_layers channels.message passed ++ bare_layers channels.message rest) (bare_layers channels.message (passed ++ rest))
+      _ _ h.error (sym (bare_more channels.message passed rest (bare_layers channels.message passed) (bare_layers channels.message rest) refl refl)) refl
+      (nested.goes_on _ _ h.reached (nested.HearsChannel y k (bare_layers channels.message passed) (bare channels.message packet)
+      (bare_layers channels.message rest) live apart line)))
 
   happens_stands : (w v : PeerJoined) → Happens r long_data channels w v → Stands r channels w → Stands r channels v
-  happens_stands w v (Ours move stays) h = subst (λ (b : Bool). Stands r channels (with_peer w.peer (moves_in c (our_end w) b move))) (sym h.up) (ours w h move stays)
+  happens_stands w v (Ours move stays) h = subst (λ (b : Bool). Stands r channels (with_peer w.peer (moves_in c (our_end w) b move))) (sym h.up)
+      (ours w h move stays)
   happens_stands w v (Theirs y out packets moves) h = peer_moves w h moves
 
   start_stands : Stands r channels (start r long_data channels)
@@ -208,4 +256,5 @@ finds_no_error p r long_data channels w reached = (reached_stands p r long_data 
 pub all_have_arrived : PeerPremises → WithAnyPeer AllHaveArrived
 all_have_arrived p r long_data channels w reached none k is there =
     let h = reached_stands p r long_data channels w reached in
-    has_arrived channels.message w.near.layer h.nested_end w.peer w.near.entries h.sees h.of_messages h.of_interrupts k (λ x opened. p.arrived r _ h.reached (ap (bare_layers channels.message) none) k x opened there) is
+    has_arrived channels.message w.near.layer h.nested_end w.peer w.near.entries h.sees h.of_messages h.of_interrupts k
+    (λ x opened. p.arrived r _ h.reached (ap (bare_layers channels.message) none) k x opened there) is

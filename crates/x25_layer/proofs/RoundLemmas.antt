@@ -1,11 +1,13 @@
 -- The rounds of a step are pulls of configured channels, one after another.
-use Rattle.std.proofs.Common.{◌≡◌, ℕ, zero, suc, ◌≤◌, List, [], ◌∷◌, ◌++◌, Option, Some, None, Bool, true, false, nat_lt, ◌==◌, if◌then◌else◌, option_to_list, refl, sym, ap, subst, ◌∙◌, append_assoc, arith}
+use Rattle.std.proofs.Common.{◌≡◌, ℕ, zero, suc, ◌≤◌, List, [], ◌∷◌, ◌++◌, Option, Some, None, Bool, true, false, nat_lt, ◌==◌, if◌then◌else◌, option_to_list}
+use Rattle.std.proofs.Common.{refl, sym, ap, subst, ◌∙◌, append_assoc, arith}
 use Rattle.x25_packet.specs.Packet.{PlainPacket}
 use Rattle.x25_layer.specs.declared.ranges.Ranges.{Ranges}
 use Rattle.x25_layer.specs.Layer.{LayerSettings, Layer, LayerAnswer, is_channel, layer_answers}
 use Rattle.x25_layer.specs.Calls.{LayerOutcome, Accepted, Declined, layer_outcome, layer_pulled}
 use Rattle.x25_layer.specs.Receiving.{answer_to}
-use Rattle.x25_layer.specs.laws.Rounds.{LinkView, Putting, begin, with_pulled, pull_one, round, rounds_of, rounds, backlog, Answered, Went, Refuses, went, heard}
+use Rattle.x25_layer.specs.laws.Rounds.{LinkView, Putting, begin, with_pulled, pull_one, round, rounds_of, rounds, backlog, Answered, Went, Refuses, went}
+use Rattle.x25_layer.specs.laws.Rounds.{heard}
 use Rattle.x25_layer.specs.declared.error.LayerError.{LayerError}
 use Rattle.x25_layer.specs.declared.error.LayerError.TheVariants as error
 use Rattle.x25_layer.specs.laws.TwoLayers.{TwoLayers, Move, Requests, Pulls, HandsUp, requested, pulled_in, answered, handed_up, moves_in, moves}
@@ -54,7 +56,8 @@ channels_append : (n : Ranges) (a b : List ℕ) → AreChannels n a → AreChann
 channels_append n [] b p q = q
 channels_append n (h ∷ a) b p q = (p.0, channels_append n a b p.1 q)
 
-pulled_then : (c : LayerSettings) (w : TwoLayers) (s s₂ s₃ : Putting) → Pulled c w s s₂ → ((v : TwoLayers) → v.near.layer ≡ s₂.layer → v.near.is_out ≡ false → Pulled c v s₂ s₃) → Pulled c w s s₃
+pulled_then : (c : LayerSettings) (w : TwoLayers) (s s₂ s₃ : Putting) → Pulled c w s s₂
+    → ((v : TwoLayers) → v.near.layer ≡ s₂.layer → v.near.is_out ≡ false → Pulled c v s₂ s₃) → Pulled c w s s₃
 pulled_then c w s s₂ s₃ p next =
     let v : TwoLayers = moves_all c w (pulls_of p.channels) in
     let q : Pulled c v s₂ s₃ = next v p.layer p.up in
@@ -76,11 +79,13 @@ pulled_then c w s s₂ s₃ p next =
     }
 
 -- an end that is up and pulls a configured channel
-moves_pull : (c : LayerSettings) (w : TwoLayers) (h : ℕ) → w.near.is_out ≡ false → is_channel c.channels h ≡ true → moves c w (Pulls h) ≡ pulled_in w (layer_pulled c w.near.layer h)
+moves_pull : (c : LayerSettings) (w : TwoLayers) (h : ℕ) → w.near.is_out ≡ false → is_channel c.channels h ≡ true → moves c w (Pulls h)
+    ≡ pulled_in w (layer_pulled c w.near.layer h)
 moves_pull c w h up is =
     ap (λ (o : Bool). moves_in c w o (Pulls h)) up ∙ ap (λ (b : Bool). if b then pulled_in w (layer_pulled c w.near.layer h) else w) is
 
-one_there : (c : LayerSettings) (w : TwoLayers) (h : ℕ) (put : List PlainPacket) → w.near.is_out ≡ false → is_channel c.channels h ≡ true → (packet : PlainPacket) → (layer_pulled c w.near.layer h).packet ≡ Some packet
+one_there : (c : LayerSettings) (w : TwoLayers) (h : ℕ) (put : List PlainPacket) → w.near.is_out ≡ false → is_channel c.channels h ≡ true
+    → (packet : PlainPacket) → (layer_pulled c w.near.layer h).packet ≡ Some packet
     → Pulled c w (record { layer = w.near.layer; put = put }) (record { layer = (layer_pulled c w.near.layer h).next; put = put ++ packet ∷ [] })
 one_there c w h put up is packet found =
     let all : moves c w (Pulls h) ≡ pulled_in w (layer_pulled c w.near.layer h) = moves_pull c w h up is in
@@ -112,21 +117,26 @@ one_here link c w h put up is = room (nat_lt (link.waits put) 8)
 
     room : (b : Bool)
         → Pulled c w (record { layer = w.near.layer; put = put })
-        (if b then with_pulled (record { layer = w.near.layer; put = put }) (layer_pulled c w.near.layer h) (layer_pulled c w.near.layer h).packet else record { layer = w.near.layer; put = put })
+        (if b then with_pulled (record { layer = w.near.layer; put = put }) (layer_pulled c w.near.layer h) (layer_pulled c w.near.layer h).packet
+        else record { layer = w.near.layer; put = put })
     room true = given (layer_pulled c w.near.layer h).packet refl
     room false = pulled_nothing c w (record { layer = w.near.layer; put = put }) refl up
 
-pulled_one : (link : LinkView) (c : LayerSettings) (w : TwoLayers) (h : ℕ) (s : Putting) → w.near.layer ≡ s.layer → w.near.is_out ≡ false → is_channel c.channels h ≡ true → Pulled c w s (pull_one link c h s)
+pulled_one : (link : LinkView) (c : LayerSettings) (w : TwoLayers) (h : ℕ) (s : Putting) → w.near.layer ≡ s.layer → w.near.is_out ≡ false
+    → is_channel c.channels h ≡ true → Pulled c w s (pull_one link c h s)
 pulled_one link c w h s same up is =
-    subst (λ (l : Layer). Pulled c w (record { layer = l; put = s.put }) (pull_one link c h (record { layer = l; put = s.put }))) same (one_here link c w h s.put up is)
+    subst (λ (l : Layer). Pulled c w (record { layer = l; put = s.put }) (pull_one link c h (record { layer = l; put = s.put }))) same
+    (one_here link c w h s.put up is)
 
-pulled_round : (link : LinkView) (c : LayerSettings) (n : ℕ) → n ≤ c.channels.count → (w : TwoLayers) (s : Putting) → w.near.layer ≡ s.layer → w.near.is_out ≡ false → Pulled c w s (round link c n s)
+pulled_round : (link : LinkView) (c : LayerSettings) (n : ℕ) → n ≤ c.channels.count → (w : TwoLayers) (s : Putting) → w.near.layer ≡ s.layer → w.near.is_out
+    ≡ false → Pulled c w s (round link c n s)
 pulled_round link c zero low w s same up = pulled_nothing c w s same up
 pulled_round link c (suc n) low w s same up =
     pulled_then c w s (round link c n s) (round link c (suc n) s) (pulled_round link c n (let e : n ≤ c.channels.count = omega (arith, low) in e) w s same up)
     (λ v here there. pulled_one link c v (suc n) (round link c n s) here there (is_between c.channels.count (suc n) (let e : 1 ≤ suc n = omega arith in e) low))
 
-pulled_rounds : (k : ℕ) (link : LinkView) (c : LayerSettings) (w : TwoLayers) (s : Putting) → w.near.layer ≡ s.layer → w.near.is_out ≡ false → Pulled c w s (rounds_of k link c s)
+pulled_rounds : (k : ℕ) (link : LinkView) (c : LayerSettings) (w : TwoLayers) (s : Putting) → w.near.layer ≡ s.layer → w.near.is_out ≡ false
+    → Pulled c w s (rounds_of k link c s)
 pulled_rounds zero link c w s same up = pulled_nothing c w s same up
 pulled_rounds (suc k) link c w s same up =
     pulled_then c w s (round link c c.channels.count s) (rounds_of k link c (round link c c.channels.count s))
@@ -134,11 +144,14 @@ pulled_rounds (suc k) link c w s same up =
     (λ v here there. pulled_rounds k link c v (round link c c.channels.count s) here there)
 
 -- a first move, and then the rounds
-run_then : (link : LinkView) (c : LayerSettings) (w : TwoLayers) (move : Move) (first : Putting) (behind : List PlainPacket) → (moves c w move).near.layer ≡ first.layer → (moves c w move).near.is_out ≡ false
-    → (moves c w move).near.given ≡ w.near.given ++ first.put → (moves c w move).out ≡ w.out ++ first.put → (moves c w move).back ≡ behind → (moves c w move).far ≡ w.far
+run_then : (link : LinkView) (c : LayerSettings) (w : TwoLayers) (move : Move) (first : Putting) (behind : List PlainPacket) → (moves c w move).near.layer
+    ≡ first.layer → (moves c w move).near.is_out ≡ false
+    → (moves c w move).near.given ≡ w.near.given ++ first.put → (moves c w move).out ≡ w.out ++ first.put → (moves c w move).back ≡ behind
+    → (moves c w move).far ≡ w.far
     → (pulled : List ℕ) × AreChannels c.channels pulled × IsRun c w (move ∷ pulls_of pulled) (moves c w move) (rounds link c first) behind
 run_then link c w move first behind layer up given out back far =
-    let p : Pulled c (moves c w move) first (rounds link c first) = pulled_rounds (backlog first.layer.circuits c.channels.count) link c (moves c w move) first layer up in (
+    let p : Pulled c (moves c w move) first (rounds link c first) =
+    pulled_rounds (backlog first.layer.circuits c.channels.count) link c (moves c w move) first layer up in (
       p.channels,
       p.are,
       record {
@@ -174,10 +187,13 @@ calls_run link c w request s up is = up_link link.is_up is
         → (pulled : List ℕ) × AreChannels c.channels pulled × IsRun c w (move ∷ pulls_of pulled) (moves c w move) s w.back
     by (Declined e) found answer = absurd (refuses_went e s answer)
     by (Accepted next packet) found answer =
-        let all : moves c w move ≡ requested c w request (Accepted next packet) = ap (λ (o : Bool). moves_in c w o move) up ∙ ap (λ (o : LayerOutcome). requested c w request o) found in
-        subst (λ (t : Putting). (pulled : List ℕ) × AreChannels c.channels pulled × IsRun c w (move ∷ pulls_of pulled) (moves c w move) t w.back) (went_is (rounds link c (begin next packet)) s answer)
+        let all : moves c w move ≡ requested c w request (Accepted next packet) =
+        ap (λ (o : Bool). moves_in c w o move) up ∙ ap (λ (o : LayerOutcome). requested c w request o) found in
+        subst (λ (t : Putting). (pulled : List ℕ) × AreChannels c.channels pulled × IsRun c w (move ∷ pulls_of pulled) (moves c w move) t w.back)
+        (went_is (rounds link c (begin next packet)) s answer)
         (run_then link c w move (begin next packet) w.back
-        (ap (λ (x : TwoLayers). x.near.layer) all) (ap (λ (x : TwoLayers). x.near.is_out) all) (ap (λ (x : TwoLayers). x.near.given) all) (ap (λ (x : TwoLayers). x.out) all) (ap (λ (x : TwoLayers). x.back) all)
+        (ap (λ (x : TwoLayers). x.near.layer) all) (ap (λ (x : TwoLayers). x.near.is_out) all) (ap (λ (x : TwoLayers). x.near.given) all)
+        (ap (λ (x : TwoLayers). x.out) all) (ap (λ (x : TwoLayers). x.back) all)
         (ap (λ (x : TwoLayers). x.far) all))
 
     up_link : (b : Bool) → (if b then went link c (layer_outcome c (link.waits [] == 256) w.near.layer request) else Refuses error.NotUp) ≡ Went s
@@ -188,8 +204,11 @@ calls_run link c w request s up is = up_link link.is_up is
 pub hears_run : HearsRun
 hears_run link c wide w packet back octets up front reads =
     let a : LayerAnswer = layer_answers c w.near.layer packet in
-    let all : moves c w HandsUp ≡ answered w packet back a = ap (λ (o : Bool). moves_in c w o HandsUp) up ∙ ap (λ (l : List PlainPacket). handed_up c w l) front in
-    subst (λ (r : _). (pulled : List ℕ) × AreChannels c.channels pulled × IsRun c w (HandsUp ∷ pulls_of pulled) (moves c w HandsUp) (heard link c (answer_to c w.near.layer octets r)).step back) (sym reads)
+    let all : moves c w HandsUp ≡ answered w packet back a =
+    ap (λ (o : Bool). moves_in c w o HandsUp) up ∙ ap (λ (l : List PlainPacket). handed_up c w l) front in
+    subst (λ (r : _). (pulled : List ℕ) × AreChannels c.channels pulled
+    × IsRun c w (HandsUp ∷ pulls_of pulled) (moves c w HandsUp) (heard link c (answer_to c w.near.layer octets r)).step back) (sym reads)
     (run_then link c w HandsUp (begin a.next a.owed) back
-    (ap (λ (x : TwoLayers). x.near.layer) all) (ap (λ (x : TwoLayers). x.near.is_out) all) (ap (λ (x : TwoLayers). x.near.given) all) (ap (λ (x : TwoLayers). x.out) all) (ap (λ (x : TwoLayers). x.back) all)
+    (ap (λ (x : TwoLayers). x.near.layer) all) (ap (λ (x : TwoLayers). x.near.is_out) all) (ap (λ (x : TwoLayers). x.near.given) all)
+    (ap (λ (x : TwoLayers). x.out) all) (ap (λ (x : TwoLayers). x.back) all)
     (ap (λ (x : TwoLayers). x.far) all))

@@ -23,6 +23,7 @@ use Rattle.x25_layer.specs.laws.Bare.{bare}
 use Rattle.x25_layer.specs.laws.Quiet.{IsQuiet, IsNoFault}
 use Rattle.x25_layer.specs.laws.Transcript.{Handed, nothing_handed, added}
 
+-- a stretch as the table has it
 abbrev pub talk_of : Stretch → Talk
 talk_of x = record { sent = x.sent; taken = x.taken; acked = x.acked; rest = x.rest; int_out = x.int_out; peer_ready = x.peer_ready; own_ready = x.own_ready }
 
@@ -66,6 +67,7 @@ unagreed = record { params = default_params; calls = false }
 abbrev pub sent_on : ℕ → Agreed → Terms
 sent_on most g = with_longest most (if g.calls then calling_terms g.params else called_terms g.params)
 
+-- what an end takes data by
 abbrev pub taken_on : ℕ → Agreed → Terms
 taken_on most g = with_longest most (if g.calls then called_terms g.params else calling_terms g.params)
 
@@ -87,10 +89,12 @@ AreAgreedIn most g (Talking t b at) = (t ≡ sent_on most g) × (b ≡ taken_on 
 AreAgreedIn most g (Offered theirs) = may_propose theirs ≡ true
 AreAgreedIn most g other = Unit {0}
 
+-- what an end counts as agreed is what stands in its phase
 abbrev pub AreAgreed : ℕ → Agreed → Side Connection → Type 0
 AreAgreed most g (Live x) = AreAgreedIn most g x.phase
 AreAgreed most g (Left x) = Unit {0}
 
+-- a channel of the handshakes as a circuit of the table
 abbrev pub view : Agreed → At Connection → Circuit
 view g n = record {
   state = state_at n.side;
@@ -113,14 +117,17 @@ pub record ParamsLaws : Type 0 where
   pub allowed : SaidIsAllowed
   pub answered : AnswerIsAllowed
 
+-- what is put, if anything, as the handshakes have it
 abbrev pub bare_if : ℕ → Option PlainPacket → List Packet
 bare_if most None = []
 bare_if most (Some packet) = bare most packet ∷ []
 
+-- what is put, if anything, tells of no error and has a channel
 abbrev pub IsQuietIf : Option PlainPacket → Type 0
 IsQuietIf None = Unit {0}
 IsQuietIf (Some packet) = IsQuiet packet × HasChannel packet
 
+-- no notice tells of a fault
 abbrev pub TellNoFault : List PlainNotice → Type 0
 TellNoFault [] = Unit {0}
 TellNoFault (notice ∷ notices) = IsNoFault notice × TellNoFault notices
@@ -138,10 +145,12 @@ pub record Does (most : ℕ) (x : Circuit) (owed : Option PlainPacket) (s : OwnS
   pub packet : bare_if most owed ≡ s.out
   pub quiet : IsQuietIf owed
 
+-- a request that is done is a step of the channel
 abbrev pub Heeds : ℕ → Outcome → OwnStep (At Connection) Packet → Type 0
 Heeds most (Done next packet) s = Does most next packet s
 Heeds most (Refused e) s = Unit {0}
 
+-- a request as an act on the channel
 abbrev pub act_of : ℕ → Request → ChannelAct
 act_of most (Calls called calling user proposal) = Within (PlacesCall (request_of called calling user proposal.params))
 act_of most (Accepts answer) = Within (AcceptsCall answer most)
@@ -152,6 +161,7 @@ act_of most (Resets cause diagnostic) = Within (Talks SendsReset)
 act_of most SaysReady = Within (Talks (Inside Ready))
 act_of most SaysNotReady = Within (Talks (Inside NotReady))
 
+-- a pull as an act on the channel
 abbrev pub pull_act : ChannelAct
 pull_act = Within (Talks (Inside Pull))
 
@@ -164,9 +174,11 @@ abbrev pub held_phase : List CallRequest → List CallRequest → Phase → Hand
 held_phase made indicated (Talking t b at) = held_stretch made indicated (state_of at.side)
 held_phase made indicated other = record { made = made; indicated = indicated; down = []; up = []; int_down = []; int_up = [] }
 
+-- what a channel holds
 abbrev pub held_of : At Connection → Handed
 held_of n = held_phase (state_of n.side).made (state_of n.side).indicated (state_of n.side).phase
 
+-- how many resets a channel counts
 abbrev pub resets_of : At Connection → ℕ
 resets_of n = resets_in (state_of n.side).phase
 
@@ -177,9 +189,11 @@ HasNoCall h = (h.made ≡ []) × (h.indicated ≡ [])
 -- The name stays, and these are added, of calls only before the first reset; or the name grows, and nothing is said.
 pub data Notes (x y : At Connection) (h : Handed) : Type 0 where
   Adds : y.epoch ≡ x.epoch → resets_of y ≡ resets_of x → held_of y ≡ added (held_of x) h → HasNoCall h ⊎ (resets_of y ≡ 0) → Notes x y h
-  AfterReset : y.epoch ≡ x.epoch → resets_of x < resets_of y → h ≡ nothing_handed → held_of y ≡ held_phase (held_of x).made (held_of x).indicated Unused → Notes x y h
+  AfterReset : y.epoch ≡ x.epoch → resets_of x < resets_of y → h ≡ nothing_handed → held_of y ≡ held_phase (held_of x).made (held_of x).indicated Unused
+      → Notes x y h
   AfterClear : x.epoch < y.epoch → h ≡ nothing_handed → held_of y ≡ nothing_handed → Notes x y h
 
+-- a request that is done adds this to the lists
 abbrev pub NotesOutcome : Outcome → At Connection → At Connection → Handed → Type 0
 NotesOutcome (Done next packet) x y h = Notes x y h
 NotesOutcome (Refused e) x y h = Unit {0}

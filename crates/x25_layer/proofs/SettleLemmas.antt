@@ -1,5 +1,6 @@
 -- Behind the rounds of a step, one round more gives nothing.
-use Rattle.std.proofs.Common.{◌≡◌, ◌⊎◌, inl, inr, ℕ, zero, suc, ◌+◌, ◌<◌, ◌≤◌, ◌%◌, List, [], ◌∷◌, ◌++◌, length, Option, Some, None, Bool, true, false, nat_lt, ◌==◌, ◌&&◌, if◌then◌else◌, refl, sym, ap, ◌∙◌, eq-eqb, arith}
+use Rattle.std.proofs.Common.{◌≡◌, ◌⊎◌, inl, inr, ℕ, zero, suc, ◌+◌, ◌<◌, ◌≤◌, ◌%◌, List, [], ◌∷◌, ◌++◌, length, Option, Some, None, Bool, true, false, nat_lt}
+use Rattle.std.proofs.Common.{◌==◌, ◌&&◌, if◌then◌else◌, refl, sym, ap, ◌∙◌, eq-eqb, arith}
 use Rattle.std.proofs.lemmas.Option.{none-some}
 use Rattle.std.proofs.lemmas.Bool.{eqb-true}
 use Rattle.x25_packet.specs.Packet.{PlainPacket}
@@ -15,17 +16,27 @@ use Rattle.x25_layer.specs.laws.RoundLaw.{RoundsSettle, ComesUpAlone}
 
 -- a pull that gives a packet leaves one fewer
 
-shorter_open : (c : CircuitSettings) (x : Circuit) (t : Talk) (rest : List Piece) (p : PlainPacket) → x.talk.rest ≡ rest → (pull_open c x t rest).packet ≡ Some p → suc (length (pull_open c x t rest).next.talk.rest) ≡ length x.talk.rest
+shorter_open : (c : CircuitSettings) (x : Circuit) (t : Talk) (rest : List Piece) (p : PlainPacket) → x.talk.rest ≡ rest → (pull_open c x t rest).packet
+    ≡ Some p → suc (length (pull_open c x t rest).next.talk.rest) ≡ length x.talk.rest
 shorter_open c x t [] p same found = absurd (none-some p found)
 shorter_open c x t (piece ∷ rest) p same found = test (t.peer_ready && nat_lt (length t.sent) (t.acked + (outgoing x).window)) found
   where
     next : Pulled
     next = record {
-      next = talking x (record { sent = t.sent ++ piece ∷ []; taken = t.taken; acked = t.acked; rest = rest; int_out = t.int_out; peer_ready = t.peer_ready; own_ready = t.own_ready });
+      next = talking x (record {
+        sent = t.sent ++ piece ∷ [];
+        taken = t.taken;
+        acked = t.acked;
+        rest = rest;
+        int_out = t.int_out;
+        peer_ready = t.peer_ready;
+        own_ready = t.own_ready;
+      });
       packet = Some (data_packet (length t.sent % 8) (length t.taken % 8) piece);
     }
 
-    test : (b : Bool) → (if b then next else pulls_nothing x).packet ≡ Some p → suc (length (if b then next else pulls_nothing x).next.talk.rest) ≡ length x.talk.rest
+    test : (b : Bool) → (if b then next else pulls_nothing x).packet ≡ Some p → suc (length (if b then next else pulls_nothing x).next.talk.rest)
+        ≡ length x.talk.rest
     test true is = let l : length x.talk.rest ≡ length (piece ∷ rest) = ap length same in omega (arith, l)
     test false is = absurd (none-some p is)
 
@@ -46,6 +57,7 @@ shorter c x p found = at x.state found
 pub put_other : (b : Bool) (y z : Circuit) → b ≡ false → (if b then y else z) ≡ z
 put_other b y z is = ap (λ (a : Bool). if a then y else z) is
 
+-- two numbers that differ
 pub not_same : (k h : ℕ) → (k ≡ h → ⊥) → (k == h) ≡ false
 not_same k h differ = test (k == h) refl
   where
@@ -63,6 +75,7 @@ backlog_below f h y (suc n) low =
 true_false : true ≡ false → ⊥
 true_false e = cc
 
+-- up to a number, or the next
 pub split : (k m : ℕ) → k ≤ suc m → (k ≤ m) ⊎ (k ≡ suc m)
 split zero m low = inl (omega arith)
 split (suc k) zero low = inr (omega (arith, low))
@@ -72,12 +85,14 @@ split (suc k) (suc m) low = next (split k m (let e : k ≤ suc m = omega (arith,
     next (inl small) = inl (omega (arith, small))
     next (inr same) = inr (ap suc same)
 
-backlog_put : (f : ℕ → Circuit) (h : ℕ) (y : Circuit) (n : ℕ) → 1 ≤ h → h ≤ n → backlog (put_at f h y) n + length (f h).talk.rest ≡ backlog f n + length y.talk.rest
+backlog_put : (f : ℕ → Circuit) (h : ℕ) (y : Circuit) (n : ℕ) → 1 ≤ h → h ≤ n → backlog (put_at f h y) n + length (f h).talk.rest ≡ backlog f n
+    + length y.talk.rest
 backlog_put f h y zero low high = absurd (omega (arith, low, high))
 backlog_put f h y (suc n) low high = test (λ small. backlog_put f h y n low small) (suc n == h) refl
   where
     test : (h ≤ n → backlog (put_at f h y) n + length (f h).talk.rest ≡ backlog f n + length y.talk.rest) → (b : Bool) → (suc n == h) ≡ b
-        → (backlog (put_at f h y) n + length (if b then y else f (suc n)).talk.rest) + length (f h).talk.rest ≡ (backlog f n + length (f (suc n)).talk.rest) + length y.talk.rest
+        → (backlog (put_at f h y) n + length (if b then y else f (suc n)).talk.rest) + length (f h).talk.rest ≡ (backlog f n + length (f (suc n)).talk.rest)
+        + length y.talk.rest
     test below true is =
         let same : suc n ≡ h = eqb-true (suc n) h is in
         let before : backlog (put_at f h y) n ≡ backlog f n = backlog_below f h y n (let e : n < h = omega (arith, same) in e) in
@@ -85,7 +100,8 @@ backlog_put f h y (suc n) low high = test (λ small. backlog_put f h y n low sma
         omega (arith, before, here)
     test below false is = either (split h n high)
       where
-        either : (h ≤ n) ⊎ (h ≡ suc n) → (backlog (put_at f h y) n + length (f (suc n)).talk.rest) + length (f h).talk.rest ≡ (backlog f n + length (f (suc n)).talk.rest) + length y.talk.rest
+        either : (h ≤ n) ⊎ (h ≡ suc n) → (backlog (put_at f h y) n + length (f (suc n)).talk.rest) + length (f h).talk.rest
+            ≡ (backlog f n + length (f (suc n)).talk.rest) + length y.talk.rest
         either (inl small) = let less = below small in omega (arith, less)
         either (inr top) = absurd (true_false (sym (eq-eqb (suc n) h (sym top)) ∙ is))
 
@@ -103,7 +119,8 @@ one_lessens link c h low high s = room (nat_lt (link.waits s.put) 8)
     y : Circuit
     y = (pulled c.circuit (s.layer.circuits h)).next
 
-    given : (o : Option PlainPacket) → (pulled c.circuit (s.layer.circuits h)).packet ≡ o → Lessens c s (with_pulled s (layer_pulled c s.layer h) (packet_on h o))
+    given : (o : Option PlainPacket) → (pulled c.circuit (s.layer.circuits h)).packet ≡ o
+        → Lessens c s (with_pulled s (layer_pulled c s.layer h) (packet_on h o))
     given None found = inl refl
     given (Some packet) found =
         let less : suc (length y.talk.rest) ≡ length (s.layer.circuits h).talk.rest = shorter c.circuit (s.layer.circuits h) packet found in
@@ -131,15 +148,19 @@ stays : (k : ℕ) (link : LinkView) (c : LayerSettings) (s : Putting) → round 
 stays zero link c s is = refl
 stays (suc k) link c s is = ap (λ (t : Putting). rounds_of k link c t) is ∙ stays k link c s is
 
-settled : (k : ℕ) (link : LinkView) (c : LayerSettings) (s : Putting) → left c s ≤ k → round link c c.channels.count (rounds_of k link c s) ≡ rounds_of k link c s
+settled : (k : ℕ) (link : LinkView) (c : LayerSettings) (s : Putting) → left c s ≤ k → round link c c.channels.count (rounds_of k link c s)
+    ≡ rounds_of k link c s
 settled zero link c s enough = by (round_lessens link c c.channels.count (let e : c.channels.count ≤ c.channels.count = omega arith in e) s)
   where
     by : Lessens c s (round link c c.channels.count s) → round link c c.channels.count s ≡ s
     by (inl is) = is
     by (inr less) = absurd (omega (arith, enough, less))
-settled (suc j) link c s enough = by (round_lessens link c c.channels.count (let e : c.channels.count ≤ c.channels.count = omega arith in e) s) (λ small. settled j link c (round link c c.channels.count s) small)
+settled (suc j) link c s enough = by (round_lessens link c c.channels.count (let e : c.channels.count ≤ c.channels.count = omega arith in e) s)
+    (λ small. settled j link c (round link c c.channels.count s) small)
   where
-    by : Lessens c s (round link c c.channels.count s) → (left c (round link c c.channels.count s) ≤ j → round link c c.channels.count (rounds_of j link c (round link c c.channels.count s)) ≡ rounds_of j link c (round link c c.channels.count s))
+    by : Lessens c s (round link c c.channels.count s)
+        → (left c (round link c c.channels.count s) ≤ j → round link c c.channels.count (rounds_of j link c (round link c c.channels.count s))
+        ≡ rounds_of j link c (round link c c.channels.count s))
         → round link c c.channels.count (rounds_of j link c (round link c c.channels.count s)) ≡ rounds_of j link c (round link c c.channels.count s)
     by (inl is) again =
         let end : rounds_of j link c (round link c c.channels.count s) ≡ s = stays (suc j) link c s is in
@@ -147,7 +168,8 @@ settled (suc j) link c s enough = by (round_lessens link c c.channels.count (let
     by (inr less) again = again (let e : left c (round link c c.channels.count s) ≤ j = omega (arith, enough, less) in e)
 
 -- rounds behind one that gives nothing
-stays_on : (n k : ℕ) (link : LinkView) (c : LayerSettings) (s : Putting) → n ≤ k → round link c c.channels.count (rounds_of n link c s) ≡ rounds_of n link c s → rounds_of k link c s ≡ rounds_of n link c s
+stays_on : (n k : ℕ) (link : LinkView) (c : LayerSettings) (s : Putting) → n ≤ k → round link c c.channels.count (rounds_of n link c s) ≡ rounds_of n link c s
+    → rounds_of k link c s ≡ rounds_of n link c s
 stays_on zero k link c s low is = stays k link c s is
 stays_on (suc n) zero link c s low is = absurd (omega (arith, low))
 stays_on (suc n) (suc k) link c s low is = stays_on n k link c (round link c c.channels.count s) (let e : n ≤ k = omega (arith, low) in e) is
@@ -163,13 +185,15 @@ rounds_behind link c s = by (round_lessens link c c.channels.count (let e : c.ch
     by : Lessens c s (round link c c.channels.count s) → rounds link c (round link c c.channels.count s) ≡ rounds link c s
     by (inl is) = ap (λ (t : Putting). rounds link c t) is
     by (inr less) =
-        sym (more_rounds (left c s) link c (round link c c.channels.count s) (let e : left c (round link c c.channels.count s) ≤ left c s = omega (arith, less) in e))
+        sym (more_rounds (left c s) link c (round link c c.channels.count s)
+        (let e : left c (round link c c.channels.count s) ≤ left c s = omega (arith, less) in e))
         ∙ more_rounds (suc (left c s)) link c s (let e : left c s ≤ suc (left c s) = omega arith in e)
 
 -- where a round gives nothing, that is where all of them lead
 pub rounds_at_end : (link : LinkView) (c : LayerSettings) (s : Putting) → round link c c.channels.count s ≡ s → rounds link c s ≡ s
 rounds_at_end link c s is = stays (left c s) link c s is
 
+-- one round more gives nothing
 pub rounds_settle : RoundsSettle
 rounds_settle link c s = settled (left c s) link c s (let e : left c s ≤ left c s = omega arith in e)
 

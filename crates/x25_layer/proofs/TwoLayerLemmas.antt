@@ -1,9 +1,11 @@
 -- Each event of two layers is an event of the nested handshakes, or changes nothing.
-use Rattle.std.proofs.Common.{◌≡◌, ◌⊎◌, inl, inr, ℕ, List, [], ◌∷◌, ◌++◌, Option, Some, None, Bool, true, false, if◌then◌else◌, option_to_list, refl, sym, ap, subst, ◌∙◌, append_assoc}
+use Rattle.std.proofs.Common.{◌≡◌, ◌⊎◌, inl, inr, ℕ, List, [], ◌∷◌, ◌++◌, Option, Some, None, Bool, true, false, if◌then◌else◌, option_to_list, refl, sym, ap}
+use Rattle.std.proofs.Common.{subst, ◌∙◌, append_assoc}
 use Rattle.x25_bits.specs.declared.role.Role.{Role}
 use Rattle.x25_packet.specs.Packet.{PlainPacket}
 use Rattle.x25_handshakes.specs.laws.Handshake.{Side, Live, Left, At, state_of, OwnStep, first_error}
-use Rattle.x25_handshakes.specs.laws.Layers.{LayerPacket, On, Restart, RestartConf, Channels, OnChannel, Pair, Acts, Takes, LinkDown, pair_moves, layer_acts, layer_takes}
+use Rattle.x25_handshakes.specs.laws.Layers.{LayerPacket, On, Restart, RestartConf, Channels, OnChannel, Pair, Acts, Takes, LinkDown, pair_moves, layer_acts}
+use Rattle.x25_handshakes.specs.laws.Layers.{layer_takes}
 use Rattle.x25_handshakes.specs.laws.Layers as nested
 use Rattle.x25_handshakes.specs.laws.Histories.{circuit_at}
 use Rattle.x25_handshakes.specs.laws.Stretch.{Packet, Clear}
@@ -14,7 +16,8 @@ use Rattle.x25_layer.specs.Calls.{LayerRequest, PullsAll, LayerOutcome, Accepted
 use Rattle.x25_layer.specs.laws.Bare.{bare_layer, bare_layers}
 use Rattle.x25_layer.specs.laws.Quiet.{AreQuiet, AreNoFaults}
 use Rattle.x25_layer.specs.laws.Transcript.{Entry}
-use Rattle.x25_layer.specs.laws.TwoLayers.{End, TwoLayers, entries_asked, entries_told, Move, Requests, Pulls, HandsUp, GoesDown, puts, requested, pulled_in, answered, handed_up, moves_in, turned, settings_of}
+use Rattle.x25_layer.specs.laws.TwoLayers.{End, TwoLayers, entries_asked, entries_told, Move, Requests, Pulls, HandsUp, GoesDown, puts, requested, pulled_in}
+use Rattle.x25_layer.specs.laws.TwoLayers.{answered, handed_up, moves_in, turned, settings_of}
 use Rattle.x25_layer.specs.laws.Law.{IsQuietEnd, KeepsOrder}
 use Rattle.x25_layer.proofs.Sees.{ParamsLaws, pull_act}
 use Rattle.x25_layer.proofs.NoteLemmas.{still, append_nil}
@@ -47,7 +50,8 @@ pub record Stepped (r : Role) (channels : Ranges) (w : TwoLayers) (j : Pair) (w�
   pub far_entries : w₂.far.entries ≡ w.far.entries
   pub step : StepOf (state_of j.near) (state_of (pair_moves r j j.near move).near) entries
 
-pub bare_more : (most : ℕ) (L o : List PlainPacket) (u v : List LayerPacket) → bare_layers most L ≡ u → bare_layers most o ≡ v → bare_layers most (L ++ o) ≡ u ++ v
+pub bare_more : (most : ℕ) (L o : List PlainPacket) (u v : List LayerPacket) → bare_layers most L ≡ u → bare_layers most o ≡ v → bare_layers most (L ++ o) ≡ u
+    ++ v
 bare_more most [] o u v p q = q ∙ ap (λ l. l ++ v) p
 bare_more most (x ∷ L) o u v p q = ap (λ l. bare_layer most x ∷ l) (bare_more most L o (bare_layers most L) v refl q) ∙ ap (λ l. l ++ v) p
 
@@ -62,12 +66,14 @@ no_faults_more (x ∷ L) o p q = (p.0, no_faults_more L o p.1 q)
 some_none : (n : ℕ) → Some n ≡ None → ⊥
 some_none n e = cc
 
+-- where the first of two errors is none the second is none
 pub second : (e f : Option ℕ) → first_error e f ≡ None → f ≡ None
 second None f q = q
 second (Some n) f q = absurd (some_none n q)
 
 -- the near end has put these packets, and stands as the nested one does
-put_sees : (channels : Ranges) (w : TwoLayers) (j : Pair) (l : Layer) (o : List PlainPacket) (es : List Entry) (s : OwnStep (At Channels) LayerPacket) (error : Option ℕ) → Sees channels w j
+put_sees : (channels : Ranges) (w : TwoLayers) (j : Pair) (l : Layer) (o : List PlainPacket) (es : List Entry) (s : OwnStep (At Channels) LayerPacket)
+    (error : Option ℕ) → Sees channels w j
     → SeesLayer channels.message l s.next → bare_layers channels.message o ≡ s.out → AreQuiet channels o
     → Sees channels (puts w l o es) (record { near = Live s.next; far = j.far; out = j.out ++ s.out; back = j.back; error = error })
 put_sees channels w j l o es s error sees next owed quiet = record {
@@ -83,7 +89,8 @@ put_sees channels w j l o es s error sees next owed quiet = record {
 }
 
 -- after a packet was handed up
-answered_sees : (channels : Ranges) (w : TwoLayers) (j : Pair) (p : PlainPacket) (K : List PlainPacket) (a : LayerAnswer) (s : OwnStep (At Channels) LayerPacket) (error : Option ℕ) → Sees channels w j → w.back ≡ p ∷ K
+answered_sees : (channels : Ranges) (w : TwoLayers) (j : Pair) (p : PlainPacket) (K : List PlainPacket) (a : LayerAnswer)
+    (s : OwnStep (At Channels) LayerPacket) (error : Option ℕ) → Sees channels w j → w.back ≡ p ∷ K
     → (z : At Channels) → FollowsLayer channels.message channels a z s
     → Sees channels (answered w p K a) (record { near = Live s.next; far = j.far; out = j.out ++ s.out; back = bare_layers channels.message K; error = error })
 answered_sees channels w j p K a s error sees front z g = record {
@@ -124,7 +131,8 @@ written_anew w restarting gone given entries out = record {
 }
 
 -- That all be pulled changes nothing itself: the pulls are moves of their own.
-pub pulls_change_nothing : (c : LayerSettings) (full : Bool) (w : TwoLayers) → w.near.is_out ≡ false → requested c w PullsAll (layer_outcome c full w.near.layer PullsAll) ≡ w
+pub pulls_change_nothing : (c : LayerSettings) (full : Bool) (w : TwoLayers) → w.near.is_out ≡ false
+    → requested c w PullsAll (layer_outcome c full w.near.layer PullsAll) ≡ w
 pulls_change_nothing c full w up = by w.near.layer.restarting refl
   where
     by : (b : Bool) → w.near.layer.restarting ≡ b → requested c w PullsAll (outcome_in c full b w.near.layer.restarts w.near.layer.circuits PullsAll) ≡ w
@@ -150,9 +158,12 @@ found_none p e none = ap (λ f. layer_found p f) none ∙ at p
     at RestartConf = refl
 
 -- An event at the near end, with the settings of its role.
-pub world_moves : ParamsLaws → (r : Role) (long_data : Bool) (channels : Ranges) (w : TwoLayers) (near far : Side (At Channels)) (out back : List LayerPacket) (error : Option ℕ) (what : Move)
-    → let j : Pair = record { near = near; far = far; out = out; back = back; error = error } in Sees channels w j → ((m : nested.Move) → (pair_moves r j near m).error ≡ None)
-    → (gone : Bool) → gone ≡ w.near.is_out → (moves_in (settings_of r long_data channels) w gone what ≡ w) ⊎ Stepped r channels w j (moves_in (settings_of r long_data channels) w gone what)
+pub world_moves : ParamsLaws → (r : Role) (long_data : Bool) (channels : Ranges) (w : TwoLayers) (near far : Side (At Channels)) (out back : List LayerPacket)
+    (error : Option ℕ) (what : Move)
+    → let j : Pair = record { near = near; far = far; out = out; back = back; error = error } in Sees channels w j
+    → ((m : nested.Move) → (pair_moves r j near m).error ≡ None)
+    → (gone : Bool) → gone ≡ w.near.is_out → (moves_in (settings_of r long_data channels) w gone what ≡ w)
+    ⊎ Stepped r channels w j (moves_in (settings_of r long_data channels) w gone what)
 world_moves laws r long_data channels w near far out back error what sees quiet true is = inl refl
 world_moves laws r long_data channels w (Left z) far out back error what sees quiet false is = absurd (true≢false (sym (is ∙ sees.near.0)))
 world_moves laws r long_data channels w (Live z) far out back error (Requests full request) sees quiet false is = asked request
@@ -161,7 +172,8 @@ world_moves laws r long_data channels w (Live z) far out back error (Requests fu
     c = settings_of r long_data channels
 
     did : (request : LayerRequest) (d : LayerOutcome) → HeedsLayer c w.near.layer request d z (layer_acts z (layer_act c w.near.layer.circuits request))
-        → (requested c w request d ≡ w) ⊎ Stepped r channels w (record { near = Live z; far = far; out = out; back = back; error = error }) (requested c w request d)
+        → (requested c w request d ≡ w) ⊎ Stepped r channels w (record { near = Live z; far = far; out = out; back = back; error = error })
+        (requested c w request d)
     did request (Accepted next packet) g = inr (record {
       move = Acts (layer_act c w.near.layer.circuits request);
       sees = put_sees channels w (record { near = Live z; far = far; out = out; back = back; error = error }) next (option_to_list packet)
@@ -174,21 +186,25 @@ world_moves laws r long_data channels w (Live z) far out back error (Requests fu
     did request (Declined e) g = inl refl
 
     asked : (request : LayerRequest) → (requested c w request (layer_outcome c full w.near.layer request) ≡ w)
-        ⊎ Stepped r channels w (record { near = Live z; far = far; out = out; back = back; error = error }) (requested c w request (layer_outcome c full w.near.layer request))
+        ⊎ Stepped r channels w (record { near = Live z; far = far; out = out; back = back; error = error })
+        (requested c w request (layer_outcome c full w.near.layer request))
     asked PullsAll = inl (pulls_change_nothing c full w (sym is))
     asked other = did other (layer_outcome c full w.near.layer other) (layer_heeds laws c full w.near.layer z other tt sees.near.1)
 world_moves laws r long_data channels w (Live z) far out back error (Pulls h) sees quiet false is = test (is_channel channels h) refl
   where
     test : (c : Bool) → is_channel channels h ≡ c
         → ((if c then pulled_in w (layer_pulled (settings_of r long_data channels) w.near.layer h) else w) ≡ w)
-        ⊎ Stepped r channels w (record { near = Live z; far = far; out = out; back = back; error = error }) (if c then pulled_in w (layer_pulled (settings_of r long_data channels) w.near.layer h) else w)
+        ⊎ Stepped r channels w (record { near = Live z; far = far; out = out; back = back; error = error })
+        (if c then pulled_in w (layer_pulled (settings_of r long_data channels) w.near.layer h) else w)
     test false other = inl refl
     test true there =
         let p : LayerPulled = layer_pulled (settings_of r long_data channels) w.near.layer h in
-        let g : DoesLayer channels.message channels p.next p.packet [] z (layer_acts z (OnChannel h pull_act)) = layer_pulls (settings_of r long_data channels) w.near.layer z h there sees.near.1 in
+        let g : DoesLayer channels.message channels p.next p.packet [] z (layer_acts z (OnChannel h pull_act)) =
+        layer_pulls (settings_of r long_data channels) w.near.layer z h there sees.near.1 in
         inr (record {
           move = Acts (OnChannel h pull_act);
-          sees = put_sees channels w (record { near = Live z; far = far; out = out; back = back; error = error }) p.next (option_to_list p.packet) [] (layer_acts z (OnChannel h pull_act)) _ sees g.next g.put g.quiet;
+          sees = put_sees channels w (record { near = Live z; far = far; out = out; back = back; error = error }) p.next (option_to_list p.packet) []
+              (layer_acts z (OnChannel h pull_act)) _ sees g.next g.put g.quiet;
           entries = [];
           near_entries = refl;
           far_entries = refl;
@@ -205,13 +221,17 @@ world_moves laws r long_data channels w (Live z) far out back error HandsUp sees
         let same : bare_layer channels.message p ∷ bare_layers channels.message K ≡ back = ap (bare_layers channels.message) (sym front) ∙ sees.back in
         let s : OwnStep (At Channels) LayerPacket = layer_takes r z (bare_layer channels.message p) in
         let clean : s.error ≡ None =
-        second error s.error (subst (λ (l : List LayerPacket). (pair_moves r (record { near = Live z; far = far; out = out; back = l; error = error }) (Live z) Takes).error ≡ None) (sym same) (quiet Takes)) in
+        second error s.error (subst (λ (l : List LayerPacket).
+        (pair_moves r (record { near = Live z; far = far; out = out; back = l; error = error }) (Live z) Takes).error ≡ None) (sym same) (quiet Takes)) in
         let ok = subst (λ (l : List PlainPacket). AreQuiet channels l) front sees.back_quiet in
-        let g : FollowsLayer channels.message channels (layer_answers c w.near.layer p) z s = layer_follows laws c w.near.layer z p sees.near.1 ok.0.1 (found_none (bare_layer channels.message p) s.error clean) in
-        inr (subst (λ (l : List LayerPacket). Stepped r channels w (record { near = Live z; far = far; out = out; back = l; error = error }) (answered w p K (layer_answers c w.near.layer p))) same
+        let g : FollowsLayer channels.message channels (layer_answers c w.near.layer p) z s =
+        layer_follows laws c w.near.layer z p sees.near.1 ok.0.1 (found_none (bare_layer channels.message p) s.error clean) in
+        inr (subst (λ (l : List LayerPacket). Stepped r channels w (record { near = Live z; far = far; out = out; back = l; error = error })
+        (answered w p K (layer_answers c w.near.layer p))) same
         (record {
           move = Takes;
-          sees = answered_sees channels w (record { near = Live z; far = far; out = out; back = back; error = error }) p K (layer_answers c w.near.layer p) s _ sees front z g;
+          sees = answered_sees channels w (record { near = Live z; far = far; out = out; back = back; error = error }) p K (layer_answers c w.near.layer p) s
+              _ sees front z g;
           entries = entries_told (layer_answers c w.near.layer p).next (layer_answers c w.near.layer p).notices;
           near_entries = refl;
           far_entries = refl;
@@ -236,6 +256,7 @@ world_moves laws r long_data channels w (Live z) far out back error GoesDown see
   step = quiet_step z z refl (λ k. still (circuit_at z k));
 })
 
+-- seen from the other end
 pub sees_turned : (channels : Ranges) (w : TwoLayers) (j : Pair) → Sees channels w j → Sees channels (turned w) (nested.turned j)
 sees_turned channels w j s = record {
   near = s.far;

@@ -1,5 +1,6 @@
 -- Where nothing is in flight and a pull gives nothing, what waits waits for the other end's user: from what is known of the nested handshakes.
-use Rattle.std.proofs.Common.{◌≡◌, ◌⊎◌, inl, inr, ℕ, ◌+◌, ◌≤◌, List, [], ◌++◌, length, Option, Some, None, Bool, true, false, option_to_list, refl, sym, ap, ◌∙◌, length-append, arith}
+use Rattle.std.proofs.Common.{◌≡◌, ◌⊎◌, inl, inr, ℕ, ◌+◌, ◌≤◌, List, [], ◌++◌, length, Option, Some, None, Bool, true, false, option_to_list, refl, sym, ap}
+use Rattle.std.proofs.Common.{◌∙◌, length-append, arith}
 use Rattle.std.proofs.lemmas.Option.{same_Some, none-some}
 use Rattle.std.proofs.lemmas.Bool.{true≢false}
 use Rattle.x25_bits.specs.declared.role.Role.TheVariants.{Dte, Dce}
@@ -9,7 +10,7 @@ use Rattle.x25_handshakes.specs.laws.Terms.{Terms}
 use Rattle.x25_circuit.specs.Circuit.{Circuit, is_open, waits}
 use Rattle.x25_handshakes.specs.laws.Handshake.{Side, Live, Left, has_left, At, state_of}
 use Rattle.x25_handshakes.specs.laws.Stretch.{Stretch}
-use Rattle.x25_handshakes.specs.laws.Calls.{Phase, Unused, Waiting, Offered, Crossed, Talking, Connection}
+use Rattle.x25_handshakes.specs.laws.Calls.{Phase, Talking, Connection}
 use Rattle.x25_handshakes.specs.laws.Layers.{Channels, Pair, pair_run, pair_start}
 use Rattle.x25_handshakes.specs.laws.Histories.{messages, name_at}
 use Rattle.x25_handshakes.specs.laws.Arrivals.{open_in, open_phase, open_call, open_at}
@@ -36,12 +37,14 @@ use Rattle.x25_layer.proofs.LawLemmas.{always_arrives}
 closed_view : (a : Agreed) (x : At Connection) → is_open (view a x) ≡ false → waits (view a x) ≡ 0
 closed_view a x closed = side x.epoch x.side closed
   where
-    transfer : (e : ℕ) (c : Connection) (t b : Terms) (s : ℕ) (z : Side Stretch) → let y : At Connection = record { epoch = e; side = Live (record { phase = Talking t b (record { epoch = s; side = z }); made = c.made; indicated = c.indicated }) } in
+    transfer : (e : ℕ) (c : Connection) (t b : Terms) (s : ℕ) (z : Side Stretch) → let y : At Connection =
+        record { epoch = e; side = Live (record { phase = Talking t b (record { epoch = s; side = z }); made = c.made; indicated = c.indicated }) } in
         is_open (view a y) ≡ false → waits (view a y) ≡ 0
     transfer e c t b s (Live x) is = absurd (true≢false is)
     transfer e c t b s (Left x) is = refl
 
-    phase : (e : ℕ) (c : Connection) (p : Phase) → let y : At Connection = record { epoch = e; side = Live (record { phase = p; made = c.made; indicated = c.indicated }) } in is_open (view a y) ≡ false → waits (view a y) ≡ 0
+    phase : (e : ℕ) (c : Connection) (p : Phase) → let y : At Connection =
+        record { epoch = e; side = Live (record { phase = p; made = c.made; indicated = c.indicated }) } in is_open (view a y) ≡ false → waits (view a y) ≡ 0
     phase e c (Talking t b at) is = transfer e c t b at.epoch at.side is
     phase e c other is = refl
 
@@ -62,7 +65,10 @@ always_closed p long_data channels es =
     let w : TwoLayers = run long_data channels es (start long_data channels) in
     let h : InRun channels w = in_run p long_data channels es in
     let j : Pair = pair_run h.events pair_start in
-    record { near = λ k closed. closed_end channels.message w.near j.near k h.sees.near closed; far = λ k closed. closed_end channels.message w.far j.far k h.sees.far closed }
+    record {
+      near = λ k closed. closed_end channels.message w.near j.near k h.sees.near closed;
+      far = λ k closed. closed_end channels.message w.far j.far k h.sees.far closed;
+    }
 
 restarting_end : (most : ℕ) (e : End) (s : Side (At Channels)) → SeesEnd most e s → e.layer.restarting ≡ true → (k : ℕ) → is_open (e.layer.circuits k) ≡ false
 restarting_end most e (Left z) sees restarts k = absurd (true≢false (sym restarts ∙ ap (λ (l : Layer). l.restarting) sees.1))
@@ -89,16 +95,17 @@ open_view : (a : Agreed) (x : At Connection) (y : Stretch) → open_call x.side 
 open_view a x y is = side x.epoch x.side is
   where
     transfer : (e : ℕ) (c : Connection) (t b : Terms) (s : ℕ) (z : Side Stretch) → open_in z ≡ Some y
-        → OpenView (view a (record { epoch = e; side = Live (record { phase = Talking t b (record { epoch = s; side = z }); made = c.made; indicated = c.indicated }) })) y
+        → OpenView (view a (record {
+          epoch = e;
+          side = Live (record { phase = Talking t b (record { epoch = s; side = z }); made = c.made; indicated = c.indicated });
+        })) y
     transfer e c t b s (Live x) same = record { opened = refl; ready = ap (λ (z : Stretch). z.own_ready) (same_Some x y same) }
     transfer e c t b s (Left x) none = absurd (none-some y none)
 
-    phase : (e : ℕ) (c : Connection) (p : Phase) → open_phase p ≡ Some y → OpenView (view a (record { epoch = e; side = Live (record { phase = p; made = c.made; indicated = c.indicated }) })) y
+    phase : (e : ℕ) (c : Connection) (p : Phase) → open_phase p ≡ Some y
+        → OpenView (view a (record { epoch = e; side = Live (record { phase = p; made = c.made; indicated = c.indicated }) })) y
     phase e c (Talking t b at) same = transfer e c t b at.epoch at.side same
-    phase e c Unused none = absurd (none-some y none)
-    phase e c (Waiting p) none = absurd (none-some y none)
-    phase e c (Offered p) none = absurd (none-some y none)
-    phase e c (Crossed p) none = absurd (none-some y none)
+    phase e c p none = absurd (none-some y none)
 
     side : (e : ℕ) (z : Side Connection) → open_call z ≡ Some y → OpenView (view a (record { epoch = e; side = z })) y
     side e (Live c) same = phase e c c.phase same
@@ -113,7 +120,8 @@ open_shown : (most : ℕ) (e : End) (s : Side (At Channels)) (k : ℕ) (y : Stre
 open_shown most e (Left z) k y sees none = absurd (none-some y none)
 open_shown most e (Live z) k y sees is = at z.epoch z.side sees.1.restarts (sees.1.circuits k) is
   where
-    at : (epoch : ℕ) (x : Side Channels) → e.layer.restarts ≡ epoch → ShowsAt most x k (e.layer.circuits k) → open_at (Live (record { epoch = epoch; side = x })) k ≡ Some y
+    at : (epoch : ℕ) (x : Side Channels) → e.layer.restarts ≡ epoch → ShowsAt most x k (e.layer.circuits k)
+        → open_at (Live (record { epoch = epoch; side = x })) k ≡ Some y
         → OpenShown e (Live (record { epoch = epoch; side = x })) k y
     at epoch (Left x) same shows none = absurd (none-some y none)
     at epoch (Live x) same shows opened =
@@ -121,7 +129,8 @@ open_shown most e (Live z) k y sees is = at z.epoch z.side sees.1.restarts (sees
         record {
           opened = ap is_open shows.is ∙ v.opened;
           ready = ap (λ (c : Circuit). c.talk.own_ready) shows.is ∙ v.ready;
-          named = name_eq (name_of e.layer k) (name_at messages (record { epoch = epoch; side = Live x }) k) same (ap (λ (c : Circuit). c.clears) shows.is) (ap (λ (c : Circuit). c.resets) shows.is);
+          named = name_eq (name_of e.layer k) (name_at messages (record { epoch = epoch; side = Live x }) k) same (ap (λ (c : Circuit). c.clears) shows.is)
+              (ap (λ (c : Circuit). c.resets) shows.is);
         }
 
 -- ---- an end that is up, for which a pull gives nothing
@@ -130,12 +139,15 @@ seen_up : (most : ℕ) (e : End) (s : Side (At Channels)) → SeesEnd most e s �
 seen_up most e (Live z) sees up = refl
 seen_up most e (Left z) sees up = absurd (true≢false (sym sees.0 ∙ up))
 
-seen_none : (c : LayerSettings) (e : End) (s : Side (At Channels)) (k : ℕ) → SeesEnd c.circuit.longest e s → is_channel c.channels k ≡ true → (layer_pulled c e.layer k).packet ≡ None → pulled_at s k ≡ []
+seen_none : (c : LayerSettings) (e : End) (s : Side (At Channels)) (k : ℕ) → SeesEnd c.circuit.longest e s → is_channel c.channels k ≡ true
+    → (layer_pulled c e.layer k).packet ≡ None → pulled_at s k ≡ []
 seen_none c e (Left z) k sees there none = refl
-seen_none c e (Live z) k sees there none = sym (layer_pulls c e.layer z k there sees.1).put ∙ ap (λ (o : Option PlainPacket). bare_layers c.circuit.longest (option_to_list o)) none
+seen_none c e (Live z) k sees there none = sym (layer_pulls c e.layer z k there sees.1).put
+    ∙ ap (λ (o : Option PlainPacket). bare_layers c.circuit.longest (option_to_list o)) none
 
 -- the law of one end, where the giver's stretches are known as the handshakes say
-waits_for : (c : LayerSettings) (e f : End) (s u : Side (At Channels)) (k : ℕ) → SeesEnd c.circuit.longest e s → SeesEnd c.circuit.longest f u → ((x : Stretch) → open_at s k ≡ Some x → IsOpenThere k s u x)
+waits_for : (c : LayerSettings) (e f : End) (s u : Side (At Channels)) (k : ℕ) → SeesEnd c.circuit.longest e s → SeesEnd c.circuit.longest f u
+    → ((x : Stretch) → open_at s k ≡ Some x → IsOpenThere k s u x)
     → (IsIdleTo k e f (length e.given) → HasAllOf k (name_of e.layer k) e.entries f.entries) → length e.given ≤ length f.taken
     → is_channel c.channels k ≡ true → (layer_pulled c e.layer k).packet ≡ None → WaitsForUser k e f
 waits_for c e f s u k sees there known arrives taken is none = by (is_open (e.layer.circuits k)) refl
@@ -152,7 +164,14 @@ waits_for c e f s u k sees there known arrives taken is none = by (is_open (e.la
         held : {y : Stretch} → IsOpenAtBoth k e f → (o : OpenEnd e s k) → OpenShown f u k y → (o.stretch.rest ≡ []) ⊎ (y.own_ready ≡ false) → WaitsForUser k e f
         held both o p (inl empty) =
             let nothing : waits (e.layer.circuits k) ≡ 0 = o.no_more ∙ ap wholes empty in
-            Arrived both nothing (arrives (record { all_acked = refl; acked_taken = taken; no_message = nothing; opened = both.opened; opened_there = both.opened_there; same_name = both.same_name }))
+            Arrived both nothing (arrives (record {
+              all_acked = refl;
+              acked_taken = taken;
+              no_message = nothing;
+              opened = both.opened;
+              opened_there = both.opened_there;
+              same_name = both.same_name;
+            }))
         held both o p (inr not) = NotReady both (p.ready ∙ not)
 
 -- where nothing is in flight all that was given was taken
@@ -170,9 +189,11 @@ always_waits p known long_data channels es =
     let arrives = always_arrives p long_data channels es in
     record {
       near = λ drained none k is. waits_for (settings_of Dte long_data channels) w.near w.far j.near j.far k h.sees.near h.sees.far
-          (λ x opened. (known h.events k x (sym h.sees.out ∙ ap (bare_layers channels.message) drained.out) (sym h.sees.back ∙ ap (bare_layers channels.message) drained.back)).0 (seen_up channels.message w.far j.far h.sees.far drained.far_up) opened)
+          (λ x opened. (known h.events k x (sym h.sees.out ∙ ap (bare_layers channels.message) drained.out)
+          (sym h.sees.back ∙ ap (bare_layers channels.message) drained.back)).0 (seen_up channels.message w.far j.far h.sees.far drained.far_up) opened)
           (λ idle. arrives.near k (length w.near.given) idle) (all_taken w.near.given w.far.taken w.out h.sees.order.near drained.out) is (none k is);
       far = λ drained none k is. waits_for (settings_of Dce long_data channels) w.far w.near j.far j.near k h.sees.far h.sees.near
-          (λ x opened. (known h.events k x (sym h.sees.out ∙ ap (bare_layers channels.message) drained.out) (sym h.sees.back ∙ ap (bare_layers channels.message) drained.back)).1 (seen_up channels.message w.near j.near h.sees.near drained.near_up) opened)
+          (λ x opened. (known h.events k x (sym h.sees.out ∙ ap (bare_layers channels.message) drained.out)
+          (sym h.sees.back ∙ ap (bare_layers channels.message) drained.back)).1 (seen_up channels.message w.near j.near h.sees.near drained.near_up) opened)
           (λ idle. arrives.far k (length w.far.given) idle) (all_taken w.far.given w.near.taken w.back h.sees.order.far drained.back) is (none k is);
     }

@@ -24,11 +24,13 @@ abbrev pub times : ℕ → ℕ → ℕ
 times m zero = 0
 times m (suc n) = m + times m n
 
+-- more times as much is more
 pub times_more : (m i j : ℕ) → i ≤ j → times m i ≤ times m j
 times_more m zero j h = omega arith
 times_more m (suc i) zero h = absurd (omega (arith, h))
 times_more m (suc i) (suc j) h = omega (arith, times_more m i j (omega (arith, h)))
 
+-- a product by adding, for seven
 pub seven_times : (m : ℕ) → times m 7 ≡ 7 * m
 seven_times m = omega arith
 
@@ -88,6 +90,7 @@ pub record IsSpelled (n1 : ℕ) (f : PlainFrame) : Type 0 where
   pub within : IsWithin n1 f (information_of f)
   pub asks_not : asks_set_up f ≡ 0
 
+-- each of them is read back, and is no SABM
 abbrev pub AreSpelled : ℕ → List PlainFrame → Type 0
 AreSpelled n1 fs = Each (IsSpelled n1) fs
 
@@ -99,6 +102,7 @@ packet_within [] n h = omega arith
 packet_within (x ∷ xs) zero h = h.0
 packet_within {n1} (x ∷ xs) (suc n) h = packet_within xs n h.1
 
+-- a number modulo 8 is under 8
 pub below_eight : (n : ℕ) → n % 8 < 8
 below_eight n = omega arith
 

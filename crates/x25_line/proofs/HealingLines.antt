@@ -77,6 +77,7 @@ IsMild (rnr command nr pf) = (command && pf) ≡ false
 IsMild (rej command nr pf) = pf ≡ false
 IsMild f = ⊥
 
+-- RR, RNR and REJ that ask for no answer
 abbrev pub Mild : List PlainFrame → Type 0
 Mild fs = Each IsMild fs
 
@@ -87,6 +88,7 @@ mild_ahead n (rej command nr pf ∷ fs) h = (h.0, mild_ahead n fs h.1)
 mild_ahead n (rnr command nr pf ∷ fs) h = (h.0, mild_ahead n fs h.1)
 mild_ahead n (frame ∷ fs) h = absurd h.0
 
+-- so are those and more of them
 pub mild_more : (fs es : List PlainFrame) → Mild fs → Mild es → Mild (fs ++ es)
 mild_more fs es h g = each_append IsMild fs es h g
 
@@ -104,6 +106,7 @@ IsNoFinal (rr command n pf) = (not command && pf) ≡ false
 IsNoFinal (rnr true n true) = Unit {0}
 IsNoFinal f = ⊥
 
+-- I frames, RR, and RNR that polls, none with F=1
 abbrev pub NoFinal : List PlainFrame → Type 0
 NoFinal fs = Each IsNoFinal fs
 

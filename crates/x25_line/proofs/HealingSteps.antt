@@ -22,6 +22,7 @@ pub record Reached (c d : LinkSettings) (w : Sessions) : Type 0 where
   pub timely : AreTimely c d events begin
   pub is : run c d events begin ≡ w
 
+-- a run in two parts
 pub links_append : (c d : LinkSettings) (es fs : List LinkEvent) (w : Sessions) → run c d (es ++ fs) w ≡ run c d fs (run c d es w)
 links_append c d [] fs w = refl
 links_append c d (e ∷ es) fs w = links_append c d es fs (happens c d e w)
@@ -63,6 +64,7 @@ pub record Sound (c d : LinkSettings) (w : Sessions) : Type 0 where
   pub near_said : HasSaidAll c.window w.near.station
   pub far_said : HasSaidAll d.window w.far.station
 
+-- seen from the other end
 pub sound_swapped : {c d : LinkSettings} {w : Sessions} → Sound c d w → Sound d c (swapped w)
 sound_swapped h = record {
   line = line_swapped h.line;
@@ -121,6 +123,7 @@ module _ (reads : ReadsSpelled) (laws : HealingLaws) (c d : LinkSettings) (joine
     record { sound = λ up. (up_in_session d c (swapped w) (held_swapped c d joined w held.1) up).running.sound; said = fit.1.said },
   )
 
+  -- all that was sent may be read
   pub whole_at : SentWhole d.longest w.sent
   whole_at = (let h = held.1.whole in (h.given, h.whole))
 

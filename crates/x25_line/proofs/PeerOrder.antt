@@ -162,6 +162,7 @@ module _ (reads : ReadsSpelled) (laws : Laws) where
         all = λ all. sym h.up ∙ other_way.2 all;
       }
 
+  -- order beside any peer, of a link that is set up once
   pub keeps_order : WithAnyPeer KeepsOrder
   keeps_order c low high w reached once = holds_claims (Unit {0}) c high w (reached_holds (Unit {0}) high reached once)
 

@@ -66,6 +66,7 @@ quiet_by step down up =
 
 -- ---- by the phase
 
+-- an end that is up takes part in a set-up
 pub up_takes_part : (p : Phase) → is_up p ≡ true → TakesPart p
 up_takes_part Up e = tt
 up_takes_part p e = not_both false e refl
@@ -77,6 +78,7 @@ connects_from p e = cc
 
 -- ---- FRMR has three octets
 
+-- the one phase that is up
 pub is_up_phase : (q : Phase) → is_up q ≡ true → q ≡ Up
 is_up_phase Up e = refl
 is_up_phase q e = not_both false e refl
@@ -124,6 +126,7 @@ pub first_false : (a b : Bool) → (a || b) ≡ false → a ≡ false
 first_false true b e = e
 first_false false b e = refl
 
+-- where neither holds the second doesn't
 pub second_false : (a b : Bool) → (a || b) ≡ false → b ≡ false
 second_false true b e = not_both true refl e
 second_false false b e = e

@@ -76,6 +76,7 @@ has_lists {c} giver {e} fits is_down is_up_list =
 
 -- ---- as long as the link isn't set up anew
 
+-- order at both ends, by what is kept
 pub holds_order : {c d : LinkSettings} {w : Stations} → Holds c d w → BothInOrder c d w
 holds_order {c} {d} {w} holds =
     let l = holds.0 in
@@ -84,6 +85,7 @@ holds_order {c} {d} {w} holds =
       in_order d w.far w.near l.far l.near.taken (length l.near.taken) l.back l.out h.far h.kept.from_far h.far_has.down h.near_has.up,
     )
 
+-- the lists of both ends, by what is kept
 pub holds_lists : {c d : LinkSettings} {w : Stations} → Holds c d w → BothHaveTheirLists c d w
 holds_lists {c} {d} {w} holds =
     let l = holds.0 in

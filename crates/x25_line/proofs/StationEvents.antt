@@ -87,6 +87,7 @@ acts_hands c act w =
     (λ step none low. step_hands_nothing c w w.back step none low) act in
     record { up = h.up; down = h.down; came_up = h.came_up; far = h.far }
 
+-- an event hands one packet up at most, and one down
 pub each_hands_one : EachEventHandsOne
 each_hands_one c d (Near act) w = acts_hands c act w
 each_hands_one c d (Far act) w = acts_hands d act (stations_swapped w)

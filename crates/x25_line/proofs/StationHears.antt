@@ -11,11 +11,13 @@ use Rattle.x25_link.specs.laws.WindowLaw.{window_of, brought_by, after_input, Ma
 use Rattle.x25_line.specs.{laws.Said.{Said, Tells, said, sabm_of, disc_of}, laws.Peer.{Peer, MayHear, MayMake, hearing, taking, IsWanted}}
 use Rattle.x25_line.proofs.{StationSays.{machine_of}, StationSends.{AllWithin}, StationSteps.{no_packet_of}}
 
+-- what is read is SABM, or is counted as none
 pub sabm_or_not : (r : Result PlainFrame FrameError) → ((p : Bool) × (r ≡ Ok (sabm p))) ⊎ (sabm_of (said r) ≡ 0)
 sabm_or_not (Ok (sabm p)) = inl (p, refl)
 sabm_or_not (Err Short) = inr refl
 sabm_or_not r = inr refl
 
+-- what isn't SABM sets up no link
 pub sets_none_up : (r : Result PlainFrame FrameError) → sabm_of (said r) ≡ 0 → sets_up r ≡ false
 sets_none_up (Ok (sabm p)) h = absurd (omega (arith, h))
 sets_none_up r h = refl
@@ -27,6 +29,7 @@ abbrev pub by_disc : Option Reason → ℕ
 by_disc (Some Disc) = 1
 by_disc reason = 0
 
+-- one where the station leaves Up as SABM comes, and else none
 abbrev pub by_reset : Option Reason → ℕ
 by_reset (Some Reset) = 1
 by_reset reason = 0

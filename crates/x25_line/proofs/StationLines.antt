@@ -16,6 +16,7 @@ use Rattle.x25_line.proofs.Lists.{each_map, each_over}
 
 -- ---- frames by frames
 
+-- frames of both parts are shown
 pub shows_append : (fs es : List PlainFrame) (gs hs : List (Frame (List ℕ))) → ShowAll fs gs → ShowAll es hs → ShowAll (fs ++ es) (gs ++ hs)
 shows_append [] es [] hs f e = e
 shows_append (x ∷ fs) es (g ∷ gs) hs f e = (f.0, shows_append fs es gs hs f.1 e)
@@ -54,6 +55,7 @@ IsOrderly (Err (NoInfoAllowed control)) = ⊥
 IsOrderly (Err TooLong) = ⊥
 IsOrderly read = Unit {0}
 
+-- no FRMR is among them, and nothing that is answered by one
 abbrev pub AreOrderly : Role → ℕ → List (List ℕ) → Type 0
 AreOrderly from n1 os = Each (λ o. IsOrderly (frame_of from n1 o)) os
 
@@ -65,6 +67,7 @@ consed_append : (m : Option PlainFrame) (xs ys : List PlainFrame) → consed m (
 consed_append None xs ys = refl
 consed_append (Some f) xs ys = refl
 
+-- the frames with a number, of both parts of a line
 pub numbered_append : (from : Role) (n1 : ℕ) (xs ys : List (List ℕ)) → numbered_on from n1 (xs ++ ys) ≡ numbered_on from n1 xs ++ numbered_on from n1 ys
 numbered_append from n1 [] ys = refl
 numbered_append from n1 (o ∷ xs) ys =
@@ -111,6 +114,7 @@ parts_of (ua f ∷ fs) h = (record { in_range = tt; carries = refl; within = λ 
 parts_of (dm f ∷ fs) h = (record { in_range = tt; carries = refl; within = λ n1. tt; none = refl; orderly = tt; packet = λ given. tt }, parts_of fs h)
 parts_of (frame ∷ fs) h = absurd h
 
+-- no FRMR in either part
 pub no_frmr_append : (fs es : List PlainFrame) → NoFrmr fs → NoFrmr es → NoFrmr (fs ++ es)
 no_frmr_append [] es f e = e
 no_frmr_append (frmr g why ∷ fs) es f e = absurd f
@@ -152,10 +156,12 @@ good_whole n1 given more (f ∷ fs) g h = (
   good_whole n1 given more fs g.1 h.1,
 )
 
+-- of frames without a number none is FRMR
 pub parting_no_frmr : (fs : List PlainFrame) → Each IsPart fs → NoFrmr fs
 parting_no_frmr [] h = tt
 parting_no_frmr (f ∷ fs) h = orderly_no_frmr f fs h.0.orderly (parting_no_frmr fs h.1)
 
+-- frames without a number are whole
 pub parting_whole : (n1 : ℕ) (given : List (List ℕ)) (fs : List PlainFrame) → Each IsPart fs → AreWhole n1 given fs
 parting_whole n1 given = each_map IsPart (IsWhole n1 given)
     (λ f h. record { in_range = h.in_range; carries = h.carries; within = h.within n1; packet = h.packet given })
@@ -186,6 +192,7 @@ module _ (reads : ReadsSpelled) (from : Role) (n1 : ℕ) where
   pub good_orderly : (fs : List PlainFrame) → AllGood n1 fs → AreOrderly from n1 (map (spelling_of from) fs)
   good_orderly = each_over (IsGood n1) (λ o. IsOrderly (frame_of from n1 o)) (spelling_of from) (λ f h. rw (good_reads h) h.orderly)
 
+  -- a frame without a number is read back
   pub part_reads : {f : PlainFrame} → IsPart f → frame_of from n1 (spelling_of from f) ≡ Ok f
   part_reads {f} h = reads from n1 f (spelling_of from f) (record { in_range = h.in_range; carries = h.carries; within = h.within n1; spelling = refl })
 

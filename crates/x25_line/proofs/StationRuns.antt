@@ -135,6 +135,7 @@ module _ {c d : LinkSettings} (joined : AreJoined c d) (reads : ReadsSpelled) (l
 
 -- ---- the other end
 
+-- settings of two ends, seen from the other
 pub joined_swapped : {c d : LinkSettings} → AreJoined c d → AreJoined d c
 joined_swapped j =
     record {
@@ -155,6 +156,7 @@ there joined octets = rw (sym joined.far_role, sym joined.longest) refl
 pub here : {c d : LinkSettings} → AreJoined c d → (octets : List ℕ) → frame_of (other d.role) d.longest octets ≡ frame_of c.role c.longest octets
 here joined octets = rw (joined.near_role, sym joined.longest) refl
 
+-- two stations and their machine, seen from the other end
 pub joint_swapped : {c d : LinkSettings} → c.longest ≡ d.longest → {w : Stations} {l : Line (List ℕ)} → Joint c d w l
     → Joint d c (stations_swapped w) (line_swapped l)
 joint_swapped {c} {d} same {w} {l} h =
@@ -182,6 +184,7 @@ event_joint joined reads laws (Far act) once h = joint_swapped (sym joined.longe
 
 -- ---- LinkUp that was noted stays so
 
+-- LinkUp that isn't noted after an act wasn't before it
 pub noted_before : (a : Act) (old new : Bool) → NotesUp a old new → new ≡ false → old ≡ false
 noted_before Deliver old new more e = first_false old more.0 (sym more.1 ∙ e)
 noted_before a old new same e = sym same ∙ e

@@ -12,9 +12,11 @@ use Rattle.x25_line.proofs.{Kept.{Kept, Kept-moved, resolved_is}, Lists.{each_ap
 
 -- ---- packets
 
+-- all packets are of N1 octets at most
 abbrev pub AllWithin : ℕ → List (List ℕ) → Type 0
 AllWithin n1 xs = Each (λ x. length x ≤ n1) xs
 
+-- one more packet of N1 octets at most
 pub within_push : (n1 : ℕ) (xs : List (List ℕ)) (x : List ℕ) → AllWithin n1 xs → length x ≤ n1 → AllWithin n1 (xs ++ x ∷ [])
 within_push n1 xs x h le = each_append (λ y. length y ≤ n1) xs (x ∷ []) h (le, tt)
 

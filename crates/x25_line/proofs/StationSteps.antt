@@ -23,6 +23,7 @@ use Rattle.x25_line.proofs.StationLines.{parts_of, no_frmr_append, good_no_frmr,
 use Rattle.x25_line.proofs.StationLines.{parting_orderly, whole_more, good_whole, parting_whole, first_more}
 use Rattle.x25_line.proofs.StationSends.{AllWithin, Sent, sent_given, runs_sent}
 
+-- a phase out of the session isn't Up
 pub out_not_up : (p : Phase) → IsOut p → is_up p ≡ false
 out_not_up Waiting h = absurd h
 out_not_up Up h = absurd h

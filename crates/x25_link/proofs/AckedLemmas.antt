@@ -3,7 +3,7 @@ use Rattle.std.proofs.Common.{◌≡◌, ℕ, zero, suc, ◌+◌, Bool, true, fa
 use Rattle.std.specs.Prelude.{nat_lt}
 use Rattle.std.proofs.lemmas.Bool.{le-ltb}
 use Rattle.x25_link.specs.declared.phase.Phase.{Phase}
-use Rattle.x25_link.specs.declared.phase.Phase.TheVariants.{Down, Waiting, Up, Closed}
+use Rattle.x25_link.specs.declared.phase.Phase.TheVariants.{Up}
 use Rattle.x25_link.specs.declared.phase.Reason.TheVariants.{Retries}
 use Rattle.x25_link.specs.Station.{LinkSettings, LinkStation, Side, is_busy, with_near, ready, may_send, pumped, owes_ready, ended}
 use Rattle.x25_link.specs.Hearing.{LinkStep, acknowledges, quiet, leaves, answers, passes_over, polls}
@@ -61,10 +61,8 @@ none_fired c t = by (nat_lt t.near.tries c.retries)
     up = with_near t (record t.near { tries = t.near.tries + 1 })
 
     asked : (phase : Phase) → acked (asks_again phase up) ≡ acked t
-    asked Down = refl
-    asked Waiting = refl
     asked Up = ready_same true true (with_near up (record up.near { recovery = true }))
-    asked Closed = refl
+    asked phase = refl
 
     by : (b : Bool) → false ≡ acknowledges t.near (if b then quiet (asks_again t.near.phase up) else leaves Retries t)
     by true = none_again t ∙ ap (λ (n : ℕ). nat_lt t.near.outgoing.acked n) (sym (asked t.near.phase))

@@ -1,5 +1,6 @@
 -- The end of a step comes to rest: nothing is left that may be sent, and no RR is owed.
-use Rattle.std.proofs.Common.{◌≡◌, ℕ, ◌+◌, ◌<◌, ◌≤◌, zero, suc, List, [], ◌∷◌, ◌⊎◌, inl, inr, length, Bool, true, false, not, if◌then◌else◌, refl, sym, ap, ◌∙◌, arith, length-append}
+use Rattle.std.proofs.Common.{◌≡◌, ℕ, ◌+◌, ◌<◌, ◌≤◌, zero, suc, List, [], ◌∷◌, ◌⊎◌, inl, inr, length, Bool, true, false, not, if◌then◌else◌, refl, sym, ap, ◌∙◌}
+use Rattle.std.proofs.Common.{arith, length-append}
 use Rattle.std.specs.Prelude.{◌&&◌, nat_lt}
 use Rattle.std.proofs.lemmas.Bool.{lt-ltb, le-ltb, ltb-true, ltb-false, not-true, and_parts, and_left, and_right}
 use Rattle.x25_link.specs.Outgoing.{Outgoing, waits, is_open, added, moved_on}
@@ -45,7 +46,8 @@ not_open k s e = and_right (is_up s.phase) _ (and_right (not s.recovery) _ (and_
 -- ---- the sending rule comes to rest
 
 once_by : (b : Bool) (k : ℕ) (t : Side) → may_send k t.near ≡ b
-    → (let u : Side = if b then send_next t else t in (may_send k u.near ≡ false) ⊎ ((u.near.outgoing.place ≡ t.near.outgoing.place + 1) × (u.near.outgoing.acked ≡ t.near.outgoing.acked)))
+    → (let u : Side = if b then send_next t else t in (may_send k u.near ≡ false)
+    ⊎ ((u.near.outgoing.place ≡ t.near.outgoing.place + 1) × (u.near.outgoing.acked ≡ t.near.outgoing.acked)))
 once_by true k t h = inr (refl, refl)
 once_by false k t h = inl h
 
@@ -56,7 +58,8 @@ unfolding pumped
 pumped_or zero k t = inr (omega arith, refl)
 pumped_or (suc n) k t = elim (pumped_or n k t) [
   | inl settled ↦ inl (rw settled settled)
-  | inr more ↦ elim (once_by (may_send k (pumped n k t).near) k (pumped n k t) refl) [ inl settled ↦ inl settled | inr one ↦ inr (one.0 ∙ (omega (arith, more.0)), one.1 ∙ more.1) ]
+  | inr more ↦ elim (once_by (may_send k (pumped n k t).near) k (pumped n k t) refl)
+      [ inl settled ↦ inl settled | inr one ↦ inr (one.0 ∙ (omega (arith, more.0)), one.1 ∙ more.1) ]
 ]
 
 pub pumped_rests : (k : ℕ) (t : Side) → k ≤ 7 → t.near.outgoing.acked ≤ t.near.outgoing.place → may_send k (pumped 7 k t).near ≡ false
@@ -145,7 +148,8 @@ abbrev pub with_packet : List ℕ → LinkStation → Side
 with_packet packet s = record { near = record s { outgoing = added packet s.outgoing }; out = [] }
 
 -- nothing waited where the window is open now
-all_sent : (k : ℕ) (s : LinkStation) (packet : List ℕ) → may_send k s ≡ false → may_send k (with_packet packet s).near ≡ true → length s.outgoing.given ≤ s.outgoing.place
+all_sent : (k : ℕ) (s : LinkStation) (packet : List ℕ) → may_send k s ≡ false → may_send k (with_packet packet s).near ≡ true → length s.outgoing.given
+    ≤ s.outgoing.place
 all_sent k s packet settled may =
     let o = open_is k (with_packet packet s).near may in
     let shut : is_open k s.outgoing ≡ false = sym (closed_is k s o.up o.recovery o.peer_busy) ∙ settled in
@@ -156,7 +160,8 @@ rests_by : (b : Bool) (k : ℕ) (s : LinkStation) (packet : List ℕ) → may_se
     → may_send k (pumped_once k (with_packet packet s)).near ≡ false
 rests_by true k s packet settled may =
     let all = all_sent k s packet settled may in
-    rw may (not_open k (send_next (with_packet packet s)).near (none_open k (moved_on (added packet s.outgoing)) (omega (arith, length-append s.outgoing.given (packet ∷ [])))))
+    rw may (not_open k (send_next (with_packet packet s)).near
+    (none_open k (moved_on (added packet s.outgoing)) (omega (arith, length-append s.outgoing.given (packet ∷ [])))))
 rests_by false k s packet settled may = rw may may
 
 pub put_rests : (k : ℕ) (s : LinkStation) (packet : List ℕ) → may_send k s ≡ false → may_send k (pumped_once k (with_packet packet s)).near ≡ false

@@ -1,5 +1,6 @@
 -- What the code's variables stand for after a small change.
-use Rattle.std.proofs.Common.{◌≡◌, ℕ, ◌%◌, List, [], ◌∷◌, ◌++◌, Bool, true, false, if◌then◌else◌, refl, sym, ap, ◌∙◌, append_assoc, add-one, ◌+◌, ◌<◌, ◌==◌, max, arith}
+use Rattle.std.proofs.Common.{◌≡◌, ℕ, ◌%◌, List, [], ◌∷◌, ◌++◌, Bool, true, false, if◌then◌else◌, refl, sym, ap, ◌∙◌, append_assoc, add-one, ◌+◌, ◌<◌, ◌==◌}
+use Rattle.std.proofs.Common.{max, arith}
 use Rattle.std.proofs.lemmas.Bool.{eq-eqb, ne_eqb}
 use Rattle.x25_window.specs.code.Modulo.{resolved}
 use Rattle.std.proofs.lemmas.List.{map-append}
@@ -16,7 +17,8 @@ use Rattle.x25_link.specs.Station.{LinkSettings, LinkStation, Side, with_near, w
 use Rattle.x25_link.specs.Hearing.{acknowledged, peer_is, goes_back}
 use Rattle.x25_link.specs.code.Fits.{FitsStation, FitsSide, Made}
 
-pub made_more : (c : LinkSettings) (role : Role) (before old made : List (List ℕ)) (frames : List PlainFrame) (frame : PlainFrame) → role ≡ c.role → Made c before old frames
+pub made_more : (c : LinkSettings) (role : Role) (before old made : List (List ℕ)) (frames : List PlainFrame) (frame : PlainFrame) → role ≡ c.role
+    → Made c before old frames
     → made ≡ old ++ spelling_of role frame ∷ [] → Made c before made (frames ++ frame ∷ [])
 made_more c role before old made frames frame same h e =
     e ∙ ap (λ (r : Role). old ++ spelling_of r frame ∷ []) same ∙ ap (λ (o : List (List ℕ)). o ++ spelling_of c.role frame ∷ []) h
@@ -42,19 +44,23 @@ pub may_send_is : (k : ℕ) (s : LinkStation) → s.recovery ≡ false → s.pee
 may_send_is k s recovery peer_busy up = rw (up, recovery, peer_busy) refl
 
 -- the sending rule, once, where neither recovery nor a busy peer holds it up, of a station that has these packets
-pub sends_fits : (c : LinkSettings) (v : StationCode) (b : OutgoingCode) (before old made : List (List ℕ)) (s : LinkStation) (o : Outgoing) (out : List PlainFrame) (nr : ℕ) (sent : Bool) → FitsStation c v s
+pub sends_fits : (c : LinkSettings) (v : StationCode) (b : OutgoingCode) (before old made : List (List ℕ)) (s : LinkStation) (o : Outgoing)
+    (out : List PlainFrame) (nr : ℕ) (sent : Bool) → FitsStation c v s
     → Made c before old out → v.recovery ≡ false → v.peer_busy ≡ false → is_up v.phase ≡ true → nr ≡ wanted s → sent ≡ is_open c.window o
     → FitsOutgoing c.window b (if sent then moved_on o else o)
     → made ≡ (if sent then old ++ spelling_of v.role (info (o.place % 8) nr false (next_packet o)) ∷ [] else old)
     → FitsSide c (record v { outgoing = b }) before made (pumped_once c.window (record { near = record s { outgoing = o }; out = out }))
 sends_fits c v b before old made s o out nr true near h recovery peer_busy up number opened outgoing e =
-    let may = may_send_is c.window (record s { outgoing = o }) (sym near.recovery ∙ recovery) (sym near.peer_busy ∙ peer_busy) (sym (ap is_up near.phase) ∙ up) in
+    let may = may_send_is c.window (record s { outgoing = o }) (sym near.recovery ∙ recovery) (sym near.peer_busy ∙ peer_busy) (sym (ap is_up near.phase) ∙ up)
+    in
     rw (may, sym opened) (record { near = with_outgoing c v s b _ near outgoing; out = made_more c v.role before old made out _ near.role h (rw number at e) })
 sends_fits c v b before old made s o out nr false near h recovery peer_busy up number opened outgoing e =
-    let may = may_send_is c.window (record s { outgoing = o }) (sym near.recovery ∙ recovery) (sym near.peer_busy ∙ peer_busy) (sym (ap is_up near.phase) ∙ up) in
+    let may = may_send_is c.window (record s { outgoing = o }) (sym near.recovery ∙ recovery) (sym near.peer_busy ∙ peer_busy) (sym (ap is_up near.phase) ∙ up)
+    in
     rw (may, sym opened) (record { near = with_outgoing c v s b _ near outgoing; out = e ∙ h })
 
-pub pump_fits : (c : LinkSettings) (v : StationCode) (b : OutgoingCode) (before old made : List (List ℕ)) (t : Side) (nr : ℕ) (sent : Bool) → FitsSide c v before old t
+pub pump_fits : (c : LinkSettings) (v : StationCode) (b : OutgoingCode) (before old made : List (List ℕ)) (t : Side) (nr : ℕ) (sent : Bool)
+    → FitsSide c v before old t
     → v.recovery ≡ false → v.peer_busy ≡ false → is_up v.phase ≡ true → nr ≡ wanted t.near → sent ≡ is_open c.window t.near.outgoing
     → FitsOutgoing c.window b (if sent then moved_on t.near.outgoing else t.near.outgoing)
     → made ≡ (if sent then old ++ spelling_of v.role (info (t.near.outgoing.place % 8) nr false (next_packet t.near.outgoing)) ∷ [] else old)
@@ -66,7 +72,8 @@ pub pumped_more : (n k : ℕ) (t : Side) → pumped (n + 1) k t ≡ pumped_once 
 unfolding pumped
 pumped_more n k t = rw (add-one n) refl
 
-pub said : (c : LinkSettings) (v : StationCode) (s : LinkStation) (b : Bool) → FitsStation c v s → FitsStation c (record v { said_busy = b }) (record s { said_busy = b })
+pub said : (c : LinkSettings) (v : StationCode) (s : LinkStation) (b : Bool) → FitsStation c v s
+    → FitsStation c (record v { said_busy = b }) (record s { said_busy = b })
 said c v s b fits = record {
   role = fits.role;
   longest = fits.longest;
@@ -81,7 +88,8 @@ said c v s b fits = record {
   said_busy = refl;
 }
 
-pub rejecting : (c : LinkSettings) (v : StationCode) (s : LinkStation) (b : Bool) → FitsStation c v s → FitsStation c (record v { rejecting = b }) (record s { rejecting = b })
+pub rejecting : (c : LinkSettings) (v : StationCode) (s : LinkStation) (b : Bool) → FitsStation c v s
+    → FitsStation c (record v { rejecting = b }) (record s { rejecting = b })
 rejecting c v s b fits = record {
   role = fits.role;
   longest = fits.longest;
@@ -96,7 +104,8 @@ rejecting c v s b fits = record {
   said_busy = fits.said_busy;
 }
 
-pub tries_fits : (c : LinkSettings) (v : StationCode) (s : LinkStation) (m n : ℕ) → m ≡ n → FitsStation c v s → FitsStation c (record v { tries = m }) (record s { tries = n })
+pub tries_fits : (c : LinkSettings) (v : StationCode) (s : LinkStation) (m n : ℕ) → m ≡ n → FitsStation c v s
+    → FitsStation c (record v { tries = m }) (record s { tries = n })
 tries_fits c v s m n same fits = record {
   role = fits.role;
   longest = fits.longest;
@@ -113,8 +122,10 @@ tries_fits c v s m n same fits = record {
 
 -- ---- an N(R) that acknowledges some frames, or none
 
-pub risen : (c : LinkSettings) (v : StationCode) (b : OutgoingCode) (before made : List (List ℕ)) (t : Side) (count nr : ℕ) → FitsSide c v before made t → 0 < count
-    → t.near.outgoing.acked + count ≡ resolved t.near.outgoing.acked nr → FitsOutgoing c.window b (acknowledged_to (t.near.outgoing.acked + count) t.near.outgoing)
+pub risen : (c : LinkSettings) (v : StationCode) (b : OutgoingCode) (before made : List (List ℕ)) (t : Side) (count nr : ℕ) → FitsSide c v before made t
+    → 0 < count
+    → t.near.outgoing.acked + count ≡ resolved t.near.outgoing.acked nr
+    → FitsOutgoing c.window b (acknowledged_to (t.near.outgoing.acked + count) t.near.outgoing)
     → FitsSide c (record v { outgoing = b; tries = 0 }) before made (acknowledged nr t)
 risen c v b before made t count nr side some number outgoing =
     let test : (resolved t.near.outgoing.acked nr == t.near.outgoing.acked) ≡ false = ne_eqb _ _ (λ e. omega arith) in
@@ -132,7 +143,8 @@ not_risen c v before made t count nr side none number =
     let place : max o.place o.acked ≡ o.place = omega (arith, side.near.outgoing.sender.sound.place_low) in
     rw (same, test, place) side
 
-pub no_tries : (c : LinkSettings) (v : StationCode) (before made : List (List ℕ)) (t : Side) → FitsSide c v before made (with_near t (with_nothing Up t.near.tries))
+pub no_tries : (c : LinkSettings) (v : StationCode) (before made : List (List ℕ)) (t : Side)
+    → FitsSide c v before made (with_near t (with_nothing Up t.near.tries))
     → FitsSide c (record v { tries = 0 }) before made (with_near t fresh)
 no_tries c v before made t side = record { near = tries_fits c v _ 0 0 refl side.near; out = side.out }
 
@@ -159,7 +171,8 @@ peer_fits c v before made t busy side =
       out = side.out;
     }
 
-pub back_fits : (c : LinkSettings) (v : StationCode) (b : OutgoingCode) (before made : List (List ℕ)) (t : Side) → FitsSide c v before made t → FitsOutgoing c.window b (gone_back t.near.outgoing)
+pub back_fits : (c : LinkSettings) (v : StationCode) (b : OutgoingCode) (before made : List (List ℕ)) (t : Side) → FitsSide c v before made t
+    → FitsOutgoing c.window b (gone_back t.near.outgoing)
     → FitsSide c (record v { outgoing = b }) before made (goes_back t)
 back_fits c v b before made t side outgoing = record { near = with_outgoing c v t.near b _ side.near outgoing; out = side.out }
 
@@ -181,7 +194,8 @@ phase_fits c v s phase tries fits = record {
   said_busy = fits.said_busy;
 }
 
-pub recovery_fits : (c : LinkSettings) (v : StationCode) (s : LinkStation) (b : Bool) → FitsStation c v s → FitsStation c (record v { recovery = b }) (record s { recovery = b })
+pub recovery_fits : (c : LinkSettings) (v : StationCode) (s : LinkStation) (b : Bool) → FitsStation c v s
+    → FitsStation c (record v { recovery = b }) (record s { recovery = b })
 recovery_fits c v s b fits = record {
   role = fits.role;
   longest = fits.longest;

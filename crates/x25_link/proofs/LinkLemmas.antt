@@ -4,7 +4,7 @@ use Rattle.std.proofs.lemmas.Bool.{and_left, and_right}
 use Rattle.std.proofs.lemmas.List.{length-drop}
 use Rattle.std.specs.Prelude.{nat_lt}
 use Rattle.x25_link.specs.declared.phase.Phase.{Phase}
-use Rattle.x25_link.specs.declared.phase.Phase.TheVariants.{Down, Waiting, Up, Closed}
+use Rattle.x25_link.specs.declared.phase.Phase.TheVariants.{Up}
 use Rattle.x25_link.specs.Station.{LinkSettings, LinkStation, Side, is_up, is_busy, with_near, ready, may_send, owes_ready, ended}
 use Rattle.x25_link.specs.Link.{alone, asks_again, fires}
 use Rattle.x25_link.specs.code.Fits.{FitsStation, FitsSide, Made}
@@ -24,7 +24,8 @@ begins c old inside made s same fits none = record {
 
 -- ---- a step after which nothing may be sent
 
-pub closed_state : (c : LinkSettings) (v : ShownLink) (u : Side) → FitsStation c v.station u.near → may_send c.window u.near ≡ false → owes_ready u.near ≡ false → FitsLink c v (ended c.window u).near
+pub closed_state : (c : LinkSettings) (v : ShownLink) (u : Side) → FitsStation c v.station u.near → may_send c.window u.near ≡ false → owes_ready u.near
+    ≡ false → FitsLink c v (ended c.window u).near
 closed_state c v u near settled calm =
     subst (λ (w : Side). FitsLink c v w.near) (sym (ended_stays c.window u settled calm)) (record { near = near; settled = settled; calm = calm })
 
@@ -40,16 +41,12 @@ calm_by true command pf t e = rw e (and_right (is_up t.near.phase) _ (rw e refl)
 calm_by false command pf t e = rw e (and_right (is_up t.near.phase) _ refl)
 
 asks_settled : (k : ℕ) (p : Phase) (t : Side) → t.near.phase ≡ p → may_send k (asks_again p t).near ≡ false
-asks_settled k Down t e = and_left (is_up t.near.phase) _ (ap is_up e)
-asks_settled k Waiting t e = and_left (is_up t.near.phase) _ (ap is_up e)
 asks_settled k Up t e = ready_sends k _ true true (with_near t (record t.near { recovery = true })) refl ∙ and_right (is_up t.near.phase) _ refl
-asks_settled k Closed t e = and_left (is_up t.near.phase) _ (ap is_up e)
+asks_settled k p t e = and_left (is_up t.near.phase) _ (ap is_up e)
 
 asks_calm : (p : Phase) (t : Side) → t.near.phase ≡ p → owes_ready (asks_again p t).near ≡ false
-asks_calm Down t e = and_left (is_up t.near.phase) _ (ap is_up e)
-asks_calm Waiting t e = and_left (is_up t.near.phase) _ (ap is_up e)
 asks_calm Up t e = calm_by _ true true (with_near t (record t.near { recovery = true })) refl
-asks_calm Closed t e = and_left (is_up t.near.phase) _ (ap is_up e)
+asks_calm p t e = and_left (is_up t.near.phase) _ (ap is_up e)
 
 fires_settled_by : (b : Bool) (c : LinkSettings) (t : Side) → nat_lt t.near.tries c.retries ≡ b → may_send c.window (fires c t).side.near ≡ false
 fires_settled_by true c t e = rw e (asks_settled c.window t.near.phase (with_near t (record t.near { tries = t.near.tries + 1 })) refl)

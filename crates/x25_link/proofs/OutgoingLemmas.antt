@@ -1,5 +1,6 @@
 -- The two lists of a outgoing, the packets sent and those that wait, as one.
-use Rattle.std.proofs.Common.{◌≡◌, ℕ, ◌+◌, ◌%◌, ◌<◌, ◌≤◌, ◌&&◌, List, [], ◌∷◌, ◌++◌, length, length-append, take, drop, slice_index_or, max, Bool, true, false, refl, sym, ap, ◌∙◌, arith}
+use Rattle.std.proofs.Common.{◌≡◌, ℕ, ◌+◌, ◌%◌, ◌<◌, ◌≤◌, ◌&&◌, List, [], ◌∷◌, ◌++◌, length, length-append, take, drop, slice_index_or, max, Bool, true, false}
+use Rattle.std.proofs.Common.{refl, sym, ap, ◌∙◌, arith}
 use Rattle.std.specs.Prelude.{nat_lt}
 use Rattle.std.proofs.lemmas.List.{length-take-le, take-append-le, drop-append-le, take_more, drop_more, length-drop, get_or-take}
 use Rattle.std.proofs.lemmas.Bool.{lt-ltb, ltb-true, ltb-false, eq-eqb}
@@ -49,14 +50,16 @@ again_is k h q o fits test =
       packet = get_or-take o.sent o.given o.place [] (omega arith);
     }
 
-pub again_fits : (k : ℕ) (h g : Held (List ℕ)) (q : List (List ℕ)) (o : Outgoing) → Parts k h q o → o.place < o.sent → Fits g (moved_on (sending_of k o)) → Parts k g q (sent_on o)
+pub again_fits : (k : ℕ) (h g : Held (List ℕ)) (q : List (List ℕ)) (o : Outgoing) → Parts k h q o → o.place < o.sent → Fits g (moved_on (sending_of k o))
+    → Parts k g q (sent_on o)
 again_fits k h g q o fits below sender =
     let same : max o.sent (o.place + 1) ≡ o.sent = omega arith in
     record { sender = rw same sender; queue = rw same (fits.queue); sent = rw same (fits.sent); few = fits.few }
 
 -- ---- all was sent: the place to send from is the number of the first packet that waits
 
-pub all_sent : (k : ℕ) (h : Held (List ℕ)) (q : List (List ℕ)) (o : Outgoing) → Parts k h q o → false ≡ nat_lt o.place (length (take o.sent o.given)) → o.place ≡ o.sent
+pub all_sent : (k : ℕ) (h : Held (List ℕ)) (q : List (List ℕ)) (o : Outgoing) → Parts k h q o → false ≡ nat_lt o.place (length (take o.sent o.given)) → o.place
+    ≡ o.sent
 all_sent k h q o fits test =
     let l = part_length k h q o fits in
     let above = ltb-false _ _ (sym test) in
@@ -86,7 +89,8 @@ next_is k h q o x rest fits queue =
     let split = drop_more o.given o.sent [] below in
     record { below = below; packet = cc; left = cc }
 
-pub new_fits : (k : ℕ) (h g : Held (List ℕ)) (q : List (List ℕ)) (o : Outgoing) (x : List ℕ) (rest : List (List ℕ)) → Parts k h q o → o.place ≡ o.sent → Next o x rest → length rest ≤ 256
+pub new_fits : (k : ℕ) (h g : Held (List ℕ)) (q : List (List ℕ)) (o : Outgoing) (x : List ℕ) (rest : List (List ℕ)) → Parts k h q o → o.place ≡ o.sent
+    → Next o x rest → length rest ≤ 256
     → Fits g (offered (sending_of k o) x) → Parts k g rest (sent_on o)
 new_fits k h g q o x rest fits place next few sender =
     let l = part_length k h q o fits in
@@ -99,13 +103,15 @@ new_fits k h g q o x rest fits place next few sender =
       few = few;
     })
 
-pub new_frame : (k : ℕ) (h : Held (List ℕ)) (q : List (List ℕ)) (o : Outgoing) (x : List ℕ) (rest : List (List ℕ)) (nr : ℕ) → Parts k h q o → o.place ≡ o.sent → Next o x rest
+pub new_frame : (k : ℕ) (h : Held (List ℕ)) (q : List (List ℕ)) (o : Outgoing) (x : List ℕ) (rest : List (List ℕ)) (nr : ℕ) → Parts k h q o → o.place ≡ o.sent
+    → Next o x rest
     → info (length (take o.sent o.given) % 8) nr false x ≡ info (o.place % 8) nr false (next_packet o)
 new_frame k h q o x rest nr fits place next =
     let l = part_length k h q o fits in
     rw (l, place, next.packet) refl
 
-pub next_open : (k : ℕ) (h : Held (List ℕ)) (q : List (List ℕ)) (o : Outgoing) (x : List ℕ) (rest : List (List ℕ)) → Parts k h q o → o.place ≡ o.sent → Next o x rest → o.sent < o.acked + k → is_open k o ≡ true
+pub next_open : (k : ℕ) (h : Held (List ℕ)) (q : List (List ℕ)) (o : Outgoing) (x : List ℕ) (rest : List (List ℕ)) → Parts k h q o → o.place ≡ o.sent
+    → Next o x rest → o.sent < o.acked + k → is_open k o ≡ true
 next_open k h q o x rest fits place next room =
     rw (lt-ltb o.place (o.acked + k) (omega arith), lt-ltb o.place (length o.given) (omega (arith, next.below))) refl
 
@@ -130,10 +136,12 @@ one_released h w n fits =
 
 -- ---- a packet that is handed down where nothing may be sent
 
-pub added_fits : (k : ℕ) (h : Held (List ℕ)) (q : List (List ℕ)) (o : Outgoing) (packet copy : List ℕ) → copy ≡ packet → Parts k h q o → length q < 256 → Parts k h (q ++ copy ∷ []) (added packet o)
+pub added_fits : (k : ℕ) (h : Held (List ℕ)) (q : List (List ℕ)) (o : Outgoing) (packet copy : List ℕ) → copy ≡ packet → Parts k h q o → length q < 256
+    → Parts k h (q ++ copy ∷ []) (added packet o)
 added_fits k h q o packet copy same fits few = record {
   sender = rw (take-append-le o.sent o.given (packet ∷ []) fits.sent) (fits.sender);
-  queue = ap (λ (x : List ℕ). q ++ x ∷ []) same ∙ ap (λ (m : List (List ℕ)). m ++ packet ∷ []) fits.queue ∙ sym (drop-append-le o.sent o.given (packet ∷ []) fits.sent);
+  queue = ap (λ (x : List ℕ). q ++ x ∷ []) same ∙ ap (λ (m : List (List ℕ)). m ++ packet ∷ []) fits.queue
+      ∙ sym (drop-append-le o.sent o.given (packet ∷ []) fits.sent);
   sent = omega (arith, fits.sent, length-append o.given (packet ∷ []));
   few = omega (arith, few, length-append q (copy ∷ []));
 }
@@ -148,7 +156,8 @@ pub nothing_left : (xs : List (List ℕ)) → length xs ≡ 0 → xs ≡ []
 nothing_left [] e = refl
 nothing_left (x ∷ xs) e = absurd (omega arith)
 
-pub rests : (k : ℕ) (h : Held (List ℕ)) (q : List (List ℕ)) (o : Outgoing) → Parts k h q o → is_open k o ≡ false → length (take o.sent o.given) < o.acked + k → Rests k h q o
+pub rests : (k : ℕ) (h : Held (List ℕ)) (q : List (List ℕ)) (o : Outgoing) → Parts k h q o → is_open k o ≡ false → length (take o.sent o.given) < o.acked + k
+    → Rests k h q o
 rests k h q o fits shut free =
     let l = part_length k h q o fits in
     let low : o.place < o.acked + k = (let high = fits.sender.sound.place_high in omega (arith, l, free, high)) in
@@ -161,7 +170,8 @@ rests k h q o fits shut free =
     }
 
 -- nothing may be sent and the window isn't open
-pub full_shut : (k : ℕ) (h : Held (List ℕ)) (q : List (List ℕ)) (o : Outgoing) → Parts k h q o → is_open k o ≡ false → length (take o.sent o.given) ≡ o.acked + k → o.acked + k ≤ o.place
+pub full_shut : (k : ℕ) (h : Held (List ℕ)) (q : List (List ℕ)) (o : Outgoing) → Parts k h q o → is_open k o ≡ false → length (take o.sent o.given) ≡ o.acked
+    + k → o.acked + k ≤ o.place
 full_shut k h q o fits shut full = by_test (nat_lt o.place (o.acked + k)) refl
   where
     by_test : (t : Bool) → nat_lt o.place (o.acked + k) ≡ t → o.acked + k ≤ o.place

@@ -1,5 +1,6 @@
 -- How many packets stand in long places.
-use Rattle.std.proofs.Common.{◌≡◌, ℕ, ◌+◌, ◌<◌, ◌≤◌, List, [], ◌∷◌, ◌++◌, length, drop, Some, slice_get, length-append, Bool, true, false, if◌then◌else◌, refl, ap, ◌∙◌, arith}
+use Rattle.std.proofs.Common.{◌≡◌, ℕ, ◌+◌, ◌<◌, ◌≤◌, List, [], ◌∷◌, ◌++◌, length, drop, Some, slice_get, length-append, Bool, true, false, if◌then◌else◌, refl}
+use Rattle.std.proofs.Common.{ap, ◌∙◌, arith}
 use Rattle.std.specs.Prelude.{nat_le}
 use Rattle.x25_link.specs.code.Places.{long_of, longs, left_for, ShownSpares}
 
@@ -41,30 +42,35 @@ first_of (y ∷ xs) x e = cc
 
 -- ---- a packet more: its place is taken
 
-pub more_short : (left left' n m : ℕ) (q q' : List (List ℕ)) (x y : List ℕ) → q' ≡ q ++ y ∷ [] → y ≡ x → left' + 1 ≡ left + long_of x → left + (n + length q) ≡ 263 + (m + longs q)
+pub more_short : (left left' n m : ℕ) (q q' : List (List ℕ)) (x y : List ℕ) → q' ≡ q ++ y ∷ [] → y ≡ x → left' + 1 ≡ left + long_of x → left + (n + length q)
+    ≡ 263 + (m + longs q)
     → left' + (n + length q') ≡ 263 + (m + longs q')
 more_short left left' n m q q' x y e same taken count =
     omega (arith, ap length e, length-append q (y ∷ []), ap longs e, longs_push q y, ap long_of same, taken, count)
 
-pub more_long : (left left' m all all' : ℕ) (q q' : List (List ℕ)) (x y : List ℕ) → q' ≡ q ++ y ∷ [] → y ≡ x → left' + long_of x ≡ left → all' ≡ all → left + (m + longs q) ≡ all
+pub more_long : (left left' m all all' : ℕ) (q q' : List (List ℕ)) (x y : List ℕ) → q' ≡ q ++ y ∷ [] → y ≡ x → left' + long_of x ≡ left → all' ≡ all → left
+    + (m + longs q) ≡ all
     → left' + (m + longs q') ≡ all'
 more_long left left' m all all' q q' x y e same taken alike count =
     omega (arith, ap longs e, longs_push q y, ap long_of same, taken, alike, count)
 
 -- the same where it is sent and doesn't wait
-pub sent_short : (left left' n m : ℕ) (xs xs' : List (List ℕ)) (x y : List ℕ) → xs' ≡ xs ++ y ∷ [] → y ≡ x → left' + 1 ≡ left + long_of x → left + (length xs + n) ≡ 263 + (longs xs + m)
+pub sent_short : (left left' n m : ℕ) (xs xs' : List (List ℕ)) (x y : List ℕ) → xs' ≡ xs ++ y ∷ [] → y ≡ x → left' + 1 ≡ left + long_of x → left
+    + (length xs + n) ≡ 263 + (longs xs + m)
     → left' + (length xs' + n) ≡ 263 + (longs xs' + m)
 sent_short left left' n m xs xs' x y e same taken count =
     omega (arith, ap length e, length-append xs (y ∷ []), ap longs e, longs_push xs y, ap long_of same, taken, count)
 
-pub sent_long : (left left' m all all' : ℕ) (xs xs' : List (List ℕ)) (x y : List ℕ) → xs' ≡ xs ++ y ∷ [] → y ≡ x → left' + long_of x ≡ left → all' ≡ all → left + (longs xs + m) ≡ all
+pub sent_long : (left left' m all all' : ℕ) (xs xs' : List (List ℕ)) (x y : List ℕ) → xs' ≡ xs ++ y ∷ [] → y ≡ x → left' + long_of x ≡ left → all' ≡ all → left
+    + (longs xs + m) ≡ all
     → left' + (longs xs' + m) ≡ all'
 sent_long left left' m all all' xs xs' x y e same taken alike count =
     omega (arith, ap longs e, longs_push xs y, ap long_of same, taken, alike, count)
 
 -- ---- a place is left where few wait
 
-pub some_left : (s l : ShownSpares) (n k : ℕ) (xs q : List (List ℕ)) → length xs ≤ k → k ≤ 7 → length q < 8 → s.left + (length xs + length q) ≡ 263 + (longs xs + longs q)
+pub some_left : (s l : ShownSpares) (n k : ℕ) (xs q : List (List ℕ)) → length xs ≤ k → k ≤ 7 → length q < 8 → s.left + (length xs + length q) ≡ 263
+    + (longs xs + longs q)
     → l.left + (longs xs + longs q) ≡ l.all → l.all ≡ 15 → 0 < left_for s l n
 some_left s l n k xs q room small few short long all = by_test (nat_le n 260)
   where
@@ -79,11 +85,13 @@ pub goes : (left long all n m : ℕ) (xs rest : List (List ℕ)) (x : List ℕ) 
 goes left long all n m xs rest x e few short long_count =
     (omega (arith, ap length e, ap longs e, longs_first x rest, longs_few rest, few, short), omega (arith, ap longs e, longs_first x rest, long_count))
 
-pub less_short : (left left' n m : ℕ) (xs rest : List (List ℕ)) (x : List ℕ) → xs ≡ x ∷ rest → left' + long_of x ≡ left + 1 → left + (length xs + n) ≡ 263 + (longs xs + m)
+pub less_short : (left left' n m : ℕ) (xs rest : List (List ℕ)) (x : List ℕ) → xs ≡ x ∷ rest → left' + long_of x ≡ left + 1 → left + (length xs + n) ≡ 263
+    + (longs xs + m)
     → left' + (length rest + n) ≡ 263 + (longs rest + m)
 less_short left left' n m xs rest x e given count = omega (arith, ap length e, ap longs e, longs_first x rest, given, count)
 
-pub less_long : (left left' m all all' : ℕ) (xs rest : List (List ℕ)) (x : List ℕ) → xs ≡ x ∷ rest → left' ≡ left + long_of x → all' ≡ all → left + (longs xs + m) ≡ all
+pub less_long : (left left' m all all' : ℕ) (xs rest : List (List ℕ)) (x : List ℕ) → xs ≡ x ∷ rest → left' ≡ left + long_of x → all' ≡ all → left
+    + (longs xs + m) ≡ all
     → left' + (longs rest + m) ≡ all'
 less_long left left' m all all' xs rest x e given alike count = omega (arith, ap longs e, longs_first x rest, given, alike, count)
 

@@ -50,7 +50,8 @@ module _ (k : ℕ) (from : Window) where
       record {
         up = h.up;
         sound = record { place_low = omega arith; place_high = omega arith; sent_high = omega arith; room = omega arith };
-        runs = goes_on _ _ (Send t.near.outgoing.place) _ h.runs tt (s.place_low, s.place_high, o.room, o.packet) (rw (slice_get-get_or t.near.outgoing.given t.near.outgoing.place [] o.packet) (((refl, refl), refl, refl), tt));
+        runs = goes_on _ _ (Send t.near.outgoing.place) _ h.runs tt (s.place_low, s.place_high, o.room, o.packet)
+            (rw (slice_get-get_or t.near.outgoing.given t.near.outgoing.place [] o.packet) (((refl, refl), refl, refl), tt));
       }
 
   pub K-pumped : (n : ℕ) (t : Side) → Kept t → Kept (pumped n k t)

@@ -1,5 +1,6 @@
 -- Digits packed into octets, and read from them again.
-use Rattle.std.proofs.Common.{ℕ, zero, suc, ◌+◌, ◌*◌, ◌/◌, ◌%◌, ◌<◌, ◌≤◌, ◌≡◌, ◌∙◌, true, List, [], ◌∷◌, ◌++◌, length, get_or, take, drop, refl, ap, sym, arith, nat_eq, length-drop, length-append}
+use Rattle.std.proofs.Common.{ℕ, zero, suc, ◌+◌, ◌*◌, ◌/◌, ◌%◌, ◌<◌, ◌≤◌, ◌≡◌, ◌∙◌, true, List, [], ◌∷◌, ◌++◌, length, get_or, take, drop, refl, ap, sym, arith}
+use Rattle.std.proofs.Common.{nat_eq, length-drop, length-append}
 use Rattle.std.specs.Prelude.{◌&&◌}
 use Rattle.std.specs.List.{list_all}
 use Rattle.std.proofs.lemmas.List.{length-take-le, append_assoc, take_more, drop-drop, drop-append-le, take-append-drop, take-append-le}
@@ -99,7 +100,8 @@ block_when count octets h = let parts = and_parts (list_all is_digit (halves_of 
 pub length-halves_at : (octets : List ℕ) (start len : ℕ) → start + len ≤ 2 * length octets → length (halves_at octets start len) ≡ len
 length-halves_at octets start len h = length-take-le len (drop start (halves_of octets)) (rw (length-drop, length-halves_of) (omega arith))
 
-pub address_at : (count start len : ℕ) (octets : List ℕ) → Block count octets → len ≤ 15 → start + len ≤ 2 * length octets → IsAddress (halves_at octets start len)
+pub address_at : (count start len : ℕ) (octets : List ℕ) → Block count octets → len ≤ 15 → start + len ≤ 2 * length octets
+    → IsAddress (halves_at octets start len)
 address_at count start len octets block few room = record {
   short = let size = length-halves_at octets start len room in omega arith;
   decimal = list_all-take is_digit len (drop start (halves_of octets)) (list_all-drop is_digit start (halves_of octets) block.digits);
@@ -120,7 +122,8 @@ packed_block digits h =
 joined_digits : (called calling : List ℕ) → IsAddress called → IsAddress calling → list_all is_digit (called ++ calling) ≡ true
 joined_digits called calling a b = rw list_all-append (and_from _ _ a.decimal b.decimal)
 
-pub packed_holds : (called calling : List ℕ) → IsAddress called → IsAddress calling → hold_digits (length called + length calling) (packed (called ++ calling)) ≡ true
+pub packed_holds : (called calling : List ℕ) → IsAddress called → IsAddress calling → hold_digits (length called + length calling) (packed (called ++ calling))
+    ≡ true
 packed_holds called calling a b =
     let size : length (called ++ calling) ≡ length called + length calling = length-append called calling in
     rw (← size) (packed_block (called ++ calling) (joined_digits called calling a b))
@@ -128,17 +131,20 @@ packed_holds called calling a b =
 pub called_again : (called calling : List ℕ) → IsAddress called → IsAddress calling → halves_at (packed (called ++ calling)) 0 (length called) ≡ called
 called_again called calling a b =
     let whole = halves_of-packed (called ++ calling) (joined_digits called calling a b) in
-    ap (take (length called)) whole ∙ ap (take (length called)) (assoc called calling (filler (called ++ calling))) ∙ take_first called (calling ++ filler (called ++ calling))
+    ap (take (length called)) whole ∙ ap (take (length called)) (assoc called calling (filler (called ++ calling)))
+    ∙ take_first called (calling ++ filler (called ++ calling))
   where
     assoc : (x y z : List ℕ) → (x ++ y) ++ z ≡ x ++ (y ++ z)
     assoc [] y z = refl
     assoc (a ∷ x) y z = ap (λ (zs : List ℕ). a ∷ zs) (assoc x y z)
 
-pub calling_again : (called calling : List ℕ) → IsAddress called → IsAddress calling → halves_at (packed (called ++ calling)) (length called) (length calling) ≡ calling
+pub calling_again : (called calling : List ℕ) → IsAddress called → IsAddress calling → halves_at (packed (called ++ calling)) (length called) (length calling)
+    ≡ calling
 calling_again called calling a b =
     let whole = halves_of-packed (called ++ calling) (joined_digits called calling a b) in
     let rest : drop (length called) (halves_of (packed (called ++ calling))) ≡ calling ++ filler (called ++ calling) =
-    ap (drop (length called)) whole ∙ ap (drop (length called)) (assoc called calling (filler (called ++ calling))) ∙ drop_first called (calling ++ filler (called ++ calling)) in
+    ap (drop (length called)) whole ∙ ap (drop (length called)) (assoc called calling (filler (called ++ calling)))
+    ∙ drop_first called (calling ++ filler (called ++ calling)) in
     ap (take (length calling)) rest ∙ take_first calling (filler (called ++ calling))
   where
     assoc : (x y z : List ℕ) → (x ++ y) ++ z ≡ x ++ (y ++ z)
@@ -170,7 +176,8 @@ one_pair digits written octets pair high low inside before first second =
     ∙ ap (λ n. written ++ (take pair (packed digits) ++ n ∷ [])) octet ∙ ap (λ (o : List ℕ). written ++ o) (sym (take_more (packed digits) pair 0 inside))
 
 pub length-pairs : (called calling : List ℕ) → length (packed (called ++ calling)) ≡ (length called + length calling + 1) / 2
-length-pairs called calling = let count : length (called ++ calling) ≡ length called + length calling = length-append called calling in rw length-packed (rw count refl)
+length-pairs called calling = let count : length (called ++ calling) ≡ length called + length calling = length-append called calling in
+    rw length-packed (rw count refl)
 
 pub length-call : (called calling facilities user : List ℕ)
     → 2 + (length called + length calling + 1) / 2 + length facilities + length user ≡ length (call_body called calling facilities user)

@@ -1,5 +1,6 @@
 -- What is spelled as a packet is read so.
-use Rattle.std.proofs.Common.{ℕ, ◌+◌, ◌*◌, ◌/◌, ◌%◌, ◌<◌, ◌≤◌, ◌≡◌, ◌∙◌, Bool, true, false, List, [], ◌∷◌, ◌++◌, length, take, drop, refl, ap, inl, inr, arith, nat_eq, nat_lt, Option, Some, None, Ok, length-append}
+use Rattle.std.proofs.Common.{ℕ, ◌+◌, ◌*◌, ◌/◌, ◌%◌, ◌<◌, ◌≤◌, ◌≡◌, ◌∙◌, Bool, true, false, List, [], ◌∷◌, ◌++◌, length, take, drop, refl, ap, inl, inr, arith}
+use Rattle.std.proofs.Common.{nat_eq, nat_lt, Option, Some, None, Ok, length-append}
 use Rattle.std.specs.Prelude.{max, nat_le, ◌||◌}
 use Rattle.std.proofs.lemmas.Bool.{le-leb, le-ltb, ne_eqb}
 use Rattle.std.proofs.lemmas.List.{take_at, drop_at}
@@ -9,16 +10,21 @@ use Rattle.x25_packet.specs.declared.form.Forms.{Forms}
 use Rattle.x25_packet.specs.declared.form.Forms.TheVariants.{Written, Any}
 use Rattle.x25_packet.specs.Block.{PlainFields, PlainBlock, fields_octets, block_octets, optional_octets, IsField, MayBeFields, IsBlock, MayBeBlock}
 use Rattle.x25_packet.specs.Facilities.{facilities_of}
-use Rattle.x25_packet.specs.Form.{PlainKind, PlainForm, call, accept, clear, extended_clear, clear_conf, user_data, rr, rnr, rej, interrupt, interrupt_conf, reset, reset_conf, restart, restart_conf, diagnostic, registration, registration_conf}
-use Rattle.x25_packet.specs.Form.Spelling.{type_of, body_of, spelling_of, first_of, reason_octets, may_have, HasFacilities, HasPlace, IsAnswer, IsCall, IsCleared, IsShort, IsKind, IsPacket, MayLack, Spells}
-use Rattle.x25_packet.specs.Grammar.{when, mapped, is_over, field_read, fields_of, with_addresses, addressed, block_of, optional_block, is_short, called, call_of, written_answer, accept_of, reason_of, caused, clear_of, clear_conf_of, interrupt_of, unchannelled, channelled, kind_of, with_head, read_of}
+use Rattle.x25_packet.specs.Form.{PlainKind, PlainForm, call, accept, clear, extended_clear, clear_conf, user_data, rr, rnr, rej, interrupt, interrupt_conf}
+use Rattle.x25_packet.specs.Form.{reset, reset_conf, restart, restart_conf, diagnostic, registration, registration_conf}
+use Rattle.x25_packet.specs.Form.Spelling.{type_of, body_of, spelling_of, first_of, reason_octets, may_have, HasFacilities, HasPlace, IsAnswer, IsCall}
+use Rattle.x25_packet.specs.Form.Spelling.{IsCleared, IsShort, IsKind, IsPacket, MayLack, Spells}
+use Rattle.x25_packet.specs.Grammar.{when, mapped, is_over, field_read, fields_of, with_addresses, addressed, block_of, optional_block, is_short, called}
+use Rattle.x25_packet.specs.Grammar.{call_of, written_answer, accept_of, reason_of, caused, clear_of, clear_conf_of, interrupt_of, unchannelled, channelled}
+use Rattle.x25_packet.specs.Grammar.{kind_of, with_head, read_of}
 use Rattle.x25_packet.proofs.FacilityLaws.{facilities_again}
 use Rattle.x25_packet.proofs.FacilityLemmas.{field_again}
 
 -- ---- addresses, facilities and user data
 
 field_read_again : (forms : Forms) (field : List ℕ) → IsField forms field → field_read forms field ≡ Ok tt
-field_read_again Written field (facilities, allowed, e) = ap (λ (f : List ℕ). mapped (λ (facilities : Facilities). tt) (facilities_of f)) e ∙ ap (mapped (λ (facilities : Facilities). tt)) (facilities_again facilities allowed)
+field_read_again Written field (facilities, allowed, e) = ap (λ (f : List ℕ). mapped (λ (facilities : Facilities). tt) (facilities_of f)) e
+    ∙ ap (mapped (λ (facilities : Facilities). tt)) (facilities_again facilities allowed)
 field_read_again Any field f = rw (field_again field f) refl
 
 not_over : (forms : Forms) (size : ℕ) → size ≤ 109 → is_over forms size ≡ false
@@ -38,7 +44,8 @@ fields_again forms most (Some f) h =
     let short : nat_lt most (length f.user) ≡ false = le-ltb _ _ h.short in
     rw (few, room, field, user, whole, short) refl
 
-addressed_again : (forms : Forms) (a : Bool) (most : ℕ) (b : PlainBlock) → IsBlock forms a most b → addressed forms a most b.called b.calling (b.addresses ++ fields_octets b.fields) ≡ Ok b
+addressed_again : (forms : Forms) (a : Bool) (most : ℕ) (b : PlainBlock) → IsBlock forms a most b
+    → addressed forms a most b.called b.calling (b.addresses ++ fields_octets b.fields) ≡ Ok b
 addressed_again forms a most b h =
     let tail = fields_octets b.fields in
     let count = b.called + b.calling in
@@ -57,7 +64,8 @@ block_again forms false most b h =
     let second : (16 * b.calling + b.called) / 16 ≡ b.calling = omega arith in
     rw (first, second) (addressed_again forms false most b h)
 
-optional_again : (forms : Forms) (a : Bool) (most : ℕ) (b : Option PlainBlock) → MayBeBlock forms a most b → optional_block forms a most (optional_octets a b) ≡ Ok b
+optional_again : (forms : Forms) (a : Bool) (most : ℕ) (b : Option PlainBlock) → MayBeBlock forms a most b → optional_block forms a most (optional_octets a b)
+    ≡ Ok b
 optional_again forms a most None h = refl
 optional_again forms true most (Some b) h = ap (mapped Some) (block_again forms true most b h)
 optional_again forms false most (Some b) h = ap (mapped Some) (block_again forms false most b h)
@@ -78,20 +86,23 @@ call_again Written a most b h = ap (mapped call) (block_again Written a most b h
 call_again Any a most b h = ap (called most) (block_again Any a (max most 128) b h.0) ∙ rw (short_again most b.fields h.1) refl
 
 -- an ACCEPT that a station writes
-answer_again : (b : PlainBlock) → b.called ≡ 0 → b.calling ≡ 0 → IsBlock Written false 0 b → HasFacilities b.fields → written_answer (block_octets false b) ≡ Ok tt
+answer_again : (b : PlainBlock) → b.called ≡ 0 → b.calling ≡ 0 → IsBlock Written false 0 b → HasFacilities b.fields → written_answer (block_octets false b)
+    ≡ Ok tt
 answer_again b called calling h some = by b.addresses (let size = h.addresses.size in omega (arith, called, calling, size)) b.fields some
   where
     lengths : 16 * b.calling + b.called ≡ 0
     lengths = omega (arith, called, calling)
 
-    by : (addresses : List ℕ) → length addresses ≡ 0 → (f : Option PlainFields) → HasFacilities f → written_answer ((16 * b.calling + b.called) ∷ addresses ++ fields_octets f) ≡ Ok tt
+    by : (addresses : List ℕ) → length addresses ≡ 0 → (f : Option PlainFields) → HasFacilities f
+        → written_answer ((16 * b.calling + b.called) ∷ addresses ++ fields_octets f) ≡ Ok tt
     by (octet ∷ rest) none f some = absurd (omega (arith, none))
     by [] none None some = absurd some
     by [] none (Some f) some =
         let more : nat_eq (length f.facilities) 0 ≡ false = ne_eqb _ _ (λ e. absurd (omega (arith, e, some))) in
         rw (lengths, more) refl
 
-accept_again : (forms : Forms) (a d : Bool) (b : Option PlainBlock) → may_have forms a d 15 ≡ true → IsAnswer forms a b → accept_of forms a (optional_octets a b) ≡ Ok (accept b)
+accept_again : (forms : Forms) (a d : Bool) (b : Option PlainBlock) → may_have forms a d 15 ≡ true → IsAnswer forms a b
+    → accept_of forms a (optional_octets a b) ≡ Ok (accept b)
 accept_again Written true d b marks h = let bad : false ≡ true = marks in absurd (cc)
 accept_again Written false d None marks h = refl
 accept_again Written false d (Some b) marks h =
@@ -103,7 +114,8 @@ interrupt_again : (user : List ℕ) → 1 ≤ length user → length user ≤ 32
 interrupt_again [] some few = absurd (omega (arith, some))
 interrupt_again (octet ∷ rest) some few = let room : nat_le (length (octet ∷ rest)) 32 ≡ true = le-leb _ _ few in rw room refl
 
-caused_again : (forms : Forms) (v : ℕ → Option ℕ → PlainKind) (c : ℕ) (d : Option ℕ) → MayLack forms d → caused v (reason_of forms (reason_octets c d)) ≡ Ok (v c d)
+caused_again : (forms : Forms) (v : ℕ → Option ℕ → PlainKind) (c : ℕ) (d : Option ℕ) → MayLack forms d → caused v (reason_of forms (reason_octets c d))
+    ≡ Ok (v c d)
 caused_again Written v c None may = absurd may
 caused_again Any v c None may = refl
 caused_again forms v c (Some d) may = refl
@@ -166,21 +178,27 @@ rej_again a most pr h =
 on_channel : (channel : ℕ) → 1 ≤ channel → nat_eq channel 0 ≡ false
 on_channel channel on = ne_eqb _ _ (λ h. absurd (omega arith))
 
-on : (forms : Forms) (a : Bool) (most channel kind : ℕ) (body : List ℕ) (k : PlainKind) → 1 ≤ channel → channelled forms a most kind body ≡ Ok k → kind_of forms a most channel kind body ≡ Ok k
+on : (forms : Forms) (a : Bool) (most channel kind : ℕ) (body : List ℕ) (k : PlainKind) → 1 ≤ channel → channelled forms a most kind body ≡ Ok k
+    → kind_of forms a most channel kind body ≡ Ok k
 on forms a most channel kind body k some e = rw (on_channel channel some) e
 
-off : (forms : Forms) (a : Bool) (most channel kind : ℕ) (body : List ℕ) (k : PlainKind) → channel ≡ 0 → unchannelled forms kind body ≡ Ok k → kind_of forms a most channel kind body ≡ Ok k
+off : (forms : Forms) (a : Bool) (most channel kind : ℕ) (body : List ℕ) (k : PlainKind) → channel ≡ 0 → unchannelled forms kind body ≡ Ok k
+    → kind_of forms a most channel kind body ≡ Ok k
 off forms a most channel kind body k none e = rw none e
 
-kind_again : (forms : Forms) (a d : Bool) (most channel : ℕ) (k : PlainKind) → HasPlace channel k → may_have forms a d (type_of k) ≡ true → IsKind forms a most k → kind_of forms a most channel (type_of k) (body_of a k) ≡ Ok k
+kind_again : (forms : Forms) (a d : Bool) (most channel : ℕ) (k : PlainKind) → HasPlace channel k → may_have forms a d (type_of k) ≡ true
+    → IsKind forms a most k → kind_of forms a most channel (type_of k) (body_of a k) ≡ Ok k
 kind_again forms a d most channel (call b) place marks h = on forms a most channel 11 (block_octets a b) (call b) place (call_again forms a most b h)
-kind_again forms a d most channel (accept b) place marks h = on forms a most channel 15 (optional_octets a b) (accept b) place (accept_again forms a d b marks h)
+kind_again forms a d most channel (accept b) place marks h =
+    on forms a most channel 15 (optional_octets a b) (accept b) place (accept_again forms a d b marks h)
 kind_again forms a d most channel (clear c r) place marks h = on forms a most channel 19 (reason_octets c r) (clear c r) place (clear_again forms a c r h)
 kind_again Written a d most channel (extended_clear c r b) place marks h = absurd h
 kind_again Any a d most channel (extended_clear c r b) place marks h = on Any a most channel 19 (c ∷ r ∷ block_octets a b) (extended_clear c r b) place
     (extended_again a c r b h)
-kind_again forms a d most channel (clear_conf b) place marks h = on forms a most channel 23 (optional_octets a b) (clear_conf b) place (clear_conf_again forms a b h)
-kind_again forms a d most channel (user_data m ps pr user) place marks h = on forms a most channel (2 * ps + 16 * bit m + 32 * pr) user (user_data m ps pr user) place
+kind_again forms a d most channel (clear_conf b) place marks h =
+    on forms a most channel 23 (optional_octets a b) (clear_conf b) place (clear_conf_again forms a b h)
+kind_again forms a d most channel (user_data m ps pr user) place marks h =
+    on forms a most channel (2 * ps + 16 * bit m + 32 * pr) user (user_data m ps pr user) place
     (data_again forms a most m ps pr user h.0 h.1 h.2)
 kind_again forms a d most channel (rr pr) place marks h = on forms a most channel (1 + 32 * pr) [] (rr pr) place (rr_again forms a most pr h)
 kind_again forms a d most channel (rnr pr) place marks h = on forms a most channel (5 + 32 * pr) [] (rnr pr) place (rnr_again forms a most pr h)
@@ -190,10 +208,12 @@ kind_again forms a d most channel (interrupt user) place marks h = on forms a mo
 kind_again forms a d most channel interrupt_conf place marks h = on forms a most channel 39 [] interrupt_conf place refl
 kind_again forms a d most channel (reset c r) place marks h = on forms a most channel 27 (reason_octets c r) (reset c r) place (caused_again forms reset c r h)
 kind_again forms a d most channel reset_conf place marks h = on forms a most channel 31 [] reset_conf place refl
-kind_again forms a d most channel (restart c r) place marks h = off forms a most channel 251 (reason_octets c r) (restart c r) place (caused_again forms restart c r h)
+kind_again forms a d most channel (restart c r) place marks h =
+    off forms a most channel 251 (reason_octets c r) (restart c r) place (caused_again forms restart c r h)
 kind_again forms a d most channel restart_conf place marks h = off forms a most channel 255 [] restart_conf place refl
 kind_again Written a d most channel (diagnostic number explanation) place marks h = absurd h
-kind_again Any a d most channel (diagnostic number explanation) place marks h = off Any a most channel 241 (number ∷ explanation) (diagnostic number explanation) place
+kind_again Any a d most channel (diagnostic number explanation) place marks h =
+    off Any a most channel 241 (number ∷ explanation) (diagnostic number explanation) place
     (let few : nat_le (length explanation) 3 ≡ true = le-leb _ _ h in rw few refl)
 kind_again Written a d most channel (registration octets) place marks h = absurd h
 kind_again Any a d most channel (registration octets) place marks h = off Any a most channel 243 octets (registration octets) place

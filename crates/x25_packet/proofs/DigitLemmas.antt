@@ -1,5 +1,6 @@
 -- Half octets by their place, and digits packed into octets.
-use Rattle.std.proofs.Common.{ℕ, zero, suc, ◌+◌, ◌-◌, ◌*◌, ◌/◌, ◌%◌, ◌<◌, ◌≤◌, ◌≡◌, ◌≢◌, ◌∙◌, Bool, true, false, List, [], ◌∷◌, ◌++◌, length, get_or, take, drop, refl, ap, sym, arith, nat_eq}
+use Rattle.std.proofs.Common.{ℕ, zero, suc, ◌+◌, ◌-◌, ◌*◌, ◌/◌, ◌%◌, ◌<◌, ◌≤◌, ◌≡◌, ◌≢◌, ◌∙◌, Bool, true, false, List, [], ◌∷◌, ◌++◌, length, get_or, take}
+use Rattle.std.proofs.Common.{drop, refl, ap, sym, arith, nat_eq}
 use Rattle.std.specs.Prelude.{◌&&◌, nat_le}
 use Rattle.std.specs.List.{list_all}
 use Rattle.std.proofs.lemmas.List.{append-nil, drop_all, drop_more, length-map, take-append-drop}
@@ -92,7 +93,8 @@ filler_one count octets size odd =
     let at : count ≡ 2 * (count / 2) + 1 = omega arith in
     let long : count < length (halves_of octets) = rw length-halves_of (omega arith) in
     let past : drop (count + 1) (halves_of octets) ≡ [] = drop_all (count + 1) (halves_of octets) (rw length-halves_of (omega arith)) in
-    let half : get_or (halves_of octets) count 0 ≡ get_or octets (count / 2) 0 % 16 = ap (λ n. get_or (halves_of octets) n 0) at ∙ low_half octets (count / 2) in
+    let half : get_or (halves_of octets) count 0 ≡ get_or octets (count / 2) 0 % 16 =
+    ap (λ n. get_or (halves_of octets) n 0) at ∙ low_half octets (count / 2) in
     drop_more (halves_of octets) count 0 long ∙ ap (λ (rest : List ℕ). get_or (halves_of octets) count 0 ∷ rest) past ∙ ap (λ h. h ∷ []) half
 
 pub no_pairs : (count : ℕ) (octets : List ℕ) (b : Bool) → b ≡ list_all is_pair octets → b ≡ false → false ≡ hold_digits count octets

@@ -1,5 +1,6 @@
 -- The error of a facility field that is answered is the first.
-use Rattle.std.proofs.Common.{ℕ, ◌<◌, ◌≡◌, ◌≢◌, ◌∙◌, true, false, List, [], ◌∷◌, ◌++◌, length, get_or, refl, ap, sym, subst, inl, inr, arith, nat_eq, Option, Some, None, Result, Ok, Err}
+use Rattle.std.proofs.Common.{ℕ, ◌<◌, ◌≡◌, ◌≢◌, ◌∙◌, true, false, List, [], ◌∷◌, ◌++◌, length, get_or, refl, ap, sym, subst, inl, inr, arith, nat_eq, Option}
+use Rattle.std.proofs.Common.{Some, None, Result, Ok, Err}
 use Rattle.std.specs.Prelude.{◌&&◌}
 use Rattle.std.proofs.lemmas.Bool.{eqb-true, eqb-false}
 use Rattle.x25_packet.specs.declared.error.PacketError.{PacketError}
@@ -19,7 +20,8 @@ err_same h = cc
 
 -- ---- in a facility field
 
-not_windows : (sizes : Option Directions) (code : ℕ) → (sizes ≡ None → code ≢ 66) → code ≢ 67 → ¬ MayFollow (record { packet_size = sizes; window_size = None }) code
+not_windows : (sizes : Option Directions) (code : ℕ) → (sizes ≡ None → code ≢ 66) → code ≢ 67
+    → ¬ MayFollow (record { packet_size = sizes; window_size = None }) code
 not_windows None code first other m = elim m.known [ inl h ↦ first refl h | inr h ↦ other h ]
 not_windows (Some values) code first other m = let rises : 66 < code = m.rises in elim m.known [ inl h ↦ absurd (omega arith) | inr h ↦ other h ]
 
@@ -27,11 +29,13 @@ windows_may : (sizes : Option Directions) → MayFollow (record { packet_size = 
 windows_may None = record { rises = omega arith; known = inr refl }
 windows_may (Some values) = record { rises = omega arith; known = inr refl }
 
-not_after_windows : (sizes : Option Directions) (windows : Directions) (code : ℕ) → ¬ MayFollow (record { packet_size = sizes; window_size = Some windows }) code
+not_after_windows : (sizes : Option Directions) (windows : Directions) (code : ℕ)
+    → ¬ MayFollow (record { packet_size = sizes; window_size = Some windows }) code
 not_after_windows None windows code m = let rises : 67 < code = m.rises in elim m.known [ inl h ↦ omega arith | inr h ↦ omega arith ]
 not_after_windows (Some sizes) windows code m = let rises : 67 < code = m.rises in elim m.known [ inl h ↦ omega arith | inr h ↦ omega arith ]
 
-not_within : (least most : ℕ) (values : Directions) → (is_within least most values.called && is_within least most values.calling) ≡ false → ¬ AreWithin least most values
+not_within : (least most : ℕ) (values : Directions) → (is_within least most values.called && is_within least most values.calling) ≡ false
+    → ¬ AreWithin least most values
 not_within least most values h w = let bad : true ≡ false = sym (both_within least most values w) ∙ h in cc
 
 some_none : {values : Directions} → Some values ≡ None → ⊥
@@ -48,12 +52,14 @@ record Before (sizes : Option Directions) (rest : List ℕ) : Type 0 where
 abbrev only_sizes : Option Directions → Facilities
 only_sizes sizes = record { packet_size = sizes; window_size = None }
 
-behind_sizes : (sizes : Option Directions) (tail : List ℕ) (e : PacketError) → FieldError (field_of (only_sizes sizes) ++ tail) e → FieldError (facility 66 sizes ++ tail) e
+behind_sizes : (sizes : Option Directions) (tail : List ℕ) (e : PacketError) → FieldError (field_of (only_sizes sizes) ++ tail) e
+    → FieldError (facility 66 sizes ++ tail) e
 behind_sizes None tail e f = f
 behind_sizes (Some values) tail e f = f
 
 behind_windows : (sizes : Option Directions) (windows : Directions) (tail : List ℕ) (e : PacketError)
-    → FieldError (field_of (record { packet_size = sizes; window_size = Some windows }) ++ tail) e → FieldError (facility 66 sizes ++ 67 ∷ windows.called ∷ windows.calling ∷ tail) e
+    → FieldError (field_of (record { packet_size = sizes; window_size = Some windows }) ++ tail) e
+    → FieldError (facility 66 sizes ++ 67 ∷ windows.called ∷ windows.calling ∷ tail) e
 behind_windows None windows tail e f = f
 behind_windows (Some values) windows tail e f = f
 
@@ -68,16 +74,20 @@ may_windows : (sizes : Option Directions) (code : ℕ) → nat_eq code 67 ≡ tr
 may_windows sizes code same = subst (MayFollow (only_sizes sizes)) (sym (eqb-true _ _ same)) (windows_may sizes)
 
 -- window sizes cut off
-cut_windows : (sizes : Option Directions) (code : ℕ) (rest : List ℕ) (e : PacketError) → Before sizes (code ∷ rest) → nat_eq code 67 ≡ true → length rest < 2 → BadParameter ≡ e
+cut_windows : (sizes : Option Directions) (code : ℕ) (rest : List ℕ) (e : PacketError) → Before sizes (code ∷ rest) → nat_eq code 67 ≡ true → length rest < 2
+    → BadParameter ≡ e
     → FieldError (facility 66 sizes ++ code ∷ rest) e
 cut_windows sizes code rest e before at short same = subst (FieldError (facility 66 sizes ++ code ∷ rest)) same
-    (behind_sizes sizes (code ∷ rest) BadParameter (cut_off (only_sizes sizes) code rest (record { sizes = before.allowed; windows = tt }) (may_windows sizes code at) short))
+    (behind_sizes sizes (code ∷ rest) BadParameter
+    (cut_off (only_sizes sizes) code rest (record { sizes = before.allowed; windows = tt }) (may_windows sizes code at) short))
 
-last_err : {A : Type 0} (value : A) (rest : List ℕ) (e : PacketError) → last value rest ≡ Err e → (code : ℕ) × (tail : List ℕ) × (rest ≡ code ∷ tail) × (BadFacility ≡ e)
+last_err : {A : Type 0} (value : A) (rest : List ℕ) (e : PacketError) → last value rest ≡ Err e → (code : ℕ) × (tail : List ℕ) × (rest ≡ code ∷ tail)
+    × (BadFacility ≡ e)
 last_err value [] e h = absurd (err_ok h)
 last_err value (code ∷ tail) e h = (code, tail, refl, err_same h)
 
-windows_fault : (sizes : Option Directions) (rest : List ℕ) (e : PacketError) → Before sizes rest → windows_of rest ≡ Err e → FieldError (facility 66 sizes ++ rest) e
+windows_fault : (sizes : Option Directions) (rest : List ℕ) (e : PacketError) → Before sizes rest → windows_of rest ≡ Err e
+    → FieldError (facility 66 sizes ++ rest) e
 windows_fault sizes [] e before h = absurd (err_ok h)
 windows_fault sizes (code ∷ []) e before h = elim (chosen (nat_eq code 67) _ _ _ h) [
   | inl p ↦ cut_windows sizes code [] e before p.0 (omega arith) (err_same p.1)
@@ -125,7 +135,8 @@ may_sizes : (code : ℕ) → nat_eq code 66 ≡ true → MayFollow nothing code
 may_sizes code same = subst (MayFollow nothing) (sym (eqb-true _ _ same)) (record { rises = omega arith; known = inl refl })
 
 -- no packet sizes at the front
-no_sizes : (code : ℕ) (rest : List ℕ) (e : PacketError) → nat_eq code 66 ≡ false → with_sizes None (windows_of (code ∷ rest)) ≡ Err e → FieldError (code ∷ rest) e
+no_sizes : (code : ℕ) (rest : List ℕ) (e : PacketError) → nat_eq code 66 ≡ false → with_sizes None (windows_of (code ∷ rest)) ≡ Err e
+    → FieldError (code ∷ rest) e
 no_sizes code rest e differs h =
     windows_fault None (code ∷ rest) e (record { allowed = tt; first = λ _. eqb-false _ _ differs }) (with_sizes_err None (windows_of (code ∷ rest)) e h)
 

@@ -38,9 +38,11 @@ within least most called calling h =
 is_within_when : (least most value : ℕ) → least ≤ value → value ≤ most → is_within least most value ≡ true
 is_within_when least most value low high = and_from _ _ (le-leb _ _ low) (le-leb _ _ high)
 
-pub both_within : (least most : ℕ) (values : Directions) → AreWithin least most values → (is_within least most values.called && is_within least most values.calling) ≡ true
+pub both_within : (least most : ℕ) (values : Directions) → AreWithin least most values
+    → (is_within least most values.called && is_within least most values.calling) ≡ true
 both_within least most values h =
-    and_from _ _ (is_within_when least most values.called h.called_least h.called_most) (is_within_when least most values.calling h.calling_least h.calling_most)
+    and_from _ _ (is_within_when least most values.called h.called_least h.called_most)
+    (is_within_when least most values.calling h.calling_least h.calling_most)
 
 -- ---- what is read is spelled so
 

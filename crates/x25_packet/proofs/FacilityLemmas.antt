@@ -1,8 +1,10 @@
 -- A facility field is read exactly where it is facilities one behind another.
-use Rattle.std.proofs.Common.{ℕ, zero, suc, ◌+◌, ◌/◌, ◌<◌, ◌≤◌, ◌≡◌, ◌∙◌, Bool, true, false, List, [], ◌∷◌, ◌++◌, length, get_or, drop, refl, ap, sym, arith, nat_eq, nat_lt, ◌≢◌, inl, inr}
+use Rattle.std.proofs.Common.{ℕ, zero, suc, ◌+◌, ◌/◌, ◌<◌, ◌≤◌, ◌≡◌, ◌∙◌, Bool, true, false, List, [], ◌∷◌, ◌++◌, length, get_or, drop, refl, ap, sym, arith}
+use Rattle.std.proofs.Common.{nat_eq, nat_lt, ◌≢◌, inl, inr}
 use Rattle.std.specs.Prelude.{cond, ◌||◌}
 use Rattle.std.proofs.lemmas.Bool.{cases_lt, ne_eqb, le-ltb, lt-ltb}
-use Rattle.x25_packet.specs.Classes.{Facility, class_a, class_b, class_c, class_d, octets_of, IsOfClass, AreOfClass, field_of, IsFacilityField, are_facilities, more_of, size_of, own_in, with_facility}
+use Rattle.x25_packet.specs.Classes.{Facility, class_a, class_b, class_c, class_d, octets_of, IsOfClass, AreOfClass, field_of, IsFacilityField, are_facilities}
+use Rattle.x25_packet.specs.Classes.{more_of, size_of, own_in, with_facility}
 use Rattle.x25_packet.specs.declared.classes.Own.{Own}
 
 -- ---- the code's steps

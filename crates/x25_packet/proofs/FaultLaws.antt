@@ -1,5 +1,6 @@
 -- The error that is answered is the first.
-use Rattle.std.proofs.Common.{ℕ, ◌+◌, ◌*◌, ◌/◌, ◌%◌, ◌<◌, ◌≤◌, ◌≡◌, ◌≢◌, ◌⊎◌, ◌∙◌, Bool, true, false, not, List, [], ◌∷◌, ◌++◌, length, get_or, take, drop, refl, ap, sym, subst, inl, inr, arith, nat_eq, nat_lt, Option, Some, None, Result, Ok, Err}
+use Rattle.std.proofs.Common.{ℕ, ◌+◌, ◌*◌, ◌/◌, ◌%◌, ◌<◌, ◌≤◌, ◌≡◌, ◌≢◌, ◌⊎◌, ◌∙◌, Bool, true, false, not, List, [], ◌∷◌, ◌++◌, length, get_or, take, drop}
+use Rattle.std.proofs.Common.{refl, ap, sym, subst, inl, inr, arith, nat_eq, nat_lt, Option, Some, None, Result, Ok, Err}
 use Rattle.std.specs.Prelude.{nat_le}
 use Rattle.std.proofs.lemmas.Bool.{and_parts, leb-false, le-ltb, ltb-true, ltb-false, eqb-true, eqb-false, ne_eqb}
 use Rattle.std.proofs.lemmas.List.{take-append-drop, length-take-le}
@@ -15,7 +16,8 @@ use Rattle.x25_packet.specs.Reading.FirstError.CallError.{no_lengths, digits_mis
 use Rattle.x25_packet.specs.Reading.FirstError.AcceptError.{some_lengths, no_field, zero_size, behind_lengths}
 use Rattle.x25_packet.specs.Reading.FirstError.IsFirstError.{no_header, wrong_format, no_packet, in_body}
 use Rattle.x25_packet.specs.Marks.{with_q}
-use Rattle.x25_packet.specs.Packet.{PlainPacket, call, accept, clear, clear_conf, user_data, rr, rnr, interrupt, interrupt_conf, reset, reset_conf, restart, restart_conf}
+use Rattle.x25_packet.specs.Packet.{PlainPacket, call, accept, clear, clear_conf, user_data, rr, rnr, interrupt, interrupt_conf, reset, reset_conf, restart}
+use Rattle.x25_packet.specs.Packet.{restart_conf}
 use Rattle.x25_packet.specs.Digits.{IsAddress}
 use Rattle.x25_bits.specs.Bits.{bit}
 use Rattle.x25_packet.specs.Spelling.{channel_of, format_of, header_of, type_of, IsChannel, IsInRange, IsWithoutD}
@@ -23,9 +25,10 @@ use Rattle.x25_packet.specs.Block.{PlainFields}
 use Rattle.x25_packet.specs.Facilities.{facilities_of}
 use Rattle.x25_packet.specs.Reading.{packet_of}
 use Rattle.x25_packet.specs.Form as wide
-use Rattle.x25_packet.specs.Form.{PlainKind, PlainForm}
+use Rattle.x25_packet.specs.Form.{PlainKind}
 use Rattle.x25_packet.specs.Form.Spelling.{may_have}
-use Rattle.x25_packet.specs.Grammar.{when, mapped, field_read, fields_of, with_addresses, block_of, optional_block, bare, written_answer, accept_of, reason_of, caused, clear_of, interrupt_of, data_of, unchannelled, named, channelled, kind_of, has_format, with_head, read_of}
+use Rattle.x25_packet.specs.Grammar.{when, mapped, field_read, fields_of, with_addresses, block_of, optional_block, bare, written_answer, accept_of, reason_of}
+use Rattle.x25_packet.specs.Grammar.{caused, clear_of, interrupt_of, data_of, unchannelled, named, channelled, kind_of, has_format, with_head, read_of}
 use Rattle.x25_packet.proofs.AgainLaws.{bit_lt}
 use Rattle.x25_packet.proofs.FieldLaws.{no_field as none_is_field}
 use Rattle.x25_packet.proofs.FoundLaws.{AreSmall, bit_eq, field_read_found, is_true}
@@ -43,7 +46,8 @@ mapped_err {A} f (Err x) e h = ap again (err_same h)
     again : PacketError → Result A PacketError
     again y = Err y
 
-when_err : {A : Type 0} (r : Result (Unit {0}) PacketError) (next : Result A PacketError) (e : PacketError) → when r next ≡ Err e → (r ≡ Err e) ⊎ ((r ≡ Ok tt) × (next ≡ Err e))
+when_err : {A : Type 0} (r : Result (Unit {0}) PacketError) (next : Result A PacketError) (e : PacketError) → when r next ≡ Err e → (r ≡ Err e)
+    ⊎ ((r ≡ Ok tt) × (next ≡ Err e))
 when_err (Ok tt) next e h = inr (refl, h)
 when_err (Err x) next e h = inl (ap again (err_same h))
   where
@@ -70,13 +74,15 @@ fields_fault most (size ∷ rest) e h = elim (chosen (nat_lt (length rest) size)
       (elim (when_err (field_read Written field) _ e p.1) [
         | inl q ↦ in_field field user e (facilities_fault field e (mapped_err (λ (facilities : Facilities). tt) (facilities_of field) e q))
         | inr q ↦ elim (chosen (nat_lt most (length user)) _ _ _ q.1) [
-          | inl r ↦ subst (BehindError most (length field ∷ field ++ user)) (err_same r.1) (user_long field user (field_read_found Written field q.0) (ltb-true _ _ r.0))
+          | inl r ↦ subst (BehindError most (length field ∷ field ++ user)) (err_same r.1)
+              (user_long field user (field_read_found Written field q.0) (ltb-true _ _ r.0))
           | inr r ↦ absurd (err_ok r.1)
         ]
       ])
 ]
 
-addresses_err : (called calling : ℕ) (addresses : List ℕ) (r : Result (Option PlainFields) PacketError) (e : PacketError) → with_addresses called calling addresses r ≡ Err e → r ≡ Err e
+addresses_err : (called calling : ℕ) (addresses : List ℕ) (r : Result (Option PlainFields) PacketError) (e : PacketError)
+    → with_addresses called calling addresses r ≡ Err e → r ≡ Err e
 addresses_err called calling addresses (Ok f) e h = absurd (err_ok h)
 addresses_err called calling addresses (Err x) e h = ap again (err_same h)
   where
@@ -99,7 +105,8 @@ block_fault most (lengths ∷ octets) e h =
           let whole : block ++ drop size octets ≡ octets = take-append-drop size octets in
           let long : length block ≡ size = length-take-le size octets (ltb-false _ _ p.0) in
           elim (chosen (not (hold_digits (digits_of lengths) block)) _ _ _ p.1) [
-            | inl q ↦ subst P whole (subst (CallError most (lengths ∷ block ++ drop size octets)) (err_same q.1) (wrong_digit lengths block (drop size octets) long (is_false _ q.0)))
+            | inl q ↦ subst P whole (subst (CallError most (lengths ∷ block ++ drop size octets)) (err_same q.1)
+                (wrong_digit lengths block (drop size octets) long (is_false _ q.0)))
             | inr q ↦ subst P whole (behind_digits lengths block (drop size octets) e long (is_true _ q.0)
                 (fields_fault most (drop size octets) e (addresses_err (lengths % 16) (lengths / 16) block (fields_of Written most (drop size octets)) e q.1)))
           ]
@@ -112,13 +119,15 @@ no_addresses octets = let room : nat_lt (length octets) 0 ≡ false = le-ltb _ _
 
 answer_err : (octets : List ℕ) (e : PacketError) → mapped wide.accept (optional_block Written false 0 (0 ∷ octets)) ≡ Err e → BehindError 0 octets e
 answer_err octets e h = fields_fault 0 octets e (addresses_err 0 0 [] (fields_of Written 0 octets) e
-    (sym (no_addresses octets) ∙ mapped_err Some (block_of Written false 0 (0 ∷ octets)) e (mapped_err wide.accept (optional_block Written false 0 (0 ∷ octets)) e h)))
+    (sym (no_addresses octets) ∙ mapped_err Some (block_of Written false 0 (0 ∷ octets)) e
+    (mapped_err wide.accept (optional_block Written false 0 (0 ∷ octets)) e h)))
 
 -- address lengths of 0
 none_first : (lengths : ℕ) (rest : List ℕ) (e : PacketError) → lengths ≡ 0 → AcceptError (0 ∷ rest) e → AcceptError (lengths ∷ rest) e
 none_first lengths rest e h a = let P : ℕ → Type 0 = λ n. AcceptError (n ∷ rest) e in subst P (sym h) a
 
-answer_at : (lengths : ℕ) (octets : List ℕ) (e : PacketError) → lengths ≡ 0 → mapped wide.accept (optional_block Written false 0 (lengths ∷ octets)) ≡ Err e → BehindError 0 octets e
+answer_at : (lengths : ℕ) (octets : List ℕ) (e : PacketError) → lengths ≡ 0 → mapped wide.accept (optional_block Written false 0 (lengths ∷ octets)) ≡ Err e
+    → BehindError 0 octets e
 answer_at lengths octets e none h =
     let P : ℕ → Type 0 = λ n. mapped wide.accept (optional_block Written false 0 (n ∷ octets)) ≡ Err e in answer_err octets e (subst P none h)
 
@@ -164,7 +173,8 @@ caused_fault : (f : ℕ → Option ℕ → PlainKind) (body : List ℕ) (e : Pac
 caused_fault f [] e h = subst (IsLengthError 2 2 []) (err_same h) (let short : 0 < 2 = omega arith in short)
 caused_fault f (c ∷ []) e h = subst (IsLengthError 2 2 (c ∷ [])) (err_same h) (let short : 1 < 2 = omega arith in short)
 caused_fault f (c ∷ d ∷ []) e h = absurd (err_ok h)
-caused_fault f (c ∷ d ∷ octet ∷ rest) e h = subst (IsLengthError 2 2 (c ∷ d ∷ octet ∷ rest)) (err_same h) (let long : 2 < length (c ∷ d ∷ octet ∷ rest) = omega arith in long)
+caused_fault f (c ∷ d ∷ octet ∷ rest) e h = subst (IsLengthError 2 2 (c ∷ d ∷ octet ∷ rest)) (err_same h)
+    (let long : 2 < length (c ∷ d ∷ octet ∷ rest) = omega arith in long)
 
 clear_fault : (a : Bool) (body : List ℕ) (e : PacketError) → clear_of Written a body ≡ Err e → IsLengthError 2 2 body e
 clear_fault a [] e h = caused_fault wide.clear [] e h
@@ -312,7 +322,8 @@ named_fault most channel kind body e on h = elim (chosen (nat_eq kind 11) _ _ _ 
   ]
 ]
 
-unchannelled_fault : (most kind : ℕ) (body : List ℕ) (e : PacketError) → unchannelled Written kind body ≡ Err e → Fault most 0 false kind body e ⊎ (Unidentified ≡ e)
+unchannelled_fault : (most kind : ℕ) (body : List ℕ) (e : PacketError) → unchannelled Written kind body ≡ Err e → Fault most 0 false kind body e
+    ⊎ (Unidentified ≡ e)
 unchannelled_fault most kind body e h = elim (chosen (nat_eq kind 251) _ _ _ h) [
   | inl p ↦ typed most 0 251 kind body e p.0 (record {
     v = restart 0 0;
@@ -345,7 +356,8 @@ unchannelled_even kind body e even h = elim (chosen (nat_eq kind 251) _ _ _ h) [
   ]
 ]
 
-data_of_kind : (most channel : ℕ) (q : Bool) (kind : ℕ) (body : List ℕ) (e : PacketError) → IsChannel channel → kind < 256 → kind % 2 ≡ 0 → data_of kind body ≡ Err e
+data_of_kind : (most channel : ℕ) (q : Bool) (kind : ℕ) (body : List ℕ) (e : PacketError) → IsChannel channel → kind < 256 → kind % 2 ≡ 0 → data_of kind body
+    ≡ Err e
     → Fault most channel q kind body e
 data_of_kind most channel q kind body e on small even h =
     let mark = bit_eq (kind / 16 % 2) (omega arith) in
@@ -403,7 +415,8 @@ kind_fault most channel true d kind body e few small marks h = elim (chosen (nat
       ]
 ]
 kind_fault most channel false d kind body e few small marks h = elim (chosen (nat_eq channel 0) _ _ _ h) [
-  | inl p ↦ let P : ℕ → Type 0 = λ n. Fault most n false kind body e ⊎ (Unidentified ≡ e) in subst P (sym (eqb-true _ _ p.0)) (unchannelled_fault most kind body e p.1)
+  | inl p ↦ let P : ℕ → Type 0 = λ n. Fault most n false kind body e ⊎ (Unidentified ≡ e) in
+      subst P (sym (eqb-true _ _ p.0)) (unchannelled_fault most kind body e p.1)
   | inr p ↦ let some : channel ≢ 0 = eqb-false _ _ p.0 in channelled_fault most channel kind body e (omega arith, few) small p.1
 ]
 
@@ -415,10 +428,13 @@ never_bare v body h = bare_fault v body Unidentified h
 on_channel : (channel : ℕ) → IsChannel channel → nat_eq channel 0 ≡ false
 on_channel channel on = ne_eqb _ _ (λ h. absurd (omega arith))
 
-never_kind : (most : ℕ) (v : PlainPacket) (a : Bool) (body : List ℕ) → IsInRange most v → (format_of v ≡ 1 → a ≡ false) → kind_of Written a most (channel_of v) (type_of v) body ≢ Err Unidentified
+never_kind : (most : ℕ) (v : PlainPacket) (a : Bool) (body : List ℕ) → IsInRange most v → (format_of v ≡ 1 → a ≡ false)
+    → kind_of Written a most (channel_of v) (type_of v) body ≢ Err Unidentified
 never_kind most (call channel called calling facilities user) a body fits plain h =
-    call_known most body Unidentified (block_fault most body Unidentified (mapped_err wide.call (block_of Written false most body) Unidentified (rw (on_channel channel fits.0, plain refl) at h))) refl
-never_kind most (accept channel facilities) a body fits plain h = accept_known body Unidentified (accept_fault body Unidentified (rw (on_channel channel fits.0, plain refl) at h)) refl
+    call_known most body Unidentified (block_fault most body Unidentified
+    (mapped_err wide.call (block_of Written false most body) Unidentified (rw (on_channel channel fits.0, plain refl) at h))) refl
+never_kind most (accept channel facilities) a body fits plain h =
+    accept_known body Unidentified (accept_fault body Unidentified (rw (on_channel channel fits.0, plain refl) at h)) refl
 never_kind most (clear channel cause diagnostic) a body fits plain h = clear_fault a body Unidentified (rw (on_channel channel fits) at h)
 never_kind most (clear_conf channel) a body fits plain h = never_bare _ body (rw (on_channel channel fits) at h)
 never_kind most (user_data channel marks m ps pr user) a body fits plain h =
@@ -456,19 +472,14 @@ format_is first kind false format even = inl format
 format_is first kind true format even = inr (format, even refl)
 
 channel_few : (most : ℕ) (v : PlainPacket) → IsInRange most v → channel_of v ≤ 4095
-channel_few most (call channel called calling facilities user) fits = fits.0.1
-channel_few most (accept channel facilities) fits = fits.0.1
 channel_few most (clear channel cause diagnostic) fits = fits.1
 channel_few most (clear_conf channel) fits = fits.1
-channel_few most (user_data channel marks m ps pr user) fits = fits.0.1
-channel_few most (rr channel pr) fits = fits.0.1
-channel_few most (rnr channel pr) fits = fits.0.1
-channel_few most (interrupt channel user) fits = fits.0.1
 channel_few most (interrupt_conf channel) fits = fits.1
 channel_few most (reset channel cause diagnostic) fits = fits.1
 channel_few most (reset_conf channel) fits = fits.1
 channel_few most (restart cause diagnostic) fits = omega arith
 channel_few most restart_conf fits = omega arith
+channel_few most v fits = fits.0.1
 
 no_header_of : (most first second kind : ℕ) (body : List ℕ) (v : PlainPacket) → IsInRange most v
     → kind_of Written (nat_eq (first / 128) 1) most (first % 16 * 256 + second) kind body ≡ Err Unidentified → header_of v ≢ first ∷ second ∷ kind ∷ []
@@ -506,7 +517,8 @@ headed : (most first second kind : ℕ) (q : Bool) (body : List ℕ) (e : Packet
     → Fault most (first % 16 * 256 + second) q kind body e → IsFirstError most (first ∷ second ∷ kind ∷ body) e
 headed most first second kind q body e small less format f =
     let P : List ℕ → Type 0 = λ o. IsFirstError most (o ++ body) e in
-    subst P (front _ _ _ first second kind (rw (f.format_is, f.channel_is) (omega arith)) (rw f.channel_is (omega arith)) f.type_is) (in_body f.v body e f.in_range (without_d f.v q f.format_is) f.error)
+    subst P (front _ _ _ first second kind (rw (f.format_is, f.channel_is) (omega arith)) (rw f.channel_is (omega arith)) f.type_is)
+    (in_body f.v body e f.in_range (without_d f.v q f.format_is) f.error)
   where
     front : (a b c x y z : ℕ) → a ≡ x → b ≡ y → c ≡ z → a ∷ b ∷ c ∷ [] ≡ x ∷ y ∷ z ∷ []
     front a b c x y z h k l = cc
@@ -560,7 +572,8 @@ read_fault most (first ∷ second ∷ kind ∷ body) e small h = elim (chosen (h
               let P : PacketError → Type 0 = λ x. kind_of Written a most channel kind body ≡ Err x in
               let none : kind_of Written a most channel kind body ≡ Err Unidentified = subst P (sym same) h in
               let is = format_is first kind a format (λ t. is_even d kind (subst (λ x. may_have Written x d kind ≡ true) t parts.1)) in
-              subst (IsFirstError most (first ∷ second ∷ kind ∷ body)) same (no_packet first second kind body is (λ v fits. no_header_of most first second kind body v fits none))
+              subst (IsFirstError most (first ∷ second ∷ kind ∷ body)) same
+              (no_packet first second kind body is (λ v fits. no_header_of most first second kind body v fits none))
         ]
 
 pub fault_first : (most : ℕ) (octets : List ℕ) (e : PacketError) → AreSmall octets → packet_of most octets ≡ Err e → IsFirstError most octets e

@@ -15,7 +15,8 @@ pub record SaysItself (field : List ℕ) : Type 0 where
 
 -- what it asks for
 says_own : (sizes windows : Option Directions)
-    → (let own : Own = record { fast_select = false; packet_size = sizes; window_size = windows } in own ≡ own_in none_own 0 (strict_field.facility 66 sizes ++ strict_field.facility 67 windows))
+    → (let own : Own = record { fast_select = false; packet_size = sizes; window_size = windows } in own
+    ≡ own_in none_own 0 (strict_field.facility 66 sizes ++ strict_field.facility 67 windows))
 unfolding own_in
 says_own None None = refl
 says_own (Some s) None = refl
@@ -23,10 +24,12 @@ says_own None (Some w) = refl
 says_own (Some s) (Some w) = refl
 
 pub own_written : (field : List ℕ) (facilities : Facilities) → field ≡ strict_field.field_of facilities
-    → (let own : Own = record { fast_select = false; packet_size = facilities.packet_size; window_size = facilities.window_size } in own ≡ own_in none_own 0 field)
+    → (let own : Own = record { fast_select = false; packet_size = facilities.packet_size; window_size = facilities.window_size } in own
+    ≡ own_in none_own 0 field)
 own_written field facilities e = says_own facilities.packet_size facilities.window_size ∙ ap (own_in none_own 0) (sym e)
 
-says : (sizes windows : Option Directions) → strict_field.IfGiven sizes (strict_field.AreWithin 4 12) → strict_field.IfGiven windows (strict_field.AreWithin 1 7)
+says : (sizes windows : Option Directions) → strict_field.IfGiven sizes (strict_field.AreWithin 4 12)
+    → strict_field.IfGiven windows (strict_field.AreWithin 1 7)
     → SaysItself (strict_field.facility 66 sizes ++ strict_field.facility 67 windows)
 unfolding own_in
 says None None h k = record { whole = ([], tt, refl); few = omega arith; said = refl }

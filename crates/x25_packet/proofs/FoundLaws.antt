@@ -1,5 +1,6 @@
 -- What is read as a packet is spelled so.
-use Rattle.std.proofs.Common.{ℕ, zero, suc, ◌+◌, ◌*◌, ◌/◌, ◌%◌, ◌<◌, ◌≤◌, ◌≡◌, ◌≢◌, ◌∙◌, Bool, true, false, not, List, [], ◌∷◌, ◌++◌, length, get_or, take, drop, refl, ap, sym, subst, inl, inr, arith, nat_eq, nat_lt, Option, Some, None, Result, Ok, Err}
+use Rattle.std.proofs.Common.{ℕ, zero, suc, ◌+◌, ◌*◌, ◌/◌, ◌%◌, ◌<◌, ◌≤◌, ◌≡◌, ◌≢◌, ◌∙◌, Bool, true, false, not, List, [], ◌∷◌, ◌++◌, length, get_or, take}
+use Rattle.std.proofs.Common.{drop, refl, ap, sym, subst, inl, inr, arith, nat_eq, nat_lt, Option, Some, None, Result, Ok, Err}
 use Rattle.std.specs.Prelude.{cond, max, nat_le, ◌||◌}
 use Rattle.std.proofs.lemmas.Bool.{and_parts, leb-true, ltb-false, eqb-true, eqb-false}
 use Rattle.std.proofs.lemmas.List.{take-append-drop, length-take-le}
@@ -8,12 +9,16 @@ use Rattle.x25_bits.specs.Bits.{bit}
 use Rattle.x25_packet.specs.declared.facilities.Facilities.{Facilities}
 use Rattle.x25_packet.specs.declared.form.Forms.{Forms}
 use Rattle.x25_packet.specs.declared.form.Forms.TheVariants.{Written, Any}
-use Rattle.x25_packet.specs.Block.{PlainFields, PlainBlock, fields_octets, block_octets, optional_octets, bound_of, hold_addresses, IsField, MayBeFields, IsBlock, MayBeBlock}
+use Rattle.x25_packet.specs.Block.{PlainFields, PlainBlock, fields_octets, block_octets, optional_octets, bound_of, hold_addresses, IsField, MayBeFields}
+use Rattle.x25_packet.specs.Block.{IsBlock, MayBeBlock}
 use Rattle.x25_packet.specs.Facilities.{facilities_of}
 use Rattle.x25_packet.specs.Classes.{are_facilities, asks_fast_select}
-use Rattle.x25_packet.specs.Form.{registration, registration_conf, PlainKind, PlainForm, call, accept, extended_clear, clear_conf, rr, rnr, rej, interrupt_conf, reset, reset_conf, restart, restart_conf}
+use Rattle.x25_packet.specs.Form.{registration, registration_conf, PlainKind, PlainForm, call, accept, extended_clear, clear_conf, rr, rnr, rej, interrupt_conf}
+use Rattle.x25_packet.specs.Form.{reset, reset_conf, restart, restart_conf}
 use Rattle.x25_packet.specs.Form.Spelling.{type_of, body_of, reason_octets, may_have, HasFacilities, HasPlace, IsAnswer, IsShort, IsKind, MayLack, Spells}
-use Rattle.x25_packet.specs.Grammar.{when, mapped, is_over, field_read, fields_of, with_addresses, addressed, block_of, optional_block, bare, is_short, called, call_of, written_answer, accept_of, reason_of, caused, clear_of, clear_conf_of, interrupt_of, data_of, diagnostic_of, registered, rej_of, others, unchannelled, named, channelled, kind_of, has_format, with_head, read_of}
+use Rattle.x25_packet.specs.Grammar.{when, mapped, is_over, field_read, fields_of, with_addresses, addressed, block_of, optional_block, bare, is_short, called}
+use Rattle.x25_packet.specs.Grammar.{call_of, written_answer, accept_of, reason_of, caused, clear_of, clear_conf_of, interrupt_of, data_of, diagnostic_of}
+use Rattle.x25_packet.specs.Grammar.{registered, rej_of, others, unchannelled, named, channelled, kind_of, has_format, with_head, read_of}
 use Rattle.x25_packet.proofs.FacilityLaws.{chosen, ok_err, ok_same, facilities_found}
 use Rattle.x25_packet.proofs.FieldLaws.{field_few}
 use Rattle.x25_packet.proofs.FacilityLemmas.{field_found}
@@ -86,7 +91,8 @@ pub record BlockFound (forms : Forms) (a : Bool) (most : ℕ) (octets : List ℕ
   pub is_block : IsBlock forms a most b
   pub spelled : octets ≡ block_octets a b
 
-pub with_addresses_found : (called calling : ℕ) (addresses : List ℕ) (r : Result (Option PlainFields) PacketError) (b : PlainBlock) → with_addresses called calling addresses r ≡ Ok b
+pub with_addresses_found : (called calling : ℕ) (addresses : List ℕ) (r : Result (Option PlainFields) PacketError) (b : PlainBlock)
+    → with_addresses called calling addresses r ≡ Ok b
     → (f : Option PlainFields) × (r ≡ Ok f) × ((let w : PlainBlock = record { called = called; calling = calling; addresses = addresses; fields = f } in w) ≡ b)
 with_addresses_found called calling addresses (Ok f) b e = (f, refl, ok_same e)
 with_addresses_found called calling addresses (Err x) b e = absurd (ok_err e)
@@ -121,7 +127,8 @@ addressed_found forms a most called calling octets b low high e =
       spelled = sym (take-append-drop size octets) ∙ ap (λ (o : List ℕ). take size octets ++ o) found.spelled;
     })
 
-pub block_found : (forms : Forms) (a : Bool) (most : ℕ) (octets : List ℕ) (b : PlainBlock) → AreSmall octets → block_of forms a most octets ≡ Ok b → BlockFound forms a most octets b
+pub block_found : (forms : Forms) (a : Bool) (most : ℕ) (octets : List ℕ) (b : PlainBlock) → AreSmall octets → block_of forms a most octets ≡ Ok b
+    → BlockFound forms a most octets b
 block_found forms false most [] b small e = absurd (ok_err e)
 block_found forms false most (lengths ∷ octets) b small e =
     let few : lengths < 256 = small 0 in
@@ -146,7 +153,8 @@ record OptionalFound (forms : Forms) (a : Bool) (most : ℕ) (octets : List ℕ)
   pub is_block : MayBeBlock forms a most b
   pub spelled : octets ≡ optional_octets a b
 
-optional_found : (forms : Forms) (a : Bool) (most : ℕ) (octets : List ℕ) (b : Option PlainBlock) → AreSmall octets → optional_block forms a most octets ≡ Ok b → OptionalFound forms a most octets b
+optional_found : (forms : Forms) (a : Bool) (most : ℕ) (octets : List ℕ) (b : Option PlainBlock) → AreSmall octets → optional_block forms a most octets ≡ Ok b
+    → OptionalFound forms a most octets b
 optional_found forms a most [] b small e = subst (OptionalFound forms a most []) (ok_same e) (record { is_block = tt; spelled = refl })
 optional_found forms a most (octet ∷ rest) b small e =
     let parts = mapped_found Some (block_of forms a most (octet ∷ rest)) b e in
@@ -163,15 +171,18 @@ record Found (forms : Forms) (a : Bool) (most channel kind : ℕ) (body : List �
   pub body_is : body ≡ body_of a k
 
 -- a type of its own
-typed : (forms : Forms) (a : Bool) (most channel known kind : ℕ) (body : List ℕ) (k : PlainKind) → nat_eq kind known ≡ true → Found forms a most channel known body k → Found forms a most channel kind body k
+typed : (forms : Forms) (a : Bool) (most channel known kind : ℕ) (body : List ℕ) (k : PlainKind) → nat_eq kind known ≡ true
+    → Found forms a most channel known body k → Found forms a most channel kind body k
 typed forms a most channel known kind body k e f = let P : ℕ → Type 0 = λ n. Found forms a most channel n body k in subst P (sym (eqb-true _ _ e)) f
 
-bare_found : (forms : Forms) (a : Bool) (most channel kind : ℕ) (body : List ℕ) (v k : PlainKind) → Found forms a most channel kind [] v → bare v body ≡ Ok k → Found forms a most channel kind body k
+bare_found : (forms : Forms) (a : Bool) (most channel kind : ℕ) (body : List ℕ) (v k : PlainKind) → Found forms a most channel kind [] v → bare v body ≡ Ok k
+    → Found forms a most channel kind body k
 bare_found forms a most channel kind [] v k f e = subst (Found forms a most channel kind []) (ok_same e) f
 bare_found forms a most channel kind (octet ∷ rest) v k f e = absurd (ok_err e)
 
 caused_found : (forms : Forms) (a : Bool) (most channel kind : ℕ) (v : ℕ → Option ℕ → PlainKind) (body : List ℕ) (k : PlainKind)
-    → ((c : ℕ) (d : Option ℕ) → MayLack forms d → Found forms a most channel kind (reason_octets c d) (v c d)) → caused v (reason_of forms body) ≡ Ok k → Found forms a most channel kind body k
+    → ((c : ℕ) (d : Option ℕ) → MayLack forms d → Found forms a most channel kind (reason_octets c d) (v c d)) → caused v (reason_of forms body) ≡ Ok k
+    → Found forms a most channel kind body k
 caused_found forms a most channel kind v [] k f e = absurd (ok_err e)
 caused_found Written a most channel kind v (c ∷ []) k f e = absurd (ok_err e)
 caused_found Any a most channel kind v (c ∷ []) k f e = subst (Found Any a most channel kind (c ∷ [])) (ok_same e) (f c None tt)
@@ -189,14 +200,16 @@ short_found most (Some f) h = elim (chosen (nat_le (length f.user) most) true _ 
     split true b e = refl
     split false b e = e
 
-call_found : (forms : Forms) (a : Bool) (most channel : ℕ) (body : List ℕ) (k : PlainKind) → 1 ≤ channel → AreSmall body → call_of forms a most body ≡ Ok k → Found forms a most channel 11 body k
+call_found : (forms : Forms) (a : Bool) (most channel : ℕ) (body : List ℕ) (k : PlainKind) → 1 ≤ channel → AreSmall body → call_of forms a most body ≡ Ok k
+    → Found forms a most channel 11 body k
 call_found Written a most channel body k on small e =
     let parts = mapped_found call (block_of Written a most body) k e in
     let found = block_found Written a most body parts.0 small parts.1 in
     subst (Found Written a most channel 11 body) parts.2 (record { is_kind = found.is_block; place = on; type_is = refl; body_is = found.spelled })
 call_found Any a most channel body k on small e = go (block_of Any a (max most 128) body) (λ b. block_found Any a (max most 128) body b small) e
   where
-    go : (r : Result PlainBlock PacketError) → ((b : PlainBlock) → r ≡ Ok b → BlockFound Any a (max most 128) body b) → called most r ≡ Ok k → Found Any a most channel 11 body k
+    go : (r : Result PlainBlock PacketError) → ((b : PlainBlock) → r ≡ Ok b → BlockFound Any a (max most 128) body b) → called most r ≡ Ok k
+        → Found Any a most channel 11 body k
     go (Err x) f e = absurd (ok_err e)
     go (Ok b) f e =
         let short = kept (is_short most b.fields) _ _ k e in
@@ -214,7 +227,8 @@ no_lengths : (lengths : ℕ) (rest : List ℕ) → written_answer (lengths ∷ r
 no_lengths lengths [] e = eqb-true _ _ (kept (nat_eq lengths 0) (Ok tt) _ tt e).0
 no_lengths lengths (size ∷ rest) e = eqb-true _ _ (kept (nat_eq lengths 0) _ _ tt e).0
 
-has_facilities : (lengths : ℕ) (rest : List ℕ) (f : Option PlainFields) → written_answer (lengths ∷ rest) ≡ Ok tt → rest ≡ fields_octets f → MayBeFields Written 0 f → HasFacilities f
+has_facilities : (lengths : ℕ) (rest : List ℕ) (f : Option PlainFields) → written_answer (lengths ∷ rest) ≡ Ok tt → rest ≡ fields_octets f
+    → MayBeFields Written 0 f → HasFacilities f
 has_facilities lengths rest None e same is = absurd is
 has_facilities lengths [] (Some f) e same is = let none : 0 ≡ length (fields_octets (Some f)) = ap length same in absurd (omega (arith, none))
 has_facilities lengths (size ∷ rest) (Some f) e same is =
@@ -222,7 +236,8 @@ has_facilities lengths (size ∷ rest) (Some f) e same is =
     let first : size ≡ length f.facilities = ap (λ (o : List ℕ). get_or o 0 0) same in
     omega arith
 
-answered : (body : List ℕ) (b : Option PlainBlock) → body ≡ optional_octets false b → MayBeBlock Written false 0 b → written_answer body ≡ Ok tt → IsAnswer Written false b
+answered : (body : List ℕ) (b : Option PlainBlock) → body ≡ optional_octets false b → MayBeBlock Written false 0 b → written_answer body ≡ Ok tt
+    → IsAnswer Written false b
 answered body None same is e = tt
 answered [] (Some b) same is e = let none : 0 ≡ length (block_octets false b) = ap length same in absurd (omega (arith, none))
 answered (lengths ∷ rest) (Some b) same is e =
@@ -235,7 +250,8 @@ answered (lengths ∷ rest) (Some b) same is e =
     let tail : rest ≡ b.addresses ++ fields_octets b.fields = ap (λ (o : List ℕ). drop 1 o) same in
     (is, called, calling, has_facilities lengths rest b.fields e (tail ∙ ap (λ (o : List ℕ). o ++ fields_octets b.fields) empty) is.fields)
 
-accept_found : (forms : Forms) (a d : Bool) (most channel : ℕ) (body : List ℕ) (k : PlainKind) → may_have forms a d 15 ≡ true → 1 ≤ channel → AreSmall body → accept_of forms a body ≡ Ok k
+accept_found : (forms : Forms) (a d : Bool) (most channel : ℕ) (body : List ℕ) (k : PlainKind) → may_have forms a d 15 ≡ true → 1 ≤ channel → AreSmall body
+    → accept_of forms a body ≡ Ok k
     → Found forms a most channel 15 body k
 accept_found Written true d most channel body k marks on small e = let bad : false ≡ true = marks in absurd (cc)
 accept_found Written false d most channel body k marks on small e =
@@ -249,15 +265,18 @@ accept_found Any a d most channel body k marks on small e =
     let found = optional_found Any a 128 body parts.0 small parts.1 in
     subst (Found Any a most channel 15 body) parts.2 (record { is_kind = found.is_block; place = on; type_is = refl; body_is = found.spelled })
 
-clear_conf_found : (forms : Forms) (a : Bool) (most channel : ℕ) (body : List ℕ) (k : PlainKind) → 1 ≤ channel → AreSmall body → clear_conf_of forms a body ≡ Ok k
+clear_conf_found : (forms : Forms) (a : Bool) (most channel : ℕ) (body : List ℕ) (k : PlainKind) → 1 ≤ channel → AreSmall body → clear_conf_of forms a body
+    ≡ Ok k
     → Found forms a most channel 23 body k
-clear_conf_found Written a most channel body k on small e = bare_found Written a most channel 23 body (clear_conf None) k (record { is_kind = refl; place = on; type_is = refl; body_is = refl }) e
+clear_conf_found Written a most channel body k on small e = bare_found Written a most channel 23 body (clear_conf None) k
+    (record { is_kind = refl; place = on; type_is = refl; body_is = refl }) e
 clear_conf_found Any a most channel body k on small e =
     let parts = mapped_found clear_conf (optional_block Any a 0 body) k e in
     let found = optional_found Any a 0 body parts.0 small parts.1 in
     subst (Found Any a most channel 23 body) parts.2 (record { is_kind = found.is_block; place = on; type_is = refl; body_is = found.spelled })
 
-clear_found : (forms : Forms) (a : Bool) (most channel : ℕ) (body : List ℕ) (k : PlainKind) → 1 ≤ channel → AreSmall body → clear_of forms a body ≡ Ok k → Found forms a most channel 19 body k
+clear_found : (forms : Forms) (a : Bool) (most channel : ℕ) (body : List ℕ) (k : PlainKind) → 1 ≤ channel → AreSmall body → clear_of forms a body ≡ Ok k
+    → Found forms a most channel 19 body k
 clear_found forms a most channel [] k on small e = absurd (ok_err e)
 clear_found Written a most channel (c ∷ []) k on small e = absurd (ok_err e)
 clear_found Any a most channel (c ∷ []) k on small e =
@@ -271,7 +290,8 @@ clear_found Any a most channel (c ∷ d ∷ octet ∷ rest) k on small e =
     subst (Found Any a most channel 19 (c ∷ d ∷ octet ∷ rest)) parts.2
     (record { is_kind = found.is_block; place = on; type_is = refl; body_is = ap (λ (o : List ℕ). c ∷ d ∷ o) found.spelled })
 
-interrupt_found : (forms : Forms) (a : Bool) (most channel : ℕ) (body : List ℕ) (k : PlainKind) → 1 ≤ channel → interrupt_of body ≡ Ok k → Found forms a most channel 35 body k
+interrupt_found : (forms : Forms) (a : Bool) (most channel : ℕ) (body : List ℕ) (k : PlainKind) → 1 ≤ channel → interrupt_of body ≡ Ok k
+    → Found forms a most channel 35 body k
 interrupt_found forms a most channel [] k on e = absurd (ok_err e)
 interrupt_found forms a most channel (octet ∷ rest) k on e =
     let short = kept (nat_le (length (octet ∷ rest)) 32) _ _ k e in
@@ -283,7 +303,8 @@ bit_eq zero h = refl
 bit_eq (suc zero) h = refl
 bit_eq (suc (suc n)) h = absurd (omega arith)
 
-data_found : (forms : Forms) (a : Bool) (most channel kind : ℕ) (body : List ℕ) (k : PlainKind) → 1 ≤ channel → kind < 256 → kind % 2 ≡ 0 → data_of kind body ≡ Ok k → Found forms a most channel kind body k
+data_found : (forms : Forms) (a : Bool) (most channel kind : ℕ) (body : List ℕ) (k : PlainKind) → 1 ≤ channel → kind < 256 → kind % 2 ≡ 0 → data_of kind body
+    ≡ Ok k → Found forms a most channel kind body k
 data_found forms a most channel kind body k on small even e =
     let short = kept (nat_le (length body) 4096) _ _ k e in
     let mark = bit_eq (kind / 16 % 2) (omega arith) in
@@ -298,9 +319,11 @@ diagnostic_found : (a : Bool) (most : ℕ) (body : List ℕ) (k : PlainKind) →
 diagnostic_found a most [] k e = absurd (ok_err e)
 diagnostic_found a most (number ∷ explanation) k e =
     let short = kept (nat_le (length explanation) 3) _ _ k e in
-    subst (Found Any a most 0 241 (number ∷ explanation)) (ok_same short.1) (record { is_kind = leb-true _ _ short.0; place = refl; type_is = refl; body_is = refl })
+    subst (Found Any a most 0 241 (number ∷ explanation)) (ok_same short.1)
+    (record { is_kind = leb-true _ _ short.0; place = refl; type_is = refl; body_is = refl })
 
-registered_found : (a : Bool) (most kind : ℕ) (f : List ℕ → PlainKind) (body : List ℕ) (k : PlainKind) → (length body ≤ 4096 → Found Any a most 0 kind body (f body))
+registered_found : (a : Bool) (most kind : ℕ) (f : List ℕ → PlainKind) (body : List ℕ) (k : PlainKind)
+    → (length body ≤ 4096 → Found Any a most 0 kind body (f body))
     → mapped f (registered body) ≡ Ok k → Found Any a most 0 kind body k
 registered_found a most kind f body k found e =
     let parts = mapped_found f (registered body) k e in
@@ -319,7 +342,8 @@ others_found Any a most kind body k e = elim (chosen (nat_eq kind 241) _ _ _ e) 
   ]
 ]
 
-unchannelled_found : (forms : Forms) (a : Bool) (most kind : ℕ) (body : List ℕ) (k : PlainKind) → unchannelled forms kind body ≡ Ok k → Found forms a most 0 kind body k
+unchannelled_found : (forms : Forms) (a : Bool) (most kind : ℕ) (body : List ℕ) (k : PlainKind) → unchannelled forms kind body ≡ Ok k
+    → Found forms a most 0 kind body k
 unchannelled_found forms a most kind body k e = elim (chosen (nat_eq kind 251) _ _ _ e) [
   | inl p ↦ typed forms a most 0 251 kind body k p.0
       (caused_found forms a most 0 251 restart body k (λ c d may. record { is_kind = may; place = refl; type_is = refl; body_is = refl }) p.1)
@@ -330,17 +354,21 @@ unchannelled_found forms a most kind body k e = elim (chosen (nat_eq kind 251) _
   ]
 ]
 
-rej_found : (forms : Forms) (a : Bool) (most channel kind : ℕ) (body : List ℕ) (k : PlainKind) → 1 ≤ channel → kind < 256 → kind % 32 ≡ 9 → rej_of forms (kind / 32) body ≡ Ok k
+rej_found : (forms : Forms) (a : Bool) (most channel kind : ℕ) (body : List ℕ) (k : PlainKind) → 1 ≤ channel → kind < 256 → kind % 32 ≡ 9
+    → rej_of forms (kind / 32) body ≡ Ok k
     → Found forms a most channel kind body k
 rej_found Written a most channel kind body k on small h e = absurd (ok_err e)
 rej_found Any a most channel kind body k on small h e =
-    bare_found Any a most channel kind body (rej (kind / 32)) k (record { is_kind = omega (arith, small); place = on; type_is = omega (arith, h); body_is = refl }) e
+    bare_found Any a most channel kind body (rej (kind / 32)) k
+    (record { is_kind = omega (arith, small); place = on; type_is = omega (arith, h); body_is = refl }) e
 
-named_found : (forms : Forms) (a d : Bool) (most channel kind : ℕ) (body : List ℕ) (k : PlainKind) → may_have forms a d kind ≡ true → 1 ≤ channel → AreSmall body → named forms a most kind body ≡ Ok k → Found forms a most channel kind body k
+named_found : (forms : Forms) (a d : Bool) (most channel kind : ℕ) (body : List ℕ) (k : PlainKind) → may_have forms a d kind ≡ true → 1 ≤ channel
+    → AreSmall body → named forms a most kind body ≡ Ok k → Found forms a most channel kind body k
 named_found forms a d most channel kind body k marks on small e = elim (chosen (nat_eq kind 11) _ _ _ e) [
   | inl p ↦ typed forms a most channel 11 kind body k p.0 (call_found forms a most channel body k on small p.1)
   | inr p ↦ elim (chosen (nat_eq kind 15) _ _ _ p.1) [
-    | inl q ↦ typed forms a most channel 15 kind body k q.0 (accept_found forms a d most channel body k (subst (λ n. may_have forms a d n ≡ true) (eqb-true _ _ q.0) marks) on small q.1)
+    | inl q ↦ typed forms a most channel 15 kind body k q.0
+        (accept_found forms a d most channel body k (subst (λ n. may_have forms a d n ≡ true) (eqb-true _ _ q.0) marks) on small q.1)
     | inr q ↦ elim (chosen (nat_eq kind 19) _ _ _ q.1) [
       | inl r ↦ typed forms a most channel 19 kind body k r.0 (clear_found forms a most channel body k on small r.1)
       | inr r ↦ elim (chosen (nat_eq kind 23) _ _ _ r.1) [
@@ -368,14 +396,17 @@ numbered_found : (forms : Forms) (a : Bool) (most channel kind low : ℕ) (f : �
     → (kind % 32 ≡ low → Found forms a most channel kind [] (f (kind / 32))) → bare (f (kind / 32)) body ≡ Ok k → Found forms a most channel kind body k
 numbered_found forms a most channel kind low f body k at found e = bare_found forms a most channel kind body (f (kind / 32)) k (found (eqb-true _ _ at)) e
 
-channelled_found : (forms : Forms) (a d : Bool) (most channel kind : ℕ) (body : List ℕ) (k : PlainKind) → may_have forms a d kind ≡ true → 1 ≤ channel → kind < 256 → AreSmall body → channelled forms a most kind body ≡ Ok k
+channelled_found : (forms : Forms) (a d : Bool) (most channel kind : ℕ) (body : List ℕ) (k : PlainKind) → may_have forms a d kind ≡ true → 1 ≤ channel
+    → kind < 256 → AreSmall body → channelled forms a most kind body ≡ Ok k
     → Found forms a most channel kind body k
 channelled_found forms a d most channel kind body k marks on small octets e = elim (chosen (nat_eq (kind % 2) 0) _ _ _ e) [
   | inl p ↦ data_found forms a most channel kind body k on small (eqb-true _ _ p.0) p.1
   | inr p ↦ elim (chosen (nat_eq (kind % 32) 1) _ _ _ p.1) [
-    | inl q ↦ numbered_found forms a most channel kind 1 rr body k q.0 (λ h. record { is_kind = omega (arith, small); place = on; type_is = omega (arith, h); body_is = refl }) q.1
+    | inl q ↦ numbered_found forms a most channel kind 1 rr body k q.0
+        (λ h. record { is_kind = omega (arith, small); place = on; type_is = omega (arith, h); body_is = refl }) q.1
     | inr q ↦ elim (chosen (nat_eq (kind % 32) 5) _ _ _ q.1) [
-      | inl r ↦ numbered_found forms a most channel kind 5 rnr body k r.0 (λ h. record { is_kind = omega (arith, small); place = on; type_is = omega (arith, h); body_is = refl }) r.1
+      | inl r ↦ numbered_found forms a most channel kind 5 rnr body k r.0
+          (λ h. record { is_kind = omega (arith, small); place = on; type_is = omega (arith, h); body_is = refl }) r.1
       | inr r ↦ elim (chosen (nat_eq (kind % 32) 9) _ _ _ r.1) [
         | inl s ↦ rej_found forms a most channel kind body k on small (eqb-true _ _ s.0) s.1
         | inr s ↦ named_found forms a d most channel kind body k marks on octets s.1
@@ -384,7 +415,8 @@ channelled_found forms a d most channel kind body k marks on small octets e = el
   ]
 ]
 
-kind_found : (forms : Forms) (a d : Bool) (most channel kind : ℕ) (body : List ℕ) (k : PlainKind) → may_have forms a d kind ≡ true → kind < 256 → AreSmall body → kind_of forms a most channel kind body ≡ Ok k → Found forms a most channel kind body k
+kind_found : (forms : Forms) (a d : Bool) (most channel kind : ℕ) (body : List ℕ) (k : PlainKind) → may_have forms a d kind ≡ true → kind < 256 → AreSmall body
+    → kind_of forms a most channel kind body ≡ Ok k → Found forms a most channel kind body k
 kind_found forms a d most channel kind body k marks small octets e = elim (chosen (nat_eq channel 0) _ _ _ e) [
   | inl p ↦ let P : ℕ → Type 0 = λ n. Found forms a most n kind body k in subst P (sym (eqb-true _ _ p.0)) (unchannelled_found forms a most kind body k p.1)
   | inr p ↦ let some : channel ≢ 0 = eqb-false _ _ p.0 in channelled_found forms a d most channel kind body k marks (omega arith) small octets p.1
@@ -397,7 +429,8 @@ with_head_found : (channel : ℕ) (q d : Bool) (r : Result PlainKind PacketError
 with_head_found channel q d (Ok k) w e = (k, refl, ok_same e)
 with_head_found channel q d (Err x) w e = absurd (ok_err e)
 
-pub found_spells : (forms : Forms) (most : ℕ) (octets : List ℕ) (w : PlainForm) → AreSmall octets → read_of forms most octets ≡ Ok w → Spells forms most w octets
+pub found_spells : (forms : Forms) (most : ℕ) (octets : List ℕ) (w : PlainForm) → AreSmall octets → read_of forms most octets ≡ Ok w
+    → Spells forms most w octets
 unfolding read_of
 found_spells forms most [] w small e = absurd (ok_err e)
 found_spells forms most (first ∷ []) w small e = absurd (ok_err e)
@@ -408,8 +441,10 @@ found_spells forms most (first ∷ second ∷ kind ∷ body) w small e =
     let format = kept (has_format forms first kind) _ _ w e in
     let channel = first % 16 * 256 + second in
     let marks = and_parts (nat_eq (first / 16 % 4) 1) _ format.0 in
-    let parts = with_head_found channel (nat_eq (first / 128) 1) (nat_eq (first / 64 % 2) 1) (kind_of forms (nat_eq (first / 128) 1) most channel kind body) w format.1 in
-    let found = kind_found forms (nat_eq (first / 128) 1) (nat_eq (first / 64 % 2) 1) most channel kind body parts.0 marks.1 (small 2) (λ i. small (suc (suc (suc i)))) parts.1 in
+    let parts = with_head_found channel (nat_eq (first / 128) 1) (nat_eq (first / 64 % 2) 1) (kind_of forms (nat_eq (first / 128) 1) most channel kind body) w
+    format.1 in
+    let found = kind_found forms (nat_eq (first / 128) 1) (nat_eq (first / 64 % 2) 1) most channel kind body parts.0 marks.1 (small 2)
+    (λ i. small (suc (suc (suc i)))) parts.1 in
     let modulo : first / 16 % 4 ≡ 1 = eqb-true _ _ marks.0 in
     let q = bit_eq (first / 128) (omega (arith, few)) in
     let d = bit_eq (first / 64 % 2) (omega arith) in
@@ -420,5 +455,6 @@ found_spells forms most (first ∷ second ∷ kind ∷ body) w small e =
         marks = rw found.type_is marks.1;
         kind = found.is_kind;
       };
-      spelling = front _ _ _ _ (rw (q, d) (omega (arith, few, less, modulo))) (front _ _ _ _ (omega (arith, few, less)) (front _ _ _ _ (sym found.type_is) found.body_is));
+      spelling = front _ _ _ _ (rw (q, d) (omega (arith, few, less, modulo)))
+          (front _ _ _ _ (omega (arith, few, less)) (front _ _ _ _ (sym found.type_is) found.body_is));
     })

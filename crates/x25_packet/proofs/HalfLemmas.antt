@@ -1,5 +1,6 @@
 -- Half octets as far as they are there, and the digits behind the type and the plan of an address.
-use Rattle.std.proofs.Common.{ℕ, zero, suc, ◌+◌, ◌-◌, ◌*◌, ◌/◌, ◌%◌, ◌<◌, ◌≤◌, ◌≡◌, ◌∙◌, Bool, true, false, List, [], ◌∷◌, length, take, drop, get_or, if◌then◌else◌, refl, ap, sym, arith, length-drop}
+use Rattle.std.proofs.Common.{ℕ, zero, suc, ◌+◌, ◌-◌, ◌*◌, ◌/◌, ◌%◌, ◌<◌, ◌≤◌, ◌≡◌, ◌∙◌, Bool, true, false, List, [], ◌∷◌, length, take, drop, get_or}
+use Rattle.std.proofs.Common.{if◌then◌else◌, refl, ap, sym, arith, length-drop}
 use Rattle.std.specs.Prelude.{◌&&◌, nat_le}
 use Rattle.std.proofs.Math.Nat.{min-le_left}
 use Rattle.std.proofs.lemmas.Bool.{and_parts, le-leb, leb-true}
@@ -48,7 +49,9 @@ if_few false xs few = omega arith
 
 behind_few : (b : PlainBlock) (start count : ℕ) → length (digits_behind b start count) ≤ 15
 behind_few b start count = if_few _ _ (λ is.
-    let short : count ≤ 17 = leb-true count 17 (and_parts (nat_le 2 count) (nat_le count 17) (and_parts (hold_digits (b.called + b.calling) b.addresses) (nat_le 2 count && nat_le count 17) is).1).1 in
+    let short : count ≤ 17 = leb-true count 17
+    (and_parts (nat_le 2 count) (nat_le count 17) (and_parts (hold_digits (b.called + b.calling) b.addresses) (nat_le 2 count && nat_le count 17) is).1).1
+    in
     take_few (count - 2) (drop (start + 2) (halves_of b.addresses)) (omega (arith, short)))
 
 pub called_few : (a : Bool) (body : List ℕ) → length (called_of a body) ≤ 15

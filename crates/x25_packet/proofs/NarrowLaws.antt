@@ -1,5 +1,6 @@
 -- What a station writes is read alike in both forms.
-use Rattle.std.proofs.Common.{ℕ, ◌+◌, ◌*◌, ◌/◌, ◌%◌, ◌<◌, ◌≤◌, ◌≡◌, ◌≢◌, ◌∙◌, Bool, true, false, List, [], ◌∷◌, ◌++◌, length, drop, refl, ap, sym, subst, arith, nat_eq, Option, Some, None, Result, Ok, Err}
+use Rattle.std.proofs.Common.{ℕ, ◌+◌, ◌*◌, ◌/◌, ◌%◌, ◌<◌, ◌≤◌, ◌≡◌, ◌≢◌, ◌∙◌, Bool, true, false, List, [], ◌∷◌, ◌++◌, length, drop, refl, ap, sym, subst, arith}
+use Rattle.std.proofs.Common.{nat_eq, Option, Some, None, Result, Ok, Err}
 use Rattle.std.proofs.lemmas.Bool.{and_parts, eqb-true}
 use Rattle.x25_bits.specs.Bits.{bit}
 use Rattle.x25_packet.specs.declared.error.PacketError.{PacketError}
@@ -13,10 +14,12 @@ use Rattle.x25_packet.specs.Reading.{packet_of}
 use Rattle.x25_packet.specs.Spelling as strict_spelling
 use Rattle.x25_packet.specs.Block.{PlainBlock, PlainFields, IsBlock}
 use Rattle.x25_packet.specs.Narrowing.{narrow_of, narrowed, taken_of}
-use Rattle.x25_packet.specs.Form.{PlainKind, PlainForm, call, accept, clear, extended_clear, clear_conf, user_data, rr, rnr, rej, interrupt, interrupt_conf, reset, reset_conf, restart, restart_conf, diagnostic, registration, registration_conf}
+use Rattle.x25_packet.specs.Form.{PlainKind, PlainForm, call, accept, clear, extended_clear, clear_conf, user_data, rr, rnr, rej, interrupt, interrupt_conf}
+use Rattle.x25_packet.specs.Form.{reset, reset_conf, restart, restart_conf, diagnostic, registration, registration_conf}
 use Rattle.x25_packet.specs.Form.Spelling.{spelling_of, type_of, may_have, HasFacilities, HasPlace, IsAnswer, IsKind, IsPacket, Spells}
 use Rattle.x25_packet.specs.Grammar.{read_of, form_in}
-use Rattle.x25_packet.proofs.AddressLaws.{drop_first, address_at, block_packed, block_when, called_again, calling_again, length-halves_at, length-pairs, packed_holds}
+use Rattle.x25_packet.proofs.AddressLaws.{drop_first, address_at, block_packed, block_when, called_again, calling_again, length-halves_at, length-pairs}
+use Rattle.x25_packet.proofs.AddressLaws.{packed_holds}
 use Rattle.x25_packet.proofs.AgainLaws.{read_again}
 use Rattle.x25_packet.proofs.FacilityLaws.{ok_err, ok_same}
 use Rattle.x25_packet.proofs.FieldLaws.{no_field, says_itself}
@@ -46,7 +49,8 @@ no_digits : hold_digits 0 [] ≡ true
 unfolding halves_of
 no_digits = refl
 
-accept_taken : (most channel : ℕ) (field : List ℕ) → strict_spelling.IsChannel channel → strict_field.IsFacilityField field → Taken Written most (strict.accept channel field)
+accept_taken : (most channel : ℕ) (field : List ℕ) → strict_spelling.IsChannel channel → strict_field.IsFacilityField field
+    → Taken Written most (strict.accept channel field)
 accept_taken most channel [] on f = record {
   wide = headed channel false (accept None);
   packet = record { channel = on.1; place = on.0; marks = refl; kind = tt };
@@ -119,7 +123,8 @@ first_data channel true false = refl
 first_data channel false true = refl
 first_data channel false false = refl
 
-data_taken : (forms : Forms) (most channel : ℕ) (marks : Marks) (m : Bool) (ps pr : ℕ) (user : List ℕ) → may_have forms marks.q marks.d (2 * ps + 16 * bit m + 32 * pr) ≡ true
+data_taken : (forms : Forms) (most channel : ℕ) (marks : Marks) (m : Bool) (ps pr : ℕ) (user : List ℕ)
+    → may_have forms marks.q marks.d (2 * ps + 16 * bit m + 32 * pr) ≡ true
     → strict_spelling.IsChannel channel → ps < 8 → pr < 8 → length user ≤ 4096 → Taken forms most (strict.user_data channel marks m ps pr user)
 data_taken forms most channel marks m ps pr user may on h k few = record {
   wide = record { channel = channel; bit_8 = marks.q; d = marks.d; kind = user_data m ps pr user };
@@ -146,7 +151,8 @@ any_marks q d m ps pr = by q d
     by false false = refl
 
 -- a packet of a channel without Q
-on_channel : (most channel : ℕ) (kind : PlainKind) → strict_spelling.IsChannel channel → HasPlace channel kind → may_have Written false false (type_of kind) ≡ true → IsKind Written false most kind
+on_channel : (most channel : ℕ) (kind : PlainKind) → strict_spelling.IsChannel channel → HasPlace channel kind → may_have Written false false (type_of kind)
+    ≡ true → IsKind Written false most kind
     → IsPacket Written most (headed channel false kind)
 on_channel most channel kind on place marks is = record { channel = on.1; place = place; marks = marks; kind = is }
 
@@ -154,7 +160,12 @@ taken : (most : ℕ) (v : strict.PlainPacket) → strict_spelling.IsInRange most
 taken most (strict.call channel called calling field user) h plain = call_taken most channel called calling field user h.0 h.1 h.2 h.3 h.4
 taken most (strict.accept channel field) h plain = accept_taken most channel field h.0 h.1
 taken most (strict.clear channel cause reason) h plain =
-    record { wide = headed channel false (clear cause (Some reason)); packet = on_channel most channel (clear cause (Some reason)) h h.0 refl tt; spelling = refl; taken = refl }
+    record {
+      wide = headed channel false (clear cause (Some reason));
+      packet = on_channel most channel (clear cause (Some reason)) h h.0 refl tt;
+      spelling = refl;
+      taken = refl;
+    }
 taken most (strict.clear_conf channel) h plain =
     record { wide = headed channel false (clear_conf None); packet = on_channel most channel (clear_conf None) h h.0 refl refl; spelling = refl; taken = refl }
 taken most (strict.user_data channel marks m ps pr user) h plain =
@@ -164,11 +175,21 @@ taken most (strict.rr channel pr) h plain =
 taken most (strict.rnr channel pr) h plain =
     record { wide = headed channel false (rnr pr); packet = on_channel most channel (rnr pr) h.0 h.0.0 refl h.1; spelling = refl; taken = refl }
 taken most (strict.interrupt channel user) h plain =
-    record { wide = headed channel false (interrupt user); packet = on_channel most channel (interrupt user) h.0 h.0.0 refl (h.1, h.2); spelling = refl; taken = refl }
+    record {
+      wide = headed channel false (interrupt user);
+      packet = on_channel most channel (interrupt user) h.0 h.0.0 refl (h.1, h.2);
+      spelling = refl;
+      taken = refl;
+    }
 taken most (strict.interrupt_conf channel) h plain =
     record { wide = headed channel false interrupt_conf; packet = on_channel most channel interrupt_conf h h.0 refl tt; spelling = refl; taken = refl }
 taken most (strict.reset channel cause reason) h plain =
-    record { wide = headed channel false (reset cause (Some reason)); packet = on_channel most channel (reset cause (Some reason)) h h.0 refl tt; spelling = refl; taken = refl }
+    record {
+      wide = headed channel false (reset cause (Some reason));
+      packet = on_channel most channel (reset cause (Some reason)) h h.0 refl tt;
+      spelling = refl;
+      taken = refl;
+    }
 taken most (strict.reset_conf channel) h plain =
     record { wide = headed channel false reset_conf; packet = on_channel most channel reset_conf h h.0 refl tt; spelling = refl; taken = refl }
 taken most (strict.restart cause reason) h plain = record {
@@ -178,27 +199,36 @@ taken most (strict.restart cause reason) h plain = record {
   taken = refl;
 }
 taken most strict.restart_conf h plain =
-    record { wide = headed 0 false restart_conf; packet = record { channel = omega arith; place = refl; marks = refl; kind = tt }; spelling = refl; taken = refl }
+    record {
+      wide = headed 0 false restart_conf;
+      packet = record { channel = omega arith; place = refl; marks = refl; kind = tt };
+      spelling = refl;
+      taken = refl;
+    }
 
 -- what is spelled so is read
-pub written_again : (most : ℕ) (v : strict.PlainPacket) → strict_spelling.IsInRange most v → strict_spelling.IsWithoutD v → packet_of most (strict_spelling.spelling_of v) ≡ Ok v
+pub written_again : (most : ℕ) (v : strict.PlainPacket) → strict_spelling.IsInRange most v → strict_spelling.IsWithoutD v
+    → packet_of most (strict_spelling.spelling_of v) ≡ Ok v
 written_again most v h plain = taken_as Written most v (taken most v h plain)
 
 pub only_written : (most : ℕ) (octets : List ℕ) (v : strict.PlainPacket) → strict_spelling.Spells most v octets → packet_of most octets ≡ Ok v
 only_written most octets v spells = ap (packet_of most) spells.spelling ∙ written_again most v spells.in_range spells.without_d
 
 -- what is appended reads as the packet
-pub appended_again : (most : ℕ) (v : strict.PlainPacket) (before after : List ℕ) → strict_spelling.IsInRange most v → strict_spelling.IsWithoutD v → after ≡ before ++ strict_spelling.spelling_of v
+pub appended_again : (most : ℕ) (v : strict.PlainPacket) (before after : List ℕ) → strict_spelling.IsInRange most v → strict_spelling.IsWithoutD v → after
+    ≡ before ++ strict_spelling.spelling_of v
     → packet_of most (drop (length before) after) ≡ Ok v
 appended_again most v before after h plain e =
-    ap (λ (o : List ℕ). packet_of most (drop (length before) o)) e ∙ ap (packet_of most) (drop_first before (strict_spelling.spelling_of v)) ∙ written_again most v h plain
+    ap (λ (o : List ℕ). packet_of most (drop (length before) o)) e ∙ ap (packet_of most) (drop_first before (strict_spelling.spelling_of v))
+    ∙ written_again most v h plain
 
 -- ---- it is one of any form
 
 -- the octets of a packet in its ranges, of data with D too, are taken for it
 pub spelled_taken : (most : ℕ) (v : strict.PlainPacket) → strict_spelling.IsInRange most v → taken_of (form_in most (strict_spelling.spelling_of v)) ≡ Ok v
 spelled_taken most (strict.user_data channel marks m ps pr user) h =
-    taken_as Any most (strict.user_data channel marks m ps pr user) (data_taken Any most channel marks m ps pr user (any_marks marks.q marks.d m ps pr) h.0 h.1 h.2 h.3)
+    taken_as Any most (strict.user_data channel marks m ps pr user)
+    (data_taken Any most channel marks m ps pr user (any_marks marks.q marks.d m ps pr) h.0 h.1 h.2 h.3)
 spelled_taken most v h = taken_wider most v (strict_spelling.spelling_of v) (written_again most v h tt)
 
 -- ---- what is read in the form that a station writes is taken for a packet that is spelled so
@@ -218,7 +248,8 @@ unmarked most channel true false k odd marks h n = absurd (odd (eqb-true _ _ (an
 unmarked most channel a true k odd marks h n = let bad : true ≡ false = no_d a true (type_of k) marks in absurd (cc)
 
 call_narrowed : (most channel called calling : ℕ) (addresses : List ℕ) (f : Option PlainFields) → strict_spelling.IsChannel channel
-    → (let b : PlainBlock = record { called = called; calling = calling; addresses = addresses; fields = f } in IsBlock Written false most b → Narrowed most (headed channel false (call b)))
+    → (let b : PlainBlock = record { called = called; calling = calling; addresses = addresses; fields = f } in IsBlock Written false most b
+    → Narrowed most (headed channel false (call b)))
 call_narrowed most channel called calling addresses None on h = absurd h.fields
 call_narrowed most channel called calling addresses (Some f) on h =
     let itself = says_itself f.facilities h.fields.facilities in
@@ -244,8 +275,14 @@ call_narrowed most channel called calling addresses (Some f) on h =
           (rw (first, second, block_packed called calling addresses size digits) refl);
     }
 
-accept_narrowed : (most channel called calling : ℕ) (addresses facilities user : List ℕ) → strict_spelling.IsChannel channel → called ≡ 0 → calling ≡ 0 → 1 ≤ length facilities
-    → (let b : PlainBlock = record { called = called; calling = calling; addresses = addresses; fields = Some (record { facilities = facilities; user = user }) } in
+accept_narrowed : (most channel called calling : ℕ) (addresses facilities user : List ℕ) → strict_spelling.IsChannel channel → called ≡ 0 → calling ≡ 0 → 1
+    ≤ length facilities
+    → (let b : PlainBlock = record {
+      called = called;
+      calling = calling;
+      addresses = addresses;
+      fields = Some (record { facilities = facilities; user = user });
+    } in
     IsBlock Written false 0 b → Narrowed most (headed channel false (accept (Some b))))
 accept_narrowed most channel called calling addresses [] user on none also some h = absurd (omega (arith, some))
 accept_narrowed most channel called calling addresses (octet ∷ more) user on none also some h =
@@ -254,7 +291,12 @@ accept_narrowed most channel called calling addresses (octet ∷ more) user on n
     let short : length user ≤ 0 = h.fields.short in
     let empty : addresses ≡ [] = empty_of addresses (omega (arith, size, none, also)) in
     let alone : user ≡ [] = empty_of user (omega (arith, short)) in
-    let block : PlainBlock = record { called = called; calling = calling; addresses = addresses; fields = Some (record { facilities = octet ∷ more; user = user }) } in
+    let block : PlainBlock = record {
+      called = called;
+      calling = calling;
+      addresses = addresses;
+      fields = Some (record { facilities = octet ∷ more; user = user });
+    } in
     record {
       v = strict.accept channel (octet ∷ more);
       taken = ap (narrowed (headed channel false (accept (Some block)))) itself.said;
@@ -263,24 +305,28 @@ accept_narrowed most channel called calling addresses (octet ∷ more) user on n
       spelling = ap (λ (o : List ℕ). (16 + channel / 256) ∷ channel % 256 ∷ 15 ∷ o) (rw (none, also, empty, alone, nothing_behind more) refl);
     }
 
-answer_narrowed : (most channel : ℕ) (b : Option PlainBlock) → strict_spelling.IsChannel channel → IsAnswer Written false b → Narrowed most (headed channel false (accept b))
+answer_narrowed : (most channel : ℕ) (b : Option PlainBlock) → strict_spelling.IsChannel channel → IsAnswer Written false b
+    → Narrowed most (headed channel false (accept b))
 answer_narrowed most channel None on h =
     record { v = strict.accept channel []; taken = refl; in_range = (on, no_field); without_d = tt; spelling = refl }
 answer_narrowed most channel (Some b) on h = by b.fields h.3 h.0
   where
-    by : (f : Option PlainFields) → HasFacilities f → (let c : PlainBlock = record { called = b.called; calling = b.calling; addresses = b.addresses; fields = f } in
+    by : (f : Option PlainFields) → HasFacilities f
+        → (let c : PlainBlock = record { called = b.called; calling = b.calling; addresses = b.addresses; fields = f } in
         IsBlock Written false 0 c → Narrowed most (headed channel false (accept (Some c))))
     by None some is = absurd some
     by (Some f) some is = accept_narrowed most channel b.called b.calling b.addresses f.facilities f.user on h.1 h.2 some is
 
-kind_narrowed : (most channel : ℕ) (a d : Bool) (k : PlainKind) → channel ≤ 4095 → HasPlace channel k → may_have Written a d (type_of k) ≡ true → IsKind Written a most k
+kind_narrowed : (most channel : ℕ) (a d : Bool) (k : PlainKind) → channel ≤ 4095 → HasPlace channel k → may_have Written a d (type_of k) ≡ true
+    → IsKind Written a most k
     → Narrowed most (record { channel = channel; bit_8 = a; d = d; kind = k })
 kind_narrowed most channel a d (call b) few place marks h = unmarked most channel a d (call b) (λ e. absurd (omega (arith, e))) marks h
     (call_narrowed most channel b.called b.calling b.addresses b.fields (place, few))
 kind_narrowed most channel a d (accept b) few place marks h = unmarked most channel a d (accept b) (λ e. absurd (omega (arith, e))) marks h
     (answer_narrowed most channel b (place, few))
 kind_narrowed most channel a d (clear cause None) few place marks h = absurd h
-kind_narrowed most channel a d (clear cause (Some reason)) few place marks h = unmarked most channel a d (clear cause (Some reason)) (λ e. absurd (omega (arith, e))) marks h
+kind_narrowed most channel a d (clear cause (Some reason)) few place marks h =
+    unmarked most channel a d (clear cause (Some reason)) (λ e. absurd (omega (arith, e))) marks h
     (λ _. record { v = strict.clear channel cause reason; taken = refl; in_range = (place, few); without_d = tt; spelling = refl })
 kind_narrowed most channel a d (extended_clear cause reason b) few place marks h = absurd h
 kind_narrowed most channel a d (clear_conf None) few place marks h = unmarked most channel a d (clear_conf None) (λ e. absurd (omega (arith, e))) marks h
@@ -303,12 +349,14 @@ kind_narrowed most channel a d (interrupt user) few place marks h = unmarked mos
 kind_narrowed most channel a d interrupt_conf few place marks h = unmarked most channel a d interrupt_conf (λ e. absurd (omega (arith, e))) marks h
     (λ _. record { v = strict.interrupt_conf channel; taken = refl; in_range = (place, few); without_d = tt; spelling = refl })
 kind_narrowed most channel a d (reset cause None) few place marks h = absurd h
-kind_narrowed most channel a d (reset cause (Some reason)) few place marks h = unmarked most channel a d (reset cause (Some reason)) (λ e. absurd (omega (arith, e))) marks h
+kind_narrowed most channel a d (reset cause (Some reason)) few place marks h =
+    unmarked most channel a d (reset cause (Some reason)) (λ e. absurd (omega (arith, e))) marks h
     (λ _. record { v = strict.reset channel cause reason; taken = refl; in_range = (place, few); without_d = tt; spelling = refl })
 kind_narrowed most channel a d reset_conf few place marks h = unmarked most channel a d reset_conf (λ e. absurd (omega (arith, e))) marks h
     (λ _. record { v = strict.reset_conf channel; taken = refl; in_range = (place, few); without_d = tt; spelling = refl })
 kind_narrowed most channel a d (restart cause None) few place marks h = absurd h
-kind_narrowed most channel a d (restart cause (Some reason)) few place marks h = unmarked most channel a d (restart cause (Some reason)) (λ e. absurd (omega (arith, e))) marks h
+kind_narrowed most channel a d (restart cause (Some reason)) few place marks h =
+    unmarked most channel a d (restart cause (Some reason)) (λ e. absurd (omega (arith, e))) marks h
     (λ _. record { v = strict.restart cause reason; taken = refl; in_range = tt; without_d = tt; spelling = rw place refl })
 kind_narrowed most channel a d restart_conf few place marks h = unmarked most channel a d restart_conf (λ e. absurd (omega (arith, e))) marks h
     (λ _. record { v = strict.restart_conf; taken = refl; in_range = tt; without_d = tt; spelling = rw place refl })

@@ -1,5 +1,6 @@
 -- What a packet is taken for is in its ranges.
-use Rattle.std.proofs.Common.{ℕ, ◌+◌, ◌-◌, ◌<◌, ◌≤◌, ◌≡◌, Bool, true, false, List, [], length, refl, sym, subst, inl, inr, arith, Option, Some, None, Result, Ok, Err}
+use Rattle.std.proofs.Common.{ℕ, ◌+◌, ◌-◌, ◌<◌, ◌≤◌, ◌≡◌, Bool, true, false, List, [], length, refl, sym, subst, inl, inr, arith, Option, Some, None, Result}
+use Rattle.std.proofs.Common.{Ok, Err}
 use Rattle.std.specs.Prelude.{max, nat_le, ◌&&◌, if◌then◌else◌}
 use Rattle.std.proofs.lemmas.Bool.{and_parts, leb-true}
 use Rattle.x25_packet.proofs.AddressLaws.{address_at, block_when}
@@ -12,7 +13,8 @@ use Rattle.x25_packet.specs.declared.facilities.Directions.{Directions}
 use Rattle.x25_packet.specs.Block.{AreAddresses, MayBeFields, PlainBlock, PlainFields}
 use Rattle.x25_packet.specs.Classes.{none_own, own_in}
 use Rattle.x25_packet.specs.Narrowing.{are_within, field_in, field_said, field_taken, user_taken, called_taken, calling_taken, digits_behind, with_field}
-use Rattle.x25_packet.specs.Form.{PlainKind, call, accept, clear, extended_clear, clear_conf, user_data, rr, rnr, rej, interrupt, interrupt_conf, reset, reset_conf, restart, restart_conf, diagnostic, registration, registration_conf}
+use Rattle.x25_packet.specs.Form.{PlainKind, call, accept, user_data, rr, rnr, rej, interrupt, restart, restart_conf, diagnostic, registration}
+use Rattle.x25_packet.specs.Form.{registration_conf}
 use Rattle.x25_packet.specs.Form.Spelling.{HasPlace, IsKind}
 use Rattle.x25_packet.specs.declared.classes.Own.{Own}
 use Rattle.x25_packet.specs.declared.form.Forms.TheVariants.{Any}
@@ -54,24 +56,8 @@ nothing_fits field e = subst strict_field.IsFacilityField (ok_same e) no_field
 
 pub field_fits : (k : PlainKind) (field : List ℕ) → field_in k ≡ Ok field → strict_field.IsFacilityField field
 field_fits (call block) field e = taken_fits block.fields field e
-field_fits (accept None) field e = nothing_fits field e
 field_fits (accept (Some block)) field e = taken_fits block.fields field e
-field_fits (clear cause reason) field e = nothing_fits field e
-field_fits (extended_clear cause reason block) field e = nothing_fits field e
-field_fits (clear_conf block) field e = nothing_fits field e
-field_fits (user_data m ps pr user) field e = nothing_fits field e
-field_fits (rr pr) field e = nothing_fits field e
-field_fits (rnr pr) field e = nothing_fits field e
-field_fits (rej pr) field e = nothing_fits field e
-field_fits (interrupt user) field e = nothing_fits field e
-field_fits interrupt_conf field e = nothing_fits field e
-field_fits (reset cause reason) field e = nothing_fits field e
-field_fits reset_conf field e = nothing_fits field e
-field_fits (restart cause reason) field e = nothing_fits field e
-field_fits restart_conf field e = nothing_fits field e
-field_fits (diagnostic number explanation) field e = nothing_fits field e
-field_fits (registration octets) field e = nothing_fits field e
-field_fits (registration_conf octets) field e = nothing_fits field e
+field_fits k field e = nothing_fits field e
 
 -- ---- the packet
 
@@ -122,19 +108,14 @@ pub in_range : (most channel : ℕ) (q d : Bool) (k : PlainKind) (field : List �
 in_range most channel q d (call block) field within few place h f =
     ((place, few), called_address q block h.0.addresses, calling_address q block h.0.addresses, f, user_few most block.fields within h.0.fields)
 in_range most channel q d (accept block) field within few place h f = ((place, few), f)
-in_range most channel q d (clear cause reason) field within few place h f = (place, few)
-in_range most channel q d (extended_clear cause reason block) field within few place h f = (place, few)
-in_range most channel q d (clear_conf block) field within few place h f = (place, few)
 in_range most channel q d (user_data m ps pr user) field within few place h f = ((place, few), h.0, h.1, h.2)
 in_range most channel q d (rr pr) field within few place h f = ((place, few), h)
 in_range most channel q d (rnr pr) field within few place h f = ((place, few), h)
 in_range most channel q d (rej pr) field within few place h f = tt
 in_range most channel q d (interrupt user) field within few place h f = ((place, few), h.0, h.1)
-in_range most channel q d interrupt_conf field within few place h f = (place, few)
-in_range most channel q d (reset cause reason) field within few place h f = (place, few)
-in_range most channel q d reset_conf field within few place h f = (place, few)
 in_range most channel q d (restart cause reason) field within few place h f = tt
 in_range most channel q d restart_conf field within few place h f = tt
 in_range most channel q d (diagnostic number explanation) field within few place h f = tt
 in_range most channel q d (registration octets) field within few place h f = tt
 in_range most channel q d (registration_conf octets) field within few place h f = tt
+in_range most channel q d k field within few place h f = (place, few)

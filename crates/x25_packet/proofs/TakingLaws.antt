@@ -1,5 +1,6 @@
 -- What a station takes octets for: its channel, its user data, and the ranges of its fields.
-use Rattle.std.proofs.Common.{ℕ, zero, suc, lit≤, ◌+◌, ◌*◌, ◌/◌, ◌%◌, ◌<◌, ◌≤◌, ◌≡◌, ◌∙◌, Bool, true, false, List, [], ◌∷◌, ◌++◌, length, take, refl, ap, sym, subst, arith, All, Some, Result, Ok, Err}
+use Rattle.std.proofs.Common.{ℕ, zero, suc, lit≤, ◌+◌, ◌*◌, ◌/◌, ◌%◌, ◌<◌, ◌≤◌, ◌≡◌, ◌∙◌, Bool, true, false, List, [], ◌∷◌, ◌++◌, length, take, refl, ap, sym}
+use Rattle.std.proofs.Common.{subst, arith, All, Some, Result, Ok, Err}
 use Rattle.x25_bits.specs.Bits.{bit}
 use Rattle.x25_packet.specs.declared.form.Forms.TheVariants.{Any}
 use Rattle.x25_packet.specs.Packet as strict
@@ -8,7 +9,7 @@ use Rattle.x25_packet.specs.Spelling as strict_spelling
 use Rattle.x25_packet.specs.Spelling.{HasChannel, channel_of}
 use Rattle.x25_packet.specs.declared.error.PacketError.{PacketError}
 use Rattle.x25_packet.specs.Narrowing.{field_in, narrow_of, narrowed, taken_of, with_field}
-use Rattle.x25_packet.specs.Form.{PlainKind, PlainForm, call, accept, clear, extended_clear, clear_conf, user_data, rr, rnr, rej, interrupt, interrupt_conf, reset, reset_conf, restart, restart_conf, diagnostic, registration, registration_conf}
+use Rattle.x25_packet.specs.Form.{PlainKind, PlainForm, user_data, rej, restart, restart_conf, diagnostic, registration, registration_conf}
 use Rattle.x25_packet.specs.Form.Spelling.{spelling_of, body_of, Spells}
 use Rattle.x25_packet.specs.Grammar.{form_in}
 use Rattle.x25_packet.specs.Taking.{read_in}
@@ -33,25 +34,15 @@ wide_names w few = at w.channel (bit w.bit_8) (bit w.d) few
 
 -- ---- what a packet in any form is taken for
 
-with_names : (channel : ℕ) (q d : Bool) (k : PlainKind) (field : List ℕ) (v : strict.PlainPacket) → with_field channel q d k field ≡ Ok v → HasChannel v → channel_of v ≡ channel
-with_names channel q d (call block) field v e has = ap channel_of (sym (ok_same e))
-with_names channel q d (accept block) field v e has = ap channel_of (sym (ok_same e))
-with_names channel q d (clear cause reason) field v e has = ap channel_of (sym (ok_same e))
-with_names channel q d (extended_clear cause reason block) field v e has = ap channel_of (sym (ok_same e))
-with_names channel q d (clear_conf block) field v e has = ap channel_of (sym (ok_same e))
-with_names channel q d (user_data m ps pr user) field v e has = ap channel_of (sym (ok_same e))
-with_names channel q d (rr pr) field v e has = ap channel_of (sym (ok_same e))
-with_names channel q d (rnr pr) field v e has = ap channel_of (sym (ok_same e))
+with_names : (channel : ℕ) (q d : Bool) (k : PlainKind) (field : List ℕ) (v : strict.PlainPacket) → with_field channel q d k field ≡ Ok v → HasChannel v
+    → channel_of v ≡ channel
 with_names channel q d (rej pr) field v e has = absurd (ok_err e)
-with_names channel q d (interrupt user) field v e has = ap channel_of (sym (ok_same e))
-with_names channel q d interrupt_conf field v e has = ap channel_of (sym (ok_same e))
-with_names channel q d (reset cause reason) field v e has = ap channel_of (sym (ok_same e))
-with_names channel q d reset_conf field v e has = ap channel_of (sym (ok_same e))
 with_names channel q d (restart cause reason) field v e has = absurd (subst HasChannel (sym (ok_same e)) has)
 with_names channel q d restart_conf field v e has = absurd (subst HasChannel (sym (ok_same e)) has)
 with_names channel q d (diagnostic number explanation) field v e has = absurd (ok_err e)
 with_names channel q d (registration octets) field v e has = absurd (ok_err e)
 with_names channel q d (registration_conf octets) field v e has = absurd (ok_err e)
+with_names channel q d k field v e has = ap channel_of (sym (ok_same e))
 
 abbrev IsData : strict.PlainPacket → Type 0
 IsData (strict.user_data channel q m ps pr user) = Unit {0}
@@ -62,28 +53,18 @@ user_of (strict.user_data channel q m ps pr user) = user
 user_of other = []
 
 -- of data packets alone user data is a packet's body
-with_user : (channel : ℕ) (q d : Bool) (k : PlainKind) (field : List ℕ) (v : strict.PlainPacket) → with_field channel q d k field ≡ Ok v → IsData v → body_of q k ≡ user_of v
-with_user channel q d (call block) field v e is_data = absurd (subst IsData (sym (ok_same e)) is_data)
-with_user channel q d (accept block) field v e is_data = absurd (subst IsData (sym (ok_same e)) is_data)
-with_user channel q d (clear cause reason) field v e is_data = absurd (subst IsData (sym (ok_same e)) is_data)
-with_user channel q d (extended_clear cause reason block) field v e is_data = absurd (subst IsData (sym (ok_same e)) is_data)
-with_user channel q d (clear_conf block) field v e is_data = absurd (subst IsData (sym (ok_same e)) is_data)
+with_user : (channel : ℕ) (q d : Bool) (k : PlainKind) (field : List ℕ) (v : strict.PlainPacket) → with_field channel q d k field ≡ Ok v → IsData v
+    → body_of q k ≡ user_of v
 with_user channel q d (user_data m ps pr user) field v e is_data = ap user_of (ok_same e)
-with_user channel q d (rr pr) field v e is_data = absurd (subst IsData (sym (ok_same e)) is_data)
-with_user channel q d (rnr pr) field v e is_data = absurd (subst IsData (sym (ok_same e)) is_data)
 with_user channel q d (rej pr) field v e is_data = absurd (ok_err e)
-with_user channel q d (interrupt user) field v e is_data = absurd (subst IsData (sym (ok_same e)) is_data)
-with_user channel q d interrupt_conf field v e is_data = absurd (subst IsData (sym (ok_same e)) is_data)
-with_user channel q d (reset cause reason) field v e is_data = absurd (subst IsData (sym (ok_same e)) is_data)
-with_user channel q d reset_conf field v e is_data = absurd (subst IsData (sym (ok_same e)) is_data)
-with_user channel q d (restart cause reason) field v e is_data = absurd (subst IsData (sym (ok_same e)) is_data)
-with_user channel q d restart_conf field v e is_data = absurd (subst IsData (sym (ok_same e)) is_data)
 with_user channel q d (diagnostic number explanation) field v e is_data = absurd (ok_err e)
 with_user channel q d (registration octets) field v e is_data = absurd (ok_err e)
 with_user channel q d (registration_conf octets) field v e is_data = absurd (ok_err e)
+with_user channel q d k field v e is_data = absurd (subst IsData (sym (ok_same e)) is_data)
 
 -- with the field that is taken from it
-taken_with : {P : Type 0} (w : PlainForm) (v : strict.PlainPacket) → narrow_of w ≡ Ok v → ((field : List ℕ) → field_in w.kind ≡ Ok field → with_field w.channel w.bit_8 w.d w.kind field ≡ Ok v → P) → P
+taken_with : {P : Type 0} (w : PlainForm) (v : strict.PlainPacket) → narrow_of w ≡ Ok v
+    → ((field : List ℕ) → field_in w.kind ≡ Ok field → with_field w.channel w.bit_8 w.d w.kind field ≡ Ok v → P) → P
 taken_with {P} w v e f = go (field_in w.kind) refl e
   where
     go : (r : Result (List ℕ) PacketError) → field_in w.kind ≡ r → narrowed w r ≡ Ok v → P
@@ -98,7 +79,8 @@ all_small (octet ∷ octets) small zero = small zero 0 (omega arith)
 all_small (octet ∷ octets) small (suc i) = all_small octets (λ k d low. small (suc k) d (omega (arith, low))) i
 
 -- what is read is a packet of any form, and what it is taken for
-module _ (most : ℕ) (v : strict.PlainPacket) (octets : List ℕ) (small : AreSmall octets) (P : Type 0) (of : (w : PlainForm) → Spells Any most w octets → narrow_of w ≡ Ok v → P) where
+module _ (most : ℕ) (v : strict.PlainPacket) (octets : List ℕ) (small : AreSmall octets) (P : Type 0)
+    (of : (w : PlainForm) → Spells Any most w octets → narrow_of w ≡ Ok v → P) where
   in_any : taken_of (form_in most octets) ≡ Ok v → P
   in_any e = by (form_in most octets) refl e
     where
@@ -123,7 +105,8 @@ pub takes_its_user_data : TakesItsUserData
 takes_its_user_data wide most channel marks m ps pr user octets small e =
     let v : strict.PlainPacket = strict.user_data channel marks m ps pr user in
     in_either most v octets (all_small octets small) (length octets ≡ 3 + length user)
-    (λ w spells is. ap length spells.spelling ∙ header (length (body_of w.bit_8 w.kind)) ∙ taken_with w v is (λ field said h. ap (λ (body : List ℕ). 3 + length body) (with_user w.channel w.bit_8 w.d w.kind field v h tt)))
+    (λ w spells is. ap length spells.spelling ∙ header (length (body_of w.bit_8 w.kind))
+    ∙ taken_with w v is (λ field said h. ap (λ (body : List ℕ). 3 + length body) (with_user w.channel w.bit_8 w.d w.kind field v h tt)))
     wide e
 
 pub takes_all_behind_three : TakesAllBehindThree
@@ -137,11 +120,13 @@ takes_all_behind_three wide most channel marks m ps pr user octets small e =
 -- ---- the ranges of its fields
 
 -- of octets that are taken for it
-pub taken_in_range : (most : ℕ) (v : strict.PlainPacket) (octets : List ℕ) → most ≤ 128 → AreSmall octets → (wide : Bool) → read_in wide most octets ≡ Ok v → strict_spelling.IsInRange 128 v
+pub taken_in_range : (most : ℕ) (v : strict.PlainPacket) (octets : List ℕ) → most ≤ 128 → AreSmall octets → (wide : Bool) → read_in wide most octets ≡ Ok v
+    → strict_spelling.IsInRange 128 v
 taken_in_range most v octets few small = in_either most v octets small (strict_spelling.IsInRange 128 v)
     (λ w spells is.
     let packet = spells.packet in
-    taken_with w v is (λ field said h. subst InRange h (in_range most w.channel w.bit_8 w.d w.kind field few packet.channel packet.place packet.kind (field_fits w.kind field said))))
+    taken_with w v is (λ field said h. subst InRange h
+    (in_range most w.channel w.bit_8 w.d w.kind field few packet.channel packet.place packet.kind (field_fits w.kind field said))))
 
 pub takes_in_range : TakesInRange
 takes_in_range wide most v octets few small e = taken_in_range most v octets few (all_small octets small) wide e

@@ -1,5 +1,6 @@
 -- No reading of octets wants memory.
-use Rattle.std.proofs.Common.{ℕ, ◌≢◌, ◌+◌, ◌*◌, ◌/◌, ◌%◌, ◌==◌, Bool, true, false, cond, List, [], ◌∷◌, max, take, drop, Option, Some, None, Result, Ok, Err, refl}
+use Rattle.std.proofs.Common.{ℕ, ◌≢◌, ◌+◌, ◌*◌, ◌/◌, ◌%◌, ◌==◌, Bool, true, false, cond, List, [], ◌∷◌, max, take, drop, Option, Some, None, Result, Ok, Err}
+use Rattle.std.proofs.Common.{refl}
 use Rattle.x25_packet.specs.Reading.FirstError.{FieldError}
 use Rattle.x25_packet.specs.Reading.FirstError.FieldError.{wrong_code, cut_off, out_of_range}
 use Rattle.x25_packet.specs.declared.form.Forms.{Forms}
@@ -11,8 +12,12 @@ use Rattle.x25_packet.specs.Block.{PlainBlock, PlainFields}
 use Rattle.x25_packet.specs.Narrowing.{field_in, field_said, field_taken, narrowed, taken_of, with_field}
 use Rattle.x25_packet.specs.Classes.{none_own, own_in}
 use Rattle.x25_packet.specs.declared.classes.Own.{Own}
-use Rattle.x25_packet.specs.Form.{PlainKind, PlainForm, call, accept, clear, extended_clear, clear_conf, user_data, rr, rnr, rej, interrupt, interrupt_conf, reset, reset_conf, restart, restart_conf, diagnostic, registration, registration_conf}
-use Rattle.x25_packet.specs.Grammar.{when, field_read, no_fields, fields_of, with_addresses, addressed, block_of, optional_block, mapped, bare, called, call_of, answer_read, answer_most, accept_of, cause_alone, reason_of, caused, clear_of, clear_conf_of, interrupt_of, data_of, diagnostic_of, registered, rej_of, others, unchannelled, named, channelled, kind_of, has_format, with_head, read_of, form_in}
+use Rattle.x25_packet.specs.Form.{PlainKind, PlainForm, call, accept, clear, clear_conf, rr, rnr, rej, interrupt_conf, reset, reset_conf, restart, restart_conf}
+use Rattle.x25_packet.specs.Form.{registration, registration_conf}
+use Rattle.x25_packet.specs.Grammar.{when, field_read, no_fields, fields_of, with_addresses, addressed, block_of, optional_block, mapped, bare, called, call_of}
+use Rattle.x25_packet.specs.Grammar.{answer_read, answer_most, accept_of, cause_alone, reason_of, caused, clear_of, clear_conf_of, interrupt_of, data_of}
+use Rattle.x25_packet.specs.Grammar.{diagnostic_of, registered, rej_of, others, unchannelled, named, channelled, kind_of, has_format, with_head, read_of}
+use Rattle.x25_packet.specs.Grammar.{form_in}
 use Rattle.x25_packet.specs.laws.TakingLaw.{TakesWithoutMemory}
 use Rattle.x25_packet.proofs.FacilityFaults.{facilities_fault}
 
@@ -73,13 +78,15 @@ fields_read forms most [] = no_fields_read forms
 fields_read forms most (size ∷ rest) =
     either _ _ _ too_long (either _ _ _ too_short (when_read _ _ (field_reads forms (take size rest)) (either _ _ _ too_long is_read)))
 
-addresses_read : (called calling : ℕ) (addresses : List ℕ) (r : Result (Option PlainFields) PacketError) → Reads r → Reads (with_addresses called calling addresses r)
+addresses_read : (called calling : ℕ) (addresses : List ℕ) (r : Result (Option PlainFields) PacketError) → Reads r
+    → Reads (with_addresses called calling addresses r)
 addresses_read called calling addresses (Ok fields) reads = λ h. cc
 addresses_read called calling addresses (Err e) reads = λ h. reads (cc)
 
 addressed_read : (forms : Forms) (a : Bool) (most called calling : ℕ) (octets : List ℕ) → Reads (addressed forms a most called calling octets)
 addressed_read forms a most called calling octets =
-    either _ _ _ too_short (either _ _ _ bad_digit (addresses_read called calling (take ((called + calling + 1) / 2) octets) _ (fields_read forms most (drop ((called + calling + 1) / 2) octets))))
+    either _ _ _ too_short (either _ _ _ bad_digit
+    (addresses_read called calling (take ((called + calling + 1) / 2) octets) _ (fields_read forms most (drop ((called + calling + 1) / 2) octets))))
 
 block_read : (forms : Forms) (a : Bool) (most : ℕ) (octets : List ℕ) → Reads (block_of forms a most octets)
 block_read forms false most [] = λ h. cc
@@ -163,10 +170,12 @@ rej_read Any pr body = bare_read (rej pr) body
 others_read : (forms : Forms) (kind : ℕ) (body : List ℕ) → Reads (others forms kind body)
 others_read Written kind body = is_unidentified
 others_read Any kind body =
-    either _ _ _ (diagnostic_read body) (either _ _ _ (mapped_read registration _ (registered_read body)) (either _ _ _ (mapped_read registration_conf _ (registered_read body)) is_unidentified))
+    either _ _ _ (diagnostic_read body) (either _ _ _ (mapped_read registration _ (registered_read body))
+    (either _ _ _ (mapped_read registration_conf _ (registered_read body)) is_unidentified))
 
 unchannelled_read : (forms : Forms) (kind : ℕ) (body : List ℕ) → Reads (unchannelled forms kind body)
-unchannelled_read forms kind body = either _ _ _ (caused_read restart _ (reason_read forms body)) (either _ _ _ (bare_read restart_conf body) (others_read forms kind body))
+unchannelled_read forms kind body = either _ _ _ (caused_read restart _ (reason_read forms body))
+    (either _ _ _ (bare_read restart_conf body) (others_read forms kind body))
 
 named_read : (forms : Forms) (a : Bool) (most kind : ℕ) (body : List ℕ) → Reads (named forms a most kind body)
 named_read forms a most kind body =
@@ -193,7 +202,8 @@ forms_read forms most (first ∷ []) = λ h. cc
 forms_read forms most (first ∷ second ∷ []) = λ h. cc
 forms_read forms most (first ∷ second ∷ kind ∷ body) =
     let channel = first % 16 * 256 + second in
-    either (has_format forms first kind) _ _ (head_read channel (first / 128 == 1) (first / 64 % 2 == 1) _ (kind_read forms (first / 128 == 1) most channel kind body)) bad_format
+    either (has_format forms first kind)
+    _ _ (head_read channel (first / 128 == 1) (first / 64 % 2 == 1) _ (kind_read forms (first / 128 == 1) most channel kind body)) bad_format
 
 -- ---- what it is taken for
 
@@ -206,44 +216,12 @@ taken_field_read (Some f) = said_read (own_in none_own 0 f.facilities)
 
 in_read : (k : PlainKind) → Reads (field_in k)
 in_read (call block) = taken_field_read block.fields
-in_read (accept None) = λ h. cc
 in_read (accept (Some block)) = taken_field_read block.fields
-in_read (clear cause reason) = λ h. cc
-in_read (extended_clear cause reason block) = λ h. cc
-in_read (clear_conf block) = λ h. cc
-in_read (user_data m ps pr user) = λ h. cc
-in_read (rr pr) = λ h. cc
-in_read (rnr pr) = λ h. cc
-in_read (rej pr) = λ h. cc
-in_read (interrupt user) = λ h. cc
-in_read interrupt_conf = λ h. cc
-in_read (reset cause reason) = λ h. cc
-in_read reset_conf = λ h. cc
-in_read (restart cause reason) = λ h. cc
-in_read restart_conf = λ h. cc
-in_read (diagnostic number explanation) = λ h. cc
-in_read (registration octets) = λ h. cc
-in_read (registration_conf octets) = λ h. cc
+in_read k = λ h. cc
 
 with_read : (channel : ℕ) (q d : Bool) (k : PlainKind) (field : List ℕ) → Reads (with_field channel q d k field)
 with_read channel q d (call block) field = λ h. cc
-with_read channel q d (accept block) field = λ h. cc
-with_read channel q d (clear cause reason) field = λ h. cc
-with_read channel q d (extended_clear cause reason block) field = λ h. cc
-with_read channel q d (clear_conf block) field = λ h. cc
-with_read channel q d (user_data m ps pr user) field = λ h. cc
-with_read channel q d (rr pr) field = λ h. cc
-with_read channel q d (rnr pr) field = λ h. cc
-with_read channel q d (rej pr) field = λ h. cc
-with_read channel q d (interrupt user) field = λ h. cc
-with_read channel q d interrupt_conf field = λ h. cc
-with_read channel q d (reset cause reason) field = λ h. cc
-with_read channel q d reset_conf field = λ h. cc
-with_read channel q d (restart cause reason) field = λ h. cc
-with_read channel q d restart_conf field = λ h. cc
-with_read channel q d (diagnostic number explanation) field = λ h. cc
-with_read channel q d (registration octets) field = λ h. cc
-with_read channel q d (registration_conf octets) field = λ h. cc
+with_read channel q d k field = λ h. cc
 
 narrowed_read : (w : PlainForm) (r : Result (List ℕ) PacketError) → Reads r → Reads (narrowed w r)
 narrowed_read w (Ok field) reads = with_read w.channel w.bit_8 w.d w.kind field

@@ -1,5 +1,6 @@
 -- What is read in the form that a station writes is read so in any form.
-use Rattle.std.proofs.Common.{ℕ, ◌+◌, ◌*◌, ◌/◌, ◌%◌, ◌≤◌, ◌≡◌, ◌∙◌, Bool, true, false, not, List, [], ◌∷◌, length, take, drop, refl, ap, subst, arith, nat_eq, nat_lt, Option, Some, Result, Ok, Err}
+use Rattle.std.proofs.Common.{ℕ, ◌+◌, ◌*◌, ◌/◌, ◌%◌, ◌≤◌, ◌≡◌, ◌∙◌, Bool, true, false, not, List, [], ◌∷◌, length, take, drop, refl, ap, subst, arith, nat_eq}
+use Rattle.std.proofs.Common.{nat_lt, Option, Some, Result, Ok, Err}
 use Rattle.std.specs.Prelude.{◌||◌, cond, max}
 use Rattle.std.proofs.lemmas.Bool.{and_parts, and_from, le-leb, le-ltb, ltb-false}
 use Rattle.std.proofs.lemmas.List.{length-take-le}
@@ -11,7 +12,9 @@ use Rattle.x25_packet.specs.Reading.{packet_of}
 use Rattle.x25_packet.specs.Narrowing.{taken_of}
 use Rattle.x25_packet.specs.Form.{PlainKind, PlainForm, call, accept, reset, restart}
 use Rattle.x25_packet.specs.Form.Spelling.{may_have}
-use Rattle.x25_packet.specs.Grammar.{mapped, is_over, field_read, fields_of, with_addresses, addressed, block_of, optional_block, is_short, called, call_of, written_answer, accept_of, reason_of, caused, clear_of, clear_conf_of, rej_of, others, unchannelled, named, channelled, kind_of, has_format, with_head, read_of, form_in}
+use Rattle.x25_packet.specs.Grammar.{mapped, is_over, field_read, fields_of, with_addresses, addressed, block_of, optional_block, is_short, called, call_of}
+use Rattle.x25_packet.specs.Grammar.{written_answer, accept_of, reason_of, caused, clear_of, clear_conf_of, rej_of, others, unchannelled, named, channelled}
+use Rattle.x25_packet.specs.Grammar.{kind_of, has_format, with_head, read_of, form_in}
 use Rattle.x25_packet.proofs.FacilityLaws.{ok_err, ok_same}
 use Rattle.x25_packet.proofs.FacilityLemmas.{field_again}
 use Rattle.x25_packet.proofs.FieldLaws.{says_itself}
@@ -34,7 +37,8 @@ mapped_wider f (Err x) s w v e = absurd (ok_err e)
 
 -- ---- addresses, facilities and user data, which are short
 
-fields_wider : (most more : ℕ) (octets : List ℕ) (f : Option PlainFields) → most ≤ more → fields_of Written most octets ≡ Ok f → (fields_of Any more octets ≡ Ok f) × (is_short most f ≡ true)
+fields_wider : (most more : ℕ) (octets : List ℕ) (f : Option PlainFields) → most ≤ more → fields_of Written most octets ≡ Ok f
+    → (fields_of Any more octets ≡ Ok f) × (is_short most f ≡ true)
 fields_wider most more [] f within e = absurd (ok_err e)
 fields_wider most more (size ∷ rest) f within e =
     let room = passed (nat_lt (length rest) size) _ _ f e in
@@ -49,7 +53,8 @@ fields_wider most more (size ∷ rest) f within e =
     let less : nat_lt more (length (drop size rest)) ≡ false = le-ltb _ _ (omega (arith, user, within)) in
     (rw (few, room.0, field, less) short.1, subst (λ (g : Option PlainFields). is_short most g ≡ true) (ok_same short.1) (rw (le-leb _ _ user) refl))
 
-addressed_wider : (a : Bool) (most more called calling : ℕ) (octets : List ℕ) (b : PlainBlock) → most ≤ more → addressed Written a most called calling octets ≡ Ok b
+addressed_wider : (a : Bool) (most more called calling : ℕ) (octets : List ℕ) (b : PlainBlock) → most ≤ more → addressed Written a most called calling octets
+    ≡ Ok b
     → (addressed Any a more called calling octets ≡ Ok b) × (is_short most b.fields ≡ true)
 addressed_wider a most more called calling octets b within e =
     let size = (called + calling + 1) / 2 in
@@ -61,7 +66,8 @@ addressed_wider a most more called calling octets b within e =
       subst (λ (c : PlainBlock). is_short most c.fields ≡ true) parts.2 wider.1,
     )
 
-block_wider : (a : Bool) (most more : ℕ) (octets : List ℕ) (b : PlainBlock) → most ≤ more → block_of Written a most octets ≡ Ok b → (block_of Any a more octets ≡ Ok b) × (is_short most b.fields ≡ true)
+block_wider : (a : Bool) (most more : ℕ) (octets : List ℕ) (b : PlainBlock) → most ≤ more → block_of Written a most octets ≡ Ok b
+    → (block_of Any a more octets ≡ Ok b) × (is_short most b.fields ≡ true)
 block_wider false most more [] b within e = absurd (ok_err e)
 block_wider false most more (lengths ∷ octets) b within e = addressed_wider false most more (lengths % 16) (lengths / 16) octets b within e
 block_wider true most more [] b within e = absurd (ok_err e)
@@ -71,7 +77,8 @@ block_wider true most more (called ∷ calling ∷ octets) b within e = addresse
 optional_wider : (a : Bool) (most more : ℕ) (octets : List ℕ) → most ≤ more → Widens (optional_block Written a most octets) (optional_block Any a more octets)
 optional_wider a most more [] within v e = e
 optional_wider a most more (octet ∷ rest) within v e =
-    mapped_wider Some (block_of Written a most (octet ∷ rest)) (block_of Any a more (octet ∷ rest)) (λ b h. (block_wider a most more (octet ∷ rest) b within h).0) v e
+    mapped_wider Some (block_of Written a most (octet ∷ rest)) (block_of Any a more (octet ∷ rest))
+    (λ b h. (block_wider a most more (octet ∷ rest) b within h).0) v e
 
 -- ---- by the type
 
@@ -83,7 +90,8 @@ call_wider a most body k e =
 
 accept_wider : (a : Bool) (body : List ℕ) → Widens (accept_of Written a body) (accept_of Any a body)
 accept_wider a body k e =
-    mapped_wider accept (optional_block Written a 0 body) (optional_block Any a 128 body) (optional_wider a 0 128 body (omega arith)) k (when_found (written_answer body) _ k e).1
+    mapped_wider accept (optional_block Written a 0 body) (optional_block Any a 128 body) (optional_wider a 0 128 body (omega arith)) k
+    (when_found (written_answer body) _ k e).1
 
 reason_wider : (octets : List ℕ) → Widens (reason_of Written octets) (reason_of Any octets)
 reason_wider [] v e = absurd (ok_err e)
@@ -117,7 +125,8 @@ unchannelled_wider kind body =
 
 named_wider : (a : Bool) (most kind : ℕ) (body : List ℕ) → Widens (named Written a most kind body) (named Any a most kind body)
 named_wider a most kind body =
-    either (nat_eq kind 11) _ _ _ _ (call_wider a most body) (either (nat_eq kind 15) _ _ _ _ (accept_wider a body) (either (nat_eq kind 19) _ _ _ _ (clear_wider a body)
+    either (nat_eq kind 11) _ _ _ _ (call_wider a most body)
+    (either (nat_eq kind 15) _ _ _ _ (accept_wider a body) (either (nat_eq kind 19) _ _ _ _ (clear_wider a body)
     (either (nat_eq kind 23) _ _ _ _ (clear_conf_wider a body) (either (nat_eq kind 35) _ _ _ _ (same _) (either (nat_eq kind 39) _ _ _ _ (same _)
     (either (nat_eq kind 27) _ _ _ _ (caused_wider reset _ _ (reason_wider body)) (either (nat_eq kind 31) _ _ _ _ (same _) (same _))))))))
 

@@ -9,18 +9,22 @@ use Rattle.x25_peer.proofs.sessions.LinkSteps.{AreReadBack}
 
 -- ---- lists
 
+-- the layer's entries of both parts
 pub layer_append : (xs ys : List StationEntry) → layer_entries (xs ++ ys) ≡ layer_entries xs ++ layer_entries ys
 layer_append [] ys = refl
 layer_append (x ∷ xs) ys = ap (λ es. in_layer x ++ es) (layer_append xs ys) ∙ sym (append_assoc (in_layer x) (layer_entries xs) (layer_entries ys))
 
+-- what both parts of the entries tell the layer
 pub notices_append : (xs ys : List StationEntry) → layer_notices (xs ++ ys) ≡ layer_notices xs ++ layer_notices ys
 notices_append [] ys = refl
 notices_append (x ∷ xs) ys = ap (λ ns. notice_in x ++ ns) (notices_append xs ys) ∙ sym (append_assoc (notice_in x) (layer_notices xs) (layer_notices ys))
 
+-- the later packets can be read
 pub readable_behind : (wide long_data : Bool) (xs ys : List PlainPacket) → AreReadable wide long_data (xs ++ ys) → AreReadable wide long_data ys
 readable_behind wide long_data [] ys h = h
 readable_behind wide long_data (x ∷ xs) ys h = readable_behind wide long_data xs ys h.1
 
+-- octets are read in two goes
 pub read_append : (c : Settings) (os qs : List (List ℕ)) (ps rs : List PlainPacket) → ReadAs c os ps → ReadAs c qs rs → ReadAs c (os ++ qs) (ps ++ rs)
 read_append c [] qs [] rs h g = g
 read_append c (o ∷ os) qs (p ∷ ps) rs h g = (h.0, read_append c os qs ps rs h.1 g)
@@ -38,6 +42,7 @@ ReadFirst c [] ps = Unit {0}
 ReadFirst c (o ∷ os) (p ∷ ps) = (read_by c o ≡ Ok p) × ReadFirst c os ps
 ReadFirst c os ps = ⊥
 
+-- octets that are read as packets are so at the front
 pub read_first : (c : Settings) (os : List (List ℕ)) (ps : List PlainPacket) → ReadAs c os ps → ReadFirst c os ps
 read_first c [] ps h = tt
 read_first c (o ∷ os) [] h = absurd h

@@ -40,7 +40,8 @@ at_both c s event step next entries = record {
 seen_same : (c : Settings) (s : Station) (event : StationEvent) (step : Step) (o : Outcome) → GoesOn c step.near (pulled_of step.near o)
     → at_both c s event step (pulled_behind step o).near (pulled_behind step o).entries ≡ at_both c s event step (pulled_of step.near o).near step.entries
 seen_same c s event step (Did p) goes =
-    ap (λ (es : List StationEntry). at_both c s event step p.near (step.entries ++ es)) goes.told ∙ ap (λ (es : List StationEntry). at_both c s event step p.near es) (append-nil step.entries)
+    ap (λ (es : List StationEntry). at_both c s event step p.near (step.entries ++ es)) goes.told
+    ∙ ap (λ (es : List StationEntry). at_both c s event step p.near es) (append-nil step.entries)
 seen_same c s event step (Refused e) goes = refl
 
 next_same : (step : Step) (o : Outcome) → (pulled_behind step o).near ≡ (pulled_of step.near o).near
@@ -56,14 +57,16 @@ module _ (goes : PullsGoOn) (c : Settings) (times : Times) (event : StationEvent
   abbrev acted : Outcome → Watched
   acted o = (let a : Act = act_of c s event o in at_found a.next (seen_at c a))
 
-  did : (step : Step) → IsSettled c step.near → acted (Did step) ≡ at_found (pulled_of step.near (requests c step.near PullsAll)).near (seen_pulled c s event step)
+  did : (step : Step) → IsSettled c step.near → acted (Did step)
+      ≡ at_found (pulled_of step.near (requests c step.near PullsAll)).near (seen_pulled c s event step)
   did step settled =
       let o : Outcome = requests c step.near PullsAll in
       ap (λ (t : Station). at_found t (at_both c s event step (pulled_behind step o).near (pulled_behind step o).entries)) (next_same step o)
       ∙ ap (λ (x : Seen). at_found (pulled_of step.near o).near x) (seen_same c s event step o (goes c step.near settled))
 
 -- one who obeys does so at that moment, and none later
-module _ (goes : PullsGoOn) (stays : StaysSettled) (heeded_so : PullIsHeeded) (c : Settings) (times : Times) (w : Watched) (small : c.window ≤ 7) (settled : IsSettled c w.station) where
+module _ (goes : PullsGoOn) (stays : StaysSettled) (heeded_so : PullIsHeeded) (c : Settings) (times : Times) (w : Watched) (small : c.window ≤ 7)
+    (settled : IsSettled c w.station) where
   abbrev s : Station
   s = w.station
 
@@ -76,10 +79,12 @@ module _ (goes : PullsGoOn) (stays : StaysSettled) (heeded_so : PullIsHeeded) (c
       found : Watched
       found = record w { now = w.now + 0 }
 
-      by : (o : Outcome) → timer.outcome c s event ≡ o → SettledBy c o → acted goes c times event s w.deadlines w.now o ≡ done_with_pull c times (Happens 0 event) w
+      by : (o : Outcome) → timer.outcome c s event ≡ o → SettledBy c o → acted goes c times event s w.deadlines w.now o
+          ≡ done_with_pull c times (Happens 0 event) w
       by (Did step) is h =
           did goes c times event s w.deadlines w.now step h
-          ∙ ap (λ (n : ℕ). at_found goes c times event s w.deadlines n (pulled_of step.near (requests c step.near PullsAll)).near (seen_pulled c s event step)) back
+          ∙ ap (λ (n : ℕ). at_found goes c times event s w.deadlines n (pulled_of step.near (requests c step.near PullsAll)).near (seen_pulled c s event step))
+          back
           ∙ heeded_so c times (Happens 0 event) step w h is
           ∙ ap (λ (o : Outcome). all_done c times (with_pull (Happens 0 event) o) w) (sym is)
       by (Refused e) is h =
@@ -87,7 +92,8 @@ module _ (goes : PullsGoOn) (stays : StaysSettled) (heeded_so : PullIsHeeded) (c
           ∙ ap (λ (o : Outcome). heeds_event c times (w.now + 0) event o found) (sym is)
           ∙ ap (λ (o : Outcome). all_done c times (with_pull (Happens 0 event) o) w) (sym is)
 
-  asked : (due : Due) → (let event : StationEvent = by_command (command_for due) in acted goes c times event s (after_due times w.now w.deadlines) w.now (timer.outcome c s event)) ≡ done_with_pull c times (IsAsked 0 due) w
+  asked : (due : Due) → (let event : StationEvent = by_command (command_for due) in
+      acted goes c times event s (after_due times w.now w.deadlines) w.now (timer.outcome c s event)) ≡ done_with_pull c times (IsAsked 0 due) w
   asked due = by (timer.outcome c s event) refl (stays c s event small settled)
     where
       event : StationEvent
@@ -96,10 +102,12 @@ module _ (goes : PullsGoOn) (stays : StaysSettled) (heeded_so : PullIsHeeded) (c
       found : Watched
       found = record w { deadlines = after_due times (w.now + 0) w.deadlines; now = w.now + 0 }
 
-      by : (o : Outcome) → timer.outcome c s event ≡ o → SettledBy c o → acted goes c times event s (after_due times w.now w.deadlines) w.now o ≡ done_with_pull c times (IsAsked 0 due) w
+      by : (o : Outcome) → timer.outcome c s event ≡ o → SettledBy c o → acted goes c times event s (after_due times w.now w.deadlines) w.now o
+          ≡ done_with_pull c times (IsAsked 0 due) w
       by (Did step) is h =
           did goes c times event s (after_due times w.now w.deadlines) w.now step h
-          ∙ ap (λ (n : ℕ). at_found goes c times event s (after_due times n w.deadlines) n (pulled_of step.near (requests c step.near PullsAll)).near (seen_pulled c s event step)) back
+          ∙ ap (λ (n : ℕ). at_found goes c times event s (after_due times n w.deadlines) n (pulled_of step.near (requests c step.near PullsAll)).near
+          (seen_pulled c s event step)) back
           ∙ heeded_so c times (IsAsked 0 due) step w h is
           ∙ ap (λ (o : Outcome). all_done c times (with_pull (IsAsked 0 due) o) w) (sym is)
       by (Refused e) is h =

@@ -1,5 +1,6 @@
 -- What is due at one moment is asked so often at most: each time one moment less is past.
-use Rattle.std.proofs.Common.{◌≡◌, ℕ, zero, suc, ◌+◌, ◌^◌, ◌<◌, ◌≤◌, ◌==◌, List, [], ◌∷◌, length, map, Bool, true, false, not, if◌then◌else◌, nat_lt, Option, Some, None, refl, sym, ap, subst, ◌∙◌, arith}
+use Rattle.std.proofs.Common.{◌≡◌, ℕ, zero, suc, ◌+◌, ◌^◌, ◌<◌, ◌≤◌, ◌==◌, List, [], ◌∷◌, length, map, Bool, true, false, not, if◌then◌else◌, nat_lt, Option}
+use Rattle.std.proofs.Common.{Some, None, refl, sym, ap, subst, ◌∙◌, arith}
 use Rattle.std.proofs.lemmas.Bool.{true≢false, eq-eqb, lt-leb, ltb-true}
 use Rattle.std.proofs.lemmas.Option.{none-some, same_Some}
 use Rattle.x25_circuit.specs.declared.awaits.Awaits.{Awaits}
@@ -12,9 +13,11 @@ use Rattle.x25_clock.specs.declared.due.Due.TheVariants as due
 use Rattle.x25_clock.specs.declared.times.Times.{Times}
 use Rattle.x25_clock.specs.declared.wait.Wait.{Wait}
 use Rattle.x25_clock.specs.Due.{command_for}
-use Rattle.x25_clock.specs.Clock.{Deadlines, Seen, most_due, nothing_awaited, channels_from, deadline, is_past, number_of, time_of, t1_after, running, wait_after, heeded, overdue_of, asked_for, due_on, unless_on, due_of, renewed, renewed_on, after_due}
+use Rattle.x25_clock.specs.Clock.{Deadlines, Seen, most_due, nothing_awaited, channels_from, deadline, is_past, number_of, time_of, t1_after, running}
+use Rattle.x25_clock.specs.Clock.{wait_after, heeded, overdue_of, asked_for, due_on, unless_on, due_of, renewed, renewed_on, after_due}
 use Rattle.x25_pipe.specs.Pipe.{Act, asked_act, event_act, event_for, event_in, nothing_act}
-use Rattle.x25_pipe.specs.Timed.{Timed, TimedTurn, new_timed, writes, and_then, seen_at, heeds, act_turn, insist_turn, told_due, due_first, due_turns, answer_turn, time_said, mark_turn, timed_turn, timed_turns}
+use Rattle.x25_pipe.specs.Timed.{Timed, TimedTurn, new_timed, writes, and_then, seen_at, heeds, act_turn, insist_turn, told_due, due_first, due_turns}
+use Rattle.x25_pipe.specs.Timed.{answer_turn, time_said, mark_turn, timed_turn, timed_turns}
 use Rattle.x25_pipe.specs.laws.ClockedLaw.{NothingIsDue}
 
 -- ---- how many moments are past
@@ -76,7 +79,8 @@ module _ (times : Times) (now : ℕ) where
   wait_lower : (a : Awaits) (w : Wait) → past now (wait_after times now a w).until ≤ past now w.until
   wait_lower a w = by (number_of w.awaits == number_of a)
     where
-      by : (b : Bool) → (let x : Wait = if b then w else record { channel = w.channel; awaits = a; until = deadline now (time_of times a) } in past now x.until) ≤ past now w.until
+      by : (b : Bool) → (let x : Wait = if b then w else record { channel = w.channel; awaits = a; until = deadline now (time_of times a) } in
+          past now x.until) ≤ past now w.until
       by true = omega arith
       by false = begun now (time_of times a) (past now w.until)
 
@@ -97,13 +101,15 @@ module _ (times : Times) (now : ℕ) where
   renewed_lower : (h : ℕ) (w : Wait) → past now (renewed times now h w).until ≤ past now w.until
   renewed_lower h w = by (not (w.channel == h))
     where
-      by : (b : Bool) → (let x : Wait = if b then w else record { channel = w.channel; awaits = w.awaits; until = deadline now (time_of times w.awaits) } in past now x.until) ≤ past now w.until
+      by : (b : Bool) → (let x : Wait = if b then w else record { channel = w.channel; awaits = w.awaits; until = deadline now (time_of times w.awaits) } in
+          past now x.until) ≤ past now w.until
       by true = omega arith
       by false = begun now (time_of times w.awaits) (past now w.until)
 
   renewed_none : (w : Wait) → past now (renewed times now w.channel w).until ≡ 0
   renewed_none w =
-      ap (λ (b : Bool). let x : Wait = if not b then w else record { channel = w.channel; awaits = w.awaits; until = deadline now (time_of times w.awaits) } in past now x.until) (eq-eqb w.channel w.channel refl)
+      ap (λ (b : Bool). let x : Wait = if not b then w else record { channel = w.channel; awaits = w.awaits; until = deadline now (time_of times w.awaits) } in
+      past now x.until) (eq-eqb w.channel w.channel refl)
       ∙ fresh now (time_of times w.awaits)
 
   all_lower : (h : ℕ) (ws : List Wait) → all_past now (map (renewed times now h) ws) ≤ all_past now ws
@@ -114,11 +120,13 @@ module _ (times : Times) (now : ℕ) where
   one_less x [] is = absurd (none-some x is)
   one_less x (w ∷ ws) is = by (is_past now w.until) refl is (one_less x ws)
     where
-      by : (b : Bool) → is_past now w.until ≡ b → (if b then Some w else overdue_of now ws) ≡ Some x → (overdue_of now ws ≡ Some x → all_past now (map (renewed times now x.channel) ws) + 1 ≤ all_past now ws)
+      by : (b : Bool) → is_past now w.until ≡ b → (if b then Some w else overdue_of now ws) ≡ Some x
+          → (overdue_of now ws ≡ Some x → all_past now (map (renewed times now x.channel) ws) + 1 ≤ all_past now ws)
           → past now (renewed times now x.channel w).until + all_past now (map (renewed times now x.channel) ws) + 1 ≤ past now w.until + all_past now ws
       by true late same less =
           let own : w ≡ x = same_Some w x same in
-          let none : past now (renewed times now x.channel w).until ≡ 0 = ap (λ (y : Wait). past now (renewed times now y.channel w).until) (sym own) ∙ renewed_none w in
+          let none : past now (renewed times now x.channel w).until ≡ 0 =
+          ap (λ (y : Wait). past now (renewed times now y.channel w).until) (sym own) ∙ renewed_none w in
           let was : past now w.until ≡ 1 = ap counted late in
           let rest = all_lower x.channel ws in
           omega (arith, none, was, rest)
@@ -130,21 +138,28 @@ module _ (times : Times) (now : ℕ) where
   due_less : (d : Deadlines) (what : Due) → due_of now d ≡ Some what → count now (after_due times now d) + 1 ≤ count now d
   due_less d what is = by_t1 (is_past now d.t1) refl is
     where
-      on_idle : (b : Bool) → is_past now d.idle ≡ b → (if b then Some due.Probe else None) ≡ Some what → count now (renewed_on times now None b d) + 1 ≤ count now d
+      on_idle : (b : Bool) → is_past now d.idle ≡ b → (if b then Some due.Probe else None) ≡ Some what → count now (renewed_on times now None b d) + 1
+          ≤ count now d
       on_idle true late same = let was : past now d.idle ≡ 1 = ap counted late in let none = fresh now times.t3 in omega (arith, was, none)
       on_idle false late same = absurd (none-some what same)
 
-      on_channel : (o : Option Wait) → overdue_of now d.waits ≡ o → unless_on o (if is_past now d.idle then Some due.Probe else None) ≡ Some what → count now (renewed_on times now o (is_past now d.idle) d) + 1 ≤ count now d
+      on_channel : (o : Option Wait) → overdue_of now d.waits ≡ o → unless_on o (if is_past now d.idle then Some due.Probe else None) ≡ Some what
+          → count now (renewed_on times now o (is_past now d.idle) d) + 1 ≤ count now d
       on_channel None found same = on_idle (is_past now d.idle) refl same
       on_channel (Some x) found same = let less = one_less x d.waits found in omega (arith, less)
 
-      by_restart : (b : Bool) → is_past now d.restart ≡ b → (if b then Some due.Relink else unless_on (overdue_of now d.waits) (if is_past now d.idle then Some due.Probe else None)) ≡ Some what
-          → count now (if b then record d { restart = deadline now times.t20 } else renewed_on times now (overdue_of now d.waits) (is_past now d.idle) d) + 1 ≤ count now d
+      by_restart : (b : Bool) → is_past now d.restart ≡ b
+          → (if b then Some due.Relink else unless_on (overdue_of now d.waits) (if is_past now d.idle then Some due.Probe else None)) ≡ Some what
+          → count now (if b then record d { restart = deadline now times.t20 } else renewed_on times now (overdue_of now d.waits) (is_past now d.idle) d) + 1
+          ≤ count now d
       by_restart true late same = let was : past now d.restart ≡ 1 = ap counted late in let none = fresh now times.t20 in omega (arith, was, none)
       by_restart false late same = on_channel (overdue_of now d.waits) refl same
 
-      by_t1 : (b : Bool) → is_past now d.t1 ≡ b → (if b then Some due.T1 else if is_past now d.restart then Some due.Relink else unless_on (overdue_of now d.waits) (if is_past now d.idle then Some due.Probe else None)) ≡ Some what
-          → count now (if b then record d { t1 = deadline now times.t1 } else if is_past now d.restart then record d { restart = deadline now times.t20 } else renewed_on times now (overdue_of now d.waits) (is_past now d.idle) d) + 1 ≤ count now d
+      by_t1 : (b : Bool) → is_past now d.t1 ≡ b
+          → (if b then Some due.T1 else if is_past now d.restart then Some due.Relink
+          else unless_on (overdue_of now d.waits) (if is_past now d.idle then Some due.Probe else None)) ≡ Some what
+          → count now (if b then record d { t1 = deadline now times.t1 } else if is_past now d.restart then record d { restart = deadline now times.t20 }
+          else renewed_on times now (overdue_of now d.waits) (is_past now d.idle) d) + 1 ≤ count now d
       by_t1 true late same = let was : past now d.t1 ≡ 1 = ap counted late in let none = fresh now times.t1 in omega (arith, was, none)
       by_t1 false late same = by_restart (is_past now d.restart) refl same
 
@@ -165,8 +180,10 @@ none_overdue now (w ∷ ws) none =
 none_due : (now : ℕ) (d : Deadlines) → count now d ≡ 0 → due_of now d ≡ None
 none_due now d none =
     let channels : Option Due → Option Due = λ o. unless_on (overdue_of now d.waits) o in
-    ap (λ (b : Bool). if b then Some due.T1 else if is_past now d.restart then Some due.Relink else channels (if is_past now d.idle then Some due.Probe else None)) (not_past now d.t1 (omega (arith, none)))
-    ∙ ap (λ (b : Bool). if b then Some due.Relink else channels (if is_past now d.idle then Some due.Probe else None)) (not_past now d.restart (omega (arith, none)))
+    ap (λ (b : Bool). if b then Some due.T1 else if is_past now d.restart then Some due.Relink
+    else channels (if is_past now d.idle then Some due.Probe else None)) (not_past now d.t1 (omega (arith, none)))
+    ∙ ap (λ (b : Bool). if b then Some due.Relink else channels (if is_past now d.idle then Some due.Probe else None))
+    (not_past now d.restart (omega (arith, none)))
     ∙ ap (λ (b : Bool). channels (if b then Some due.Probe else None)) (not_past now d.idle (omega (arith, none)))
     ∙ ap (λ (o : Option Wait). unless_on o None) (none_overdue now d.waits (omega (arith, none)))
 
@@ -183,7 +200,8 @@ module _ (times : Times) (now : ℕ) where
   wait_none : (a : Awaits) (w : Wait) → (w.awaits ≡ Nothing → w.until ≡ None) → (let x : Wait = wait_after times now a w in x.awaits ≡ Nothing → x.until ≡ None)
   wait_none a w h = by (number_of w.awaits == number_of a)
     where
-      by : (b : Bool) → (let x : Wait = if b then w else record { channel = w.channel; awaits = a; until = deadline now (time_of times a) } in x.awaits ≡ Nothing → x.until ≡ None)
+      by : (b : Bool) → (let x : Wait = if b then w else record { channel = w.channel; awaits = a; until = deadline now (time_of times a) } in x.awaits
+          ≡ Nothing → x.until ≡ None)
       by true = h
       by false = begins_none a
 
@@ -194,7 +212,8 @@ module _ (times : Times) (now : ℕ) where
   renewed_still : (k : ℕ) (w : Wait) → (w.awaits ≡ Nothing → w.until ≡ None) → (let x : Wait = renewed times now k w in x.awaits ≡ Nothing → x.until ≡ None)
   renewed_still k w h = by (not (w.channel == k))
     where
-      by : (b : Bool) → (let x : Wait = if b then w else record { channel = w.channel; awaits = w.awaits; until = deadline now (time_of times w.awaits) } in x.awaits ≡ Nothing → x.until ≡ None)
+      by : (b : Bool) → (let x : Wait = if b then w else record { channel = w.channel; awaits = w.awaits; until = deadline now (time_of times w.awaits) } in
+          x.awaits ≡ Nothing → x.until ≡ None)
       by true = h
       by false = begins_none w.awaits
 
@@ -219,7 +238,8 @@ module _ (times : Times) (now : ℕ) where
       on None false = h
       on (Some x) idle = all_still times now x.channel d.waits h
 
-      by : (t1 restart : Bool) → IsClock (if t1 then record d { t1 = deadline now times.t1 } else if restart then record d { restart = deadline now times.t20 } else renewed_on times now (overdue_of now d.waits) (is_past now d.idle) d)
+      by : (t1 restart : Bool) → IsClock (if t1 then record d { t1 = deadline now times.t1 } else if restart then record d { restart = deadline now times.t20 }
+          else renewed_on times now (overdue_of now d.waits) (is_past now d.idle) d)
       by true restart = h
       by false true = h
       by false false = on (overdue_of now d.waits) (is_past now d.idle)
@@ -246,17 +266,22 @@ module _ (times : Times) (now : ℕ) where
       on_idle true same = absurd (none-some due.Probe (sym same))
       on_idle false same = none
 
-      on_channel : (o : Option Wait) → overdue_of now d.waits ≡ o → unless_on o (if is_past now d.idle then Some due.Probe else None) ≡ None → due_of now (renewed_on times now o (is_past now d.idle) d) ≡ None
+      on_channel : (o : Option Wait) → overdue_of now d.waits ≡ o → unless_on o (if is_past now d.idle then Some due.Probe else None) ≡ None
+          → due_of now (renewed_on times now o (is_past now d.idle) d) ≡ None
       on_channel None found same = on_idle (is_past now d.idle) same
       on_channel (Some x) found same = absurd (overdue_none d.waits x h found same)
 
       by_restart : (b : Bool) → (if b then Some due.Relink else unless_on (overdue_of now d.waits) (if is_past now d.idle then Some due.Probe else None)) ≡ None
-          → due_of now (if b then record d { restart = deadline now times.t20 } else renewed_on times now (overdue_of now d.waits) (is_past now d.idle) d) ≡ None
+          → due_of now (if b then record d { restart = deadline now times.t20 } else renewed_on times now (overdue_of now d.waits) (is_past now d.idle) d)
+          ≡ None
       by_restart true same = absurd (none-some due.Relink (sym same))
       by_restart false same = on_channel (overdue_of now d.waits) refl same
 
-      by_t1 : (b : Bool) → is_past now d.t1 ≡ b → (if b then Some due.T1 else if is_past now d.restart then Some due.Relink else unless_on (overdue_of now d.waits) (if is_past now d.idle then Some due.Probe else None)) ≡ None
-          → due_of now (if b then record d { t1 = deadline now times.t1 } else if is_past now d.restart then record d { restart = deadline now times.t20 } else renewed_on times now (overdue_of now d.waits) (is_past now d.idle) d) ≡ None
+      by_t1 : (b : Bool) → is_past now d.t1 ≡ b
+          → (if b then Some due.T1 else if is_past now d.restart then Some due.Relink
+          else unless_on (overdue_of now d.waits) (if is_past now d.idle then Some due.Probe else None)) ≡ None
+          → due_of now (if b then record d { t1 = deadline now times.t1 } else if is_past now d.restart then record d { restart = deadline now times.t20 }
+          else renewed_on times now (overdue_of now d.waits) (is_past now d.idle) d) ≡ None
       by_t1 true late same = absurd (none-some due.T1 (sym same))
       by_t1 false late same = by_restart (is_past now d.restart) same
 
@@ -290,7 +315,9 @@ module _ (c : Settings) (times : Times) where
       v : Timed
       v = told_due times w
 
-      by : (o : Option Due) → due_of w.now w.deadlines ≡ o → ((x : Timed) → IsClock x.deadlines → count x.now x.deadlines ≤ n → (let y : Timed = (due_turns c times n x).next in (due_of x.now y.deadlines ≡ None) × IsClock y.deadlines))
+      by : (o : Option Due) → due_of w.now w.deadlines ≡ o
+          → ((x : Timed) → IsClock x.deadlines → count x.now x.deadlines ≤ n
+          → (let y : Timed = (due_turns c times n x).next in (due_of x.now y.deadlines ≡ None) × IsClock y.deadlines))
           → (let u : Timed = (due_first c times (due_turns c times n) w o).next in (due_of w.now u.deadlines ≡ None) × IsClock u.deadlines)
       by None is rest = (told_none times w.now w.deadlines h is, clock_tells times w.now w.deadlines h)
       by (Some what) is rest =
@@ -306,7 +333,8 @@ module _ (c : Settings) (times : Times) where
       at_now : Timed
       at_now = record w { now = now }
 
-      by : (b : Bool) → IsClock (let t : TimedTurn = if b then act_turn c times w (nothing_act w.station) else due_turns c times (most_due w.deadlines) at_now in t.next.deadlines)
+      by : (b : Bool) → IsClock (let t : TimedTurn = if b then act_turn c times w (nothing_act w.station)
+          else due_turns c times (most_due w.deadlines) at_now in t.next.deadlines)
       by true = act_clock w (nothing_act w.station) h
       by false = (all_asked (most_due w.deadlines) at_now h (few_past times now w.deadlines)).1
 
@@ -339,10 +367,13 @@ nothing_is_due c times lines line now said later = by (time_said line) said
     sound : IsClock w.deadlines
     sound = lines_clock c times lines (new_timed c) (first_clock c.channels.count)
 
-    at_time : (b : Bool) → nat_lt now w.now ≡ b → due_of now (let t : TimedTurn = if b then act_turn c times w (nothing_act w.station) else due_turns c times (most_due w.deadlines) at_now in t.next.deadlines) ≡ None
+    at_time : (b : Bool) → nat_lt now w.now ≡ b
+        → due_of now (let t : TimedTurn = if b then act_turn c times w (nothing_act w.station) else due_turns c times (most_due w.deadlines) at_now in
+        t.next.deadlines) ≡ None
     at_time true is = absurd (omega (arith, ltb-true now w.now is, later))
     at_time false is = (all_asked c times (most_due w.deadlines) at_now sound (few_past times now w.deadlines)).0
 
     by : (o : Option ℕ) → o ≡ Some now → due_of now (answer_turn c times line w o).next.deadlines ≡ None
     by None is = absurd (none-some now is)
-    by (Some n) is = subst (λ (m : ℕ). due_of now (answer_turn c times line w (Some m)).next.deadlines ≡ None) (sym (same_Some n now is)) (at_time (nat_lt now w.now) refl)
+    by (Some n) is = subst (λ (m : ℕ). due_of now (answer_turn c times line w (Some m)).next.deadlines ≡ None) (sym (same_Some n now is))
+        (at_time (nat_lt now w.now) refl)

@@ -19,7 +19,8 @@ module _ (c : Settings) (old now next : Option (List ℕ)) (s u : Pipe) (told : 
   pub none_left : (rest : Station → Turn) (l : Leaves c old now s rest told refused whole) → rest l.at ≡ quiet l.at → StandsAt c old now s told refused whole
   none_left rest l is =
       let at : l.at ≡ whole.next = sym (ap (λ t. t.next) is) ∙ l.next in
-      let text : l.text ≡ told ++ sayings_text c.role whole.sayings = sym (append-nil l.text) ∙ sym (ap (λ t. l.text ++ sayings_text c.role t.sayings) is) ∙ l.same in
+      let text : l.text ≡ told ++ sayings_text c.role whole.sayings =
+      sym (append-nil l.text) ∙ sym (ap (λ t. l.text ++ sayings_text c.role t.sayings) is) ∙ l.same in
       let any : l.status ≡ (refused || has_refusal whole.sayings) = sym (or-false l.status) ∙ sym (ap (λ t. l.status || has_refusal t.sayings) is) ∙ l.any in
       subst (λ w. Stands c old now s w (told ++ sayings_text c.role whole.sayings) (refused || has_refusal whole.sayings)) at
       (subst (λ t. Stands c old now s l.at t (refused || has_refusal whole.sayings)) text
@@ -48,4 +49,5 @@ module _ (c : Settings) (old now next : Option (List ℕ)) (s u : Pipe) (told : 
 
   -- nothing more is told
   pub given_up : (rest : Station → Turn) → Leaves c old now s rest told refused whole → BeginsAt c old now told whole
-  given_up rest l = subst (AppendsPrefix old now) l.same (prefix_more old now l.text (sayings_text c.role (rest l.at).sayings) (told_prefix old now s.output l.text l.stands.tells))
+  given_up rest l = subst (AppendsPrefix old now) l.same
+      (prefix_more old now l.text (sayings_text c.role (rest l.at).sayings) (told_prefix old now s.output l.text l.stands.tells))

@@ -7,9 +7,11 @@ use Rattle.x25_io.specs.HeldLine.{most_line}
 use Rattle.x25_pipe.specs.Pipe.{event_in, read_event}
 
 -- a line that isn't too long is read
-event_read : (wide : Bool) (end : Role) (line : List ℕ) (sent : Option (Role × List ℕ)) → length line ≤ most_line → sent_in line ≡ sent → event_in wide end line ≡ read_event wide end line sent
+event_read : (wide : Bool) (end : Role) (line : List ℕ) (sent : Option (Role × List ℕ)) → length line ≤ most_line → sent_in line ≡ sent
+    → event_in wide end line ≡ read_event wide end line sent
 unfolding event_in
-event_read wide end line sent few is = ap (λ b. if b then read_event wide end line (sent_in line) else None) (le-leb (length line) most_line few) ∙ ap (read_event wide end line) is
+event_read wide end line sent few is = ap (λ b. if b then read_event wide end line (sent_in line) else None) (le-leb (length line) most_line few)
+    ∙ ap (read_event wide end line) is
 
 pub event_long : (wide : Bool) (end : Role) (line : List ℕ) → most_line < length line → event_in wide end line ≡ None
 unfolding event_in

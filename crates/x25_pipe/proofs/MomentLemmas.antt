@@ -1,5 +1,6 @@
 -- A moment and its decimal text, and the time in a line.
-use Rattle.std.proofs.Common.{◌≡◌, ◌∙◌, ◌<◌, ◌≤◌, ◌^◌, ℕ, true, List, [], ◌∷◌, length, Option, Some, None, Result, Ok, Err, Bor, nat_lt, ap, refl, sym, subst, arith, rules, decimal, if◌then◌else◌}
+use Rattle.std.proofs.Common.{◌≡◌, ◌∙◌, ◌<◌, ◌≤◌, ◌^◌, ℕ, true, List, [], ◌∷◌, length, Option, Some, None, Result, Ok, Err, Bor, nat_lt, ap, refl, sym, subst}
+use Rattle.std.proofs.Common.{arith, rules, decimal, if◌then◌else◌}
 use Rattle.std.specs.Prelude.{cond, ◌&&◌, MatchResult}
 use Rattle.std.specs.Char.{is_ascii_digit}
 use Rattle.std.specs.List.{list_all}

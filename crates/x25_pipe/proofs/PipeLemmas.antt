@@ -18,7 +18,8 @@ use Rattle.x25_pipe.proofs.SayingLemmas.{parts_text, parts_refused}
 use Rattle.x25_pipe.proofs.StandLemmas.{StandsAt, BeginsAt, begins_before}
 
 -- a station that never was up
-pub stands_first : (c : Settings) (written : Option (List ℕ)) (p : Pipe) → FitsStation c p.station new_station → p.end ≡ c.role → p.output ≡ [] → p.is_refused ≡ false
+pub stands_first : (c : Settings) (written : Option (List ℕ)) (p : Pipe) → FitsStation c p.station new_station → p.end ≡ c.role → p.output ≡ [] → p.is_refused
+    ≡ false
     → Stands c written written p new_station [] false
 stands_first c written p fits role empty status = record { fits = fits; role = role; tells = none_told written p.output empty; status = status }
 
@@ -41,7 +42,8 @@ module _ (c : Settings) (old now : Option (List ℕ)) (p : Pipe) (input : List �
     any = parts_refused false (standing_turn c new_station).sayings (turns c (lines_of input) new_station).sayings;
   }
 
-  pub input_begins : (q : Pipe) (held first : HeldLine) → held ≡ first → q ≡ p → HoldsLine [] first → StandsAt c old now p [] false (standing_turn c new_station)
+  pub input_begins : (q : Pipe) (held first : HeldLine) → held ≡ first → q ≡ p → HoldsLine [] first
+      → StandsAt c old now p [] false (standing_turn c new_station)
       → LinesLead (λ lines. Answers c q old now lines input) held input
   input_begins q held first is_held is_pipe empty h =
       between (λ (lines : List (List ℕ)). Answers c q old now lines input) held input (subst (HoldsLine []) (sym is_held) empty)

@@ -21,11 +21,15 @@ entries_said end [] = refl
 entries_said end (e ∷ entries) = ap (λ text. entry_line end e ++ text) (entries_said end entries)
 
 -- what is said in two parts
-pub parts_text : (end : Role) (told : List ℕ) (first second : List Saying) → (told ++ sayings_text end first) ++ sayings_text end second ≡ told ++ sayings_text end (first ++ second)
-parts_text end told first second = append_assoc told (sayings_text end first) (sayings_text end second) ∙ ap (λ t. told ++ t) (sym (text-append end first second))
+pub parts_text : (end : Role) (told : List ℕ) (first second : List Saying) → (told ++ sayings_text end first) ++ sayings_text end second ≡ told
+    ++ sayings_text end (first ++ second)
+parts_text end told first second = append_assoc told (sayings_text end first) (sayings_text end second)
+    ∙ ap (λ t. told ++ t) (sym (text-append end first second))
 
-pub parts_refused : (refused : Bool) (first second : List Saying) → ((refused || has_refusal first) || has_refusal second) ≡ (refused || has_refusal (first ++ second))
-parts_refused refused first second = or_assoc refused (has_refusal first) (has_refusal second) ∙ ap (λ b. refused || b) (sym (list_any-append is_refusal first second))
+pub parts_refused : (refused : Bool) (first second : List Saying) → ((refused || has_refusal first) || has_refusal second)
+    ≡ (refused || has_refusal (first ++ second))
+parts_refused refused first second = or_assoc refused (has_refusal first) (has_refusal second)
+    ∙ ap (λ b. refused || b) (sym (list_any-append is_refusal first second))
 
 module _ {X Y : Type 0} (end : Role) (plain : X → Y) (says : Y → Saying) where
   -- what is said of some
@@ -40,7 +44,8 @@ module _ {X Y : Type 0} (end : Role) (plain : X → Y) (says : Y → Saying) whe
   one x = append-nil (saying_line end (says (plain x)))
 
   -- of one more
-  pub all_more : (xs : List X) (i : ℕ) (x : X) → i < length xs → x ≡ get_or xs i x → text_of_all (take (i + 1) xs) ≡ text_of_all (take i xs) ++ saying_line end (says (plain x))
+  pub all_more : (xs : List X) (i : ℕ) (x : X) → i < length xs → x ≡ get_or xs i x → text_of_all (take (i + 1) xs) ≡ text_of_all (take i xs)
+      ++ saying_line end (says (plain x))
   all_more xs i x inside is =
       ap text_of_all (take_more xs i x inside) ∙ all-append (take i xs) (get_or xs i x ∷ [])
       ∙ ap (λ t. text_of_all (take i xs) ++ t) (one (get_or xs i x) ∙ ap (λ y. saying_line end (says (plain y))) (sym is))

@@ -33,7 +33,8 @@ use Rattle.x25_station.specs.Station.{Station, view_of, waiting_after}
 use Rattle.x25_station.specs.Step.{Step, Outcome, Did, Refused, did, requests, entries_of_outcome}
 use Rattle.x25_console.specs.Telling.{nothing_line, refusal_line}
 use Rattle.x25_io.proofs.ToldLemmas.{prefix_more}
-use Rattle.x25_pipe.specs.Pipe.{Saying, enters, sends, refuses, reads_nothing, saying_line, sayings_text, has_refusal, Turn, and_then, said, step_told, pulled_behind, and_pulls, with_pulls, timer_with_pulls}
+use Rattle.x25_pipe.specs.Pipe.{Saying, enters, sends, refuses, reads_nothing, saying_line, sayings_text, has_refusal, Turn, and_then, said, step_told}
+use Rattle.x25_pipe.specs.Pipe.{pulled_behind, and_pulls, with_pulls, timer_with_pulls}
 use Rattle.x25_pipe.specs.Pipe.{Act, act_of, asked_act, asked_turn, event_act, event_in, event_turn, mark_turn, marked, nothing_act, turn}
 use Rattle.x25_pipe.specs.code.Stands.{Acted, IsActed, Stands, Stood, Turns, IsStep, IsError, answer_told}
 use Rattle.x25_pipe.specs.declared.pipe.Pipe.{Pipe}
@@ -49,24 +50,29 @@ BeginsAt c old next told t = AppendsPrefix old next (told ++ sayings_text c.role
 -- ---- one turn behind another
 
 module _ (c : Settings) (old next : Option (List ℕ)) (told : List ℕ) (refused : Bool) (rest : Station → Turn) (t : Turn) where
-  pub stands_behind : (u : Pipe) → StandsAt c old next u (told ++ sayings_text c.role t.sayings) (refused || has_refusal t.sayings) (rest t.next) → StandsAt c old next u told refused (and_then rest t)
+  pub stands_behind : (u : Pipe) → StandsAt c old next u (told ++ sayings_text c.role t.sayings) (refused || has_refusal t.sayings) (rest t.next)
+      → StandsAt c old next u told refused (and_then rest t)
   stands_behind u h =
-      subst (λ text. Stands c old next u (rest t.next).next text (refused || has_refusal (and_then rest t).sayings)) (parts_text c.role told t.sayings (rest t.next).sayings)
-      (subst (Stands c old next u (rest t.next).next ((told ++ sayings_text c.role t.sayings) ++ sayings_text c.role (rest t.next).sayings)) (parts_refused refused t.sayings (rest t.next).sayings) h)
+      subst (λ text. Stands c old next u (rest t.next).next text (refused || has_refusal (and_then rest t).sayings))
+      (parts_text c.role told t.sayings (rest t.next).sayings)
+      (subst (Stands c old next u (rest t.next).next ((told ++ sayings_text c.role t.sayings) ++ sayings_text c.role (rest t.next).sayings))
+      (parts_refused refused t.sayings (rest t.next).sayings) h)
 
   pub begins_behind : BeginsAt c old next (told ++ sayings_text c.role t.sayings) (rest t.next) → BeginsAt c old next told (and_then rest t)
   begins_behind b = subst (AppendsPrefix old next) (parts_text c.role told t.sayings (rest t.next).sayings) b
 
   pub begins_before : BeginsAt c old next told t → BeginsAt c old next told (and_then rest t)
   begins_before b =
-      subst (AppendsPrefix old next) (parts_text c.role told t.sayings (rest t.next).sayings) (prefix_more old next (told ++ sayings_text c.role t.sayings) (sayings_text c.role (rest t.next).sayings) b)
+      subst (AppendsPrefix old next) (parts_text c.role told t.sayings (rest t.next).sayings)
+      (prefix_more old next (told ++ sayings_text c.role t.sayings) (sayings_text c.role (rest t.next).sayings) b)
 
 -- ---- one saying
 
 pub one_told : (end : Role) (told : List ℕ) (x : Saying) → told ++ saying_line end x ≡ told ++ sayings_text end (x ∷ [])
 one_told end told x = ap (λ t. told ++ t) (sym (append-nil (saying_line end x)))
 
-pub stands_marked : (c : Settings) (old next : Option (List ℕ)) (u : Pipe) (s : Station) (told line : List ℕ) (refused : Bool) (x : Saying) → has_refusal (x ∷ []) ≡ false
+pub stands_marked : (c : Settings) (old next : Option (List ℕ)) (u : Pipe) (s : Station) (told line : List ℕ) (refused : Bool) (x : Saying)
+    → has_refusal (x ∷ []) ≡ false
     → line ≡ saying_line c.role x → FitsStation c u.station s → u.end ≡ c.role → u.is_refused ≡ refused → Tells old next u.output (told ++ line)
     → StandsAt c old next u told refused (said s (x ∷ []))
 stands_marked c old next u s told line refused x none same fits role status tells = record {
@@ -77,7 +83,8 @@ stands_marked c old next u s told line refused x none same fits role status tell
 }
 
 -- what was refused
-pub stands_refused : (c : Settings) (old next : Option (List ℕ)) (u : Pipe) (s : Station) (told line : List ℕ) (refused : Bool) (x : Saying) → has_refusal (x ∷ []) ≡ true
+pub stands_refused : (c : Settings) (old next : Option (List ℕ)) (u : Pipe) (s : Station) (told line : List ℕ) (refused : Bool) (x : Saying)
+    → has_refusal (x ∷ []) ≡ true
     → line ≡ saying_line c.role x → FitsStation c u.station s → u.end ≡ c.role → u.is_refused ≡ true → Tells old next u.output (told ++ line)
     → StandsAt c old next u told refused (said s (x ∷ []))
 stands_refused c old next u s told line refused x is same fits role status tells = record {
@@ -87,7 +94,8 @@ stands_refused c old next u s told line refused x is same fits role status tells
   status = status ∙ sym (or-true refused) ∙ ap (λ b. refused || b) (sym is);
 }
 
-pub begins_told : (c : Settings) (old next : Option (List ℕ)) (s : Station) (told line : List ℕ) (x : Saying) → line ≡ saying_line c.role x → AppendsPrefix old next (told ++ line)
+pub begins_told : (c : Settings) (old next : Option (List ℕ)) (s : Station) (told line : List ℕ) (x : Saying) → line ≡ saying_line c.role x
+    → AppendsPrefix old next (told ++ line)
     → BeginsAt c old next told (said s (x ∷ []))
 begins_told c old next s told line x same b = subst (AppendsPrefix old next) (ap (λ t. told ++ t) same ∙ one_told c.role told x) b
 
@@ -130,7 +138,8 @@ stands_told c old next u step plain told refused h role tells status = record {
 }
 
 pub begins_step : (c : Settings) (old next : Option (List ℕ)) (v : code.Station) (step : code_step.Step) (plain : Step) (told : List ℕ)
-    → IsStep c v step (Did plain) → AppendsPrefix old next (told ++ sayings_text c.role (answer_told step)) → BeginsAt c old next told (said plain.near (step_told c plain))
+    → IsStep c v step (Did plain) → AppendsPrefix old next (told ++ sayings_text c.role (answer_told step))
+    → BeginsAt c old next told (said plain.near (step_told c plain))
 begins_step c old next v step plain told h b = subst (λ sayings. AppendsPrefix old next (told ++ sayings_text c.role sayings)) (answer_is c v step plain h) b
 
 -- no step is answered where the definition refuses
@@ -148,16 +157,23 @@ module _ (c : Settings) (old now : Option (List ℕ)) (q : Pipe) (s : Station) (
       → FitsStation c q.station s → q.end ≡ c.role → q.is_refused ≡ true → q.step.timer ≡ standing s → q.step.entries.items ≡ [] → q.has_come ≡ come
       → Acted c old now q told refused result (record { next = s; sayings = x ∷ []; timer = standing s; entries = []; has_come = come })
   acted_quiet line x come is same tells fits role status timer empty comes = MatchResult-weaker result tells
-      (λ _ t. record { stands = stands_refused c old now q s told line refused x is same fits role status t; timer = timer; entries = ap (map plain_entry) empty; has_come = comes })
+      (λ _ t. record {
+        stands = stands_refused c old now q s told line refused x is same fits role status t;
+        timer = timer;
+        entries = ap (map plain_entry) empty;
+        has_come = comes;
+      })
       (λ _ b. begins_told c old now s told line x same b)
 
   pub acted_nothing : MatchResult result (λ _. Tells old now q.output (told ++ nothing_line)) (λ _. AppendsPrefix old now (told ++ nothing_line))
       → FitsStation c q.station s → q.end ≡ c.role → q.is_refused ≡ true → q.step.timer ≡ standing s → q.step.entries.items ≡ [] → q.has_come ≡ false
       → Acted c old now q told refused result (nothing_act s)
-  acted_nothing tells fits role status timer empty comes = acted_quiet nothing_line reads_nothing false refl (nothing_said c.role) tells fits role status timer empty comes
+  acted_nothing tells fits role status timer empty comes = acted_quiet nothing_line reads_nothing false refl (nothing_said c.role) tells fits role status timer
+      empty comes
 
   pub acted_refused : (event : StationEvent) (error : StationError) (o : Outcome) → o ≡ Refused error
-      → MatchResult result (λ _. Tells old now q.output (told ++ refusal_line (number_of error))) (λ _. AppendsPrefix old now (told ++ refusal_line (number_of error)))
+      → MatchResult result (λ _. Tells old now q.output (told ++ refusal_line (number_of error)))
+      (λ _. AppendsPrefix old now (told ++ refusal_line (number_of error)))
       → FitsStation c q.station s → q.end ≡ c.role → q.is_refused ≡ true → q.step.timer ≡ standing s → q.step.entries.items ≡ [] → q.has_come ≡ comes event
       → Acted c old now q told refused result (act_of c s event o)
   acted_refused event error o is tells fits role status timer empty come = subst (λ o. Acted c old now q told refused result (act_of c s event o)) (sym is)
@@ -165,12 +181,14 @@ module _ (c : Settings) (old now : Option (List ℕ)) (q : Pipe) (s : Station) (
 
 -- ---- and with it
 
-act_marked : (c : Settings) (s : Station) (asked : Option StationEvent) → let a = asked_act c s asked in asked_turn c s asked ≡ marked c a.timer a.next a.sayings
+act_marked : (c : Settings) (s : Station) (asked : Option StationEvent) → let a =
+    asked_act c s asked in asked_turn c s asked ≡ marked c a.timer a.next a.sayings
 unfolding event_turn event_act
 act_marked c s None = refl
 act_marked c s (Some event) = refl
 
-turn_marked : (c : Settings) (line : List ℕ) (s : Station) → let a = asked_act c s (event_in c.wide c.role line) in turn c line s ≡ marked c a.timer a.next a.sayings
+turn_marked : (c : Settings) (line : List ℕ) (s : Station) → let a =
+    asked_act c s (event_in c.wide c.role line) in turn c line s ≡ marked c a.timer a.next a.sayings
 unfolding turn
 turn_marked c line s = act_marked c s (event_in c.wide c.role line)
 
@@ -178,12 +196,14 @@ module _ (c : Settings) (old now next : Option (List ℕ)) (told : List ℕ) (re
   abbrev here : Act
   here = asked_act c s (event_in c.wide c.role line)
 
-  pub marks_behind : (q u : Pipe) (result : Result Unit Fault) → IsActed c old now q told refused here → Turns c old now next q u result (mark_turn c q.step.timer)
+  pub marks_behind : (q u : Pipe) (result : Result Unit Fault) → IsActed c old now q told refused here
+      → Turns c old now next q u result (mark_turn c q.step.timer)
       → Stood c old next u told refused result (turn c line s)
   marks_behind q u result h mark =
       subst (Stood c old next u told refused result) (sym (turn_marked c line s))
       (MatchResult-weaker result
-      (subst (λ (t : Timer). Stood c old next u (told ++ sayings_text c.role here.sayings) (refused || has_refusal here.sayings) result (mark_turn c t here.next)) h.timer
+      (subst (λ (t : Timer). Stood c old next u (told ++ sayings_text c.role here.sayings) (refused || has_refusal here.sayings) result
+      (mark_turn c t here.next)) h.timer
       (mark here.next (told ++ sayings_text c.role here.sayings) (refused || has_refusal here.sayings) h.stands))
       (λ _ t. stands_behind c old next told refused (mark_turn c here.timer) (said here.next here.sayings) u t)
       (λ _ b. begins_behind c old next told refused (mark_turn c here.timer) (said here.next here.sayings) b))
@@ -209,7 +229,8 @@ pub both_is : (c : Settings) (step : Step) → and_pulls c step ≡ behind step 
 both_is c step = both_are step (requests c step.near PullsAll)
 
 -- pulls have no entries
-none_in : (c : Settings) (s : Station) (o : LayerOutcome) (a : Answered) → (pulled_of s (did c (alone s.link) (entries_of_outcome (layer_settings c) s.layer PullsAll o) a)).entries ≡ []
+none_in : (c : Settings) (s : Station) (o : LayerOutcome) (a : Answered)
+    → (pulled_of s (did c (alone s.link) (entries_of_outcome (layer_settings c) s.layer PullsAll o) a)).entries ≡ []
 none_in c s (Accepted next packet) (Went p) = refl
 none_in c s (Declined e) (Went p) = refl
 none_in c s o (Refuses e) = refl
@@ -217,7 +238,8 @@ none_in c s o (Refuses e) = refl
 none_entered : (c : Settings) (s : Station) → (pulled c s).entries ≡ []
 none_entered c s =
     let lc = layer_settings c in
-    none_in c s (layer_outcome lc (waiting_after (link_settings c) s.link [] == 256) s.layer PullsAll) (calls (view_of (link_settings c) s.link) lc s.layer PullsAll)
+    none_in c s (layer_outcome lc (waiting_after (link_settings c) s.link [] == 256) s.layer PullsAll)
+    (calls (view_of (link_settings c) s.link) lc s.layer PullsAll)
 
 module _ (c : Settings) (v u : code.Station) (step both : code_step.Step) where
   pub pulled_step : (o : Outcome) → IsStep c v step o → Pulls v u step.frames both.frames
@@ -226,13 +248,16 @@ module _ (c : Settings) (v u : code.Station) (step both : code_step.Step) where
       let pulls : Step = pulled c plain.near in
       subst (λ (x : Step). IsStep c u both (Did x)) (sym (both_is c plain)) (record {
         leaves = p.state c plain.near h.leaves;
-        sends = p.frames c plain.near h.leaves ∙ ap (λ (xs : List (List ℕ)). xs ++ map (spelling_of c.role) pulls.out) h.sends ∙ sym (map-append (spelling_of c.role) plain.out pulls.out);
-        enters = ap (λ es. map plain_entry es.items) entries ∙ h.enters ∙ sym (append-nil plain.entries) ∙ ap (λ es. plain.entries ++ es) (sym (none_entered c plain.near));
+        sends = p.frames c plain.near h.leaves ∙ ap (λ (xs : List (List ℕ)). xs ++ map (spelling_of c.role) pulls.out) h.sends
+            ∙ sym (map-append (spelling_of c.role) plain.out pulls.out);
+        enters = ap (λ es. map plain_entry es.items) entries ∙ h.enters ∙ sym (append-nil plain.entries)
+            ∙ ap (λ es. plain.entries ++ es) (sym (none_entered c plain.near));
         accepted = tt;
       })
   pulled_step (Refused e) h p entries = absurd h.accepted
 
-  pub pulled_timer_is : (s : Station) (event : StationEvent) (o : Outcome) → IsStep c v step o → ((n : Station) → FitsStation c v n → both.timer ≡ timer_pulled step.timer n (pulled c n).near)
+  pub pulled_timer_is : (s : Station) (event : StationEvent) (o : Outcome) → IsStep c v step o
+      → ((n : Station) → FitsStation c v n → both.timer ≡ timer_pulled step.timer n (pulled c n).near)
       → step.timer ≡ timer.timer s event o → both.timer ≡ timer_with_pulls c s event o
   pulled_timer_is s event (Did plain) h is same =
       is plain.near h.leaves ∙ ap (λ (t : Timer). timer_pulled t plain.near (pulled c plain.near).near) same
@@ -240,5 +265,6 @@ module _ (c : Settings) (v u : code.Station) (step both : code_step.Step) where
   pulled_timer_is s event (Refused e) h is same = absurd h.accepted
 
 -- what a call answered is the step of its definition
-pub is_step_of : (w : Unit) (v u : code.Station) (step : code_step.Step) (sayd : Settings → Station → Outcome) (c : Settings) (s : Station) → fits.Does v u step (Ok w) sayd → FitsStation c v s → IsStep c u step (sayd c s)
+pub is_step_of : (w : Unit) (v u : code.Station) (step : code_step.Step) (sayd : Settings → Station → Outcome) (c : Settings) (s : Station)
+    → fits.Does v u step (Ok w) sayd → FitsStation c v s → IsStep c u step (sayd c s)
 is_step_of w v u step sayd c s d f = record { leaves = d.state c s f; sends = d.frames c s f; enters = d.entries c s f; accepted = d.refused c s f }

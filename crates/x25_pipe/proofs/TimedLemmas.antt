@@ -1,5 +1,6 @@
 -- How a station that has a clock stands after a turn, and a turn that is made in parts.
-use Rattle.std.proofs.Common.{◌≡◌, ◌∙◌, ◌<◌, ◌-◌, ℕ, zero, suc, Bool, false, List, [], ◌∷◌, ◌++◌, Option, Some, None, Result, MatchResult, append_assoc, ap, refl, sym, subst, arith}
+use Rattle.std.proofs.Common.{◌≡◌, ◌∙◌, ◌<◌, ◌-◌, ℕ, zero, suc, Bool, false, List, [], ◌∷◌, ◌++◌, Option, Some, None, Result, MatchResult, append_assoc, ap}
+use Rattle.std.proofs.Common.{refl, sym, subst, arith}
 use Rattle.std.specs.Prelude.{◌||◌, map}
 use Rattle.std.specs.Io.KnownBytes.{Appends}
 use Rattle.std.proofs.lemmas.List.{append-nil}
@@ -19,22 +20,27 @@ use Rattle.x25_io.proofs.ToldLemmas.{prefix_more, told_prefix}
 use Rattle.x25_station.specs.Config.{Settings}
 use Rattle.x25_station.specs.Station.{new_station}
 use Rattle.x25_station.specs.code.FitsStation.{FitsStation}
-use Rattle.x25_pipe.specs.Timed.{Timed, TimedTurn, and_then, answer_turn, due_first, due_turns, insist_turn, mark_turn, new_timed, time_said, timed, timed_text, timed_turn, timed_turns, told_due, writes}
+use Rattle.x25_pipe.specs.Timed.{Timed, TimedTurn, and_then, answer_turn, due_first, due_turns, insist_turn, mark_turn, new_timed, time_said, timed, timed_text}
+use Rattle.x25_pipe.specs.Timed.{timed_turn, timed_turns, told_due, writes}
 use Rattle.x25_pipe.specs.code.TimedStands.{StandsTimed, StandsTimedAt, StoodTimed}
 use Rattle.x25_pipe.specs.code.TimedStream.{AnswersTimed, LeavesTimed, WritesTimed}
 use Rattle.x25_pipe.specs.declared.timed.TimedPipe.{TimedPipe}
 use Rattle.x25_pipe.proofs.PipeLemmas.{stands_first}
 
 -- the clock heeds the same
-pub heeded_alike : (times times' : Times) (now now' : ℕ) (x x' : Seen) (d d' : Deadlines) → times ≡ times' → now ≡ now' → x ≡ x' → d ≡ d' → heeded times now x d ≡ heeded times' now' x' d'
+pub heeded_alike : (times times' : Times) (now now' : ℕ) (x x' : Seen) (d d' : Deadlines) → times ≡ times' → now ≡ now' → x ≡ x' → d ≡ d'
+    → heeded times now x d ≡ heeded times' now' x' d'
 heeded_alike times times' now now' x x' d d' a b e f =
     ap (λ (t : Times). heeded t now x d) a ∙ ap (λ (n : ℕ). heeded times' n x d) b ∙ ap (λ (y : Seen). heeded times' now' y d) e ∙ ap (heeded times' now' x') f
 
 module _ (c : Settings) (times : Times) (old next : Option (List ℕ)) (told : List ℕ) (refused : Bool) (rest : Timed → TimedTurn) (t : TimedTurn) where
-  pub stands_behind : (u : TimedPipe) → StandsTimedAt c times old next u (told ++ t.text) (refused || t.is_refused) (rest t.next) → StandsTimedAt c times old next u told refused (and_then rest t)
+  pub stands_behind : (u : TimedPipe) → StandsTimedAt c times old next u (told ++ t.text) (refused || t.is_refused) (rest t.next)
+      → StandsTimedAt c times old next u told refused (and_then rest t)
   stands_behind u h =
-      subst (λ text. StandsTimed c times old next u (rest t.next).next text (refused || (and_then rest t).is_refused)) (append_assoc told t.text (rest t.next).text)
-      (subst (StandsTimed c times old next u (rest t.next).next ((told ++ t.text) ++ (rest t.next).text)) (or_assoc refused t.is_refused (rest t.next).is_refused) h)
+      subst (λ text. StandsTimed c times old next u (rest t.next).next text (refused || (and_then rest t).is_refused))
+      (append_assoc told t.text (rest t.next).text)
+      (subst (StandsTimed c times old next u (rest t.next).next ((told ++ t.text) ++ (rest t.next).text))
+      (or_assoc refused t.is_refused (rest t.next).is_refused) h)
 
   pub begins_behind : AppendsPrefix old next ((told ++ t.text) ++ (rest t.next).text) → AppendsPrefix old next (told ++ (and_then rest t).text)
   begins_behind b = subst (AppendsPrefix old next) (append_assoc told t.text (rest t.next).text) b
@@ -43,7 +49,8 @@ module _ (c : Settings) (times : Times) (old next : Option (List ℕ)) (told : L
   begins_before b = subst (AppendsPrefix old next) (append_assoc told t.text (rest t.next).text) (prefix_more old next (told ++ t.text) (rest t.next).text b)
 
   -- one turn behind another
-  pub stood_behind : (u : TimedPipe) (result : Result Unit Fault) → StoodTimed c times old next u (told ++ t.text) (refused || t.is_refused) result (rest t.next)
+  pub stood_behind : (u : TimedPipe) (result : Result Unit Fault)
+      → StoodTimed c times old next u (told ++ t.text) (refused || t.is_refused) result (rest t.next)
       → StoodTimed c times old next u told refused result (and_then rest t)
   stood_behind u result h = MatchResult-weaker result h (λ _ s. stands_behind u s) (λ _ b. begins_behind b)
 
@@ -51,7 +58,8 @@ module _ (c : Settings) (times : Times) (old next : Option (List ℕ)) (told : L
 
 module _ (c : Settings) (times : Times) (old now next : Option (List ℕ)) (p u : TimedPipe) (told : List ℕ) (refused : Bool) (whole : TimedTurn) where
   -- nothing of it is left but what says nothing
-  pub none_left : (rest : Timed → TimedTurn) (l : LeavesTimed c times old now p rest told refused whole) (w : Timed) → rest l.at ≡ writes w [] → StandsTimed c times old next u w l.text l.status
+  pub none_left : (rest : Timed → TimedTurn) (l : LeavesTimed c times old now p rest told refused whole) (w : Timed) → rest l.at ≡ writes w []
+      → StandsTimed c times old next u w l.text l.status
       → StandsTimedAt c times old next u told refused whole
   none_left rest l w is h =
       let at : w ≡ whole.next = sym (ap (λ t. t.next) is) ∙ l.next in
@@ -75,7 +83,8 @@ module _ (c : Settings) (times : Times) (old now next : Option (List ℕ)) (p u 
   }
 
   -- a part of it failed
-  pub part_failed : (all rest : Timed → TimedTurn) (first : TimedTurn) (l : LeavesTimed c times old now p all told refused whole) → all l.at ≡ and_then rest first
+  pub part_failed : (all rest : Timed → TimedTurn) (first : TimedTurn) (l : LeavesTimed c times old now p all told refused whole) → all l.at
+      ≡ and_then rest first
       → AppendsPrefix old next (l.text ++ first.text) → AppendsPrefix old next (told ++ whole.text)
   part_failed all rest first l e b =
       subst (AppendsPrefix old next) (append_assoc l.text first.text (rest first.next).text ∙ sym (ap (λ t. l.text ++ t.text) e) ∙ l.same)
@@ -83,14 +92,17 @@ module _ (c : Settings) (times : Times) (old now next : Option (List ℕ)) (p u 
 
   -- nothing more is told
   pub given_up : (rest : Timed → TimedTurn) → LeavesTimed c times old now p rest told refused whole → AppendsPrefix old now (told ++ whole.text)
-  given_up rest l = subst (AppendsPrefix old now) l.same (prefix_more old now l.text (rest l.at).text (told_prefix old now p.pipe.output l.text l.stands.pipe.tells))
+  given_up rest l = subst (AppendsPrefix old now) l.same
+      (prefix_more old now l.text (rest l.at).text (told_prefix old now p.pipe.output l.text l.stands.pipe.tells))
 
   -- what waited is written
-  pub left_written : (rest : Timed → TimedTurn) (l : LeavesTimed c times old now p rest told refused whole) → StandsTimed c times old next u l.at l.text l.status
+  pub left_written : (rest : Timed → TimedTurn) (l : LeavesTimed c times old now p rest told refused whole)
+      → StandsTimed c times old next u l.at l.text l.status
       → LeavesTimed c times old next u rest told refused whole
   left_written rest l h = record { at = l.at; text = l.text; status = l.status; stands = h; next = l.next; same = l.same; any = l.any }
 
-  pub left_begun : (rest : Timed → TimedTurn) (l : LeavesTimed c times old now p rest told refused whole) → AppendsPrefix old next l.text → AppendsPrefix old next (told ++ whole.text)
+  pub left_begun : (rest : Timed → TimedTurn) (l : LeavesTimed c times old now p rest told refused whole) → AppendsPrefix old next l.text
+      → AppendsPrefix old next (told ++ whole.text)
   left_begun rest l b = subst (AppendsPrefix old next) l.same (prefix_more old next l.text (rest l.at).text b)
 
 -- ---- what is due, one after another
@@ -98,7 +110,8 @@ module _ (c : Settings) (times : Times) (old now next : Option (List ℕ)) (p u 
 pub due_alike : (now now' : ℕ) (d d' : Deadlines) (o : Option Due) → o ≡ due_of now d → now ≡ now' → d ≡ d' → due_of now' d' ≡ o
 due_alike now now' d d' o is a b = sym (is ∙ ap (λ n. due_of n d) a ∙ ap (due_of now') b)
 
-pub told_alike : (times times' : Times) (now : ℕ) (d d' : Deadlines) (w : Timed) → d' ≡ after_due times' now d → times' ≡ times → now ≡ w.now → d ≡ w.deadlines → d' ≡ (told_due times w).deadlines
+pub told_alike : (times times' : Times) (now : ℕ) (d d' : Deadlines) (w : Timed) → d' ≡ after_due times' now d → times' ≡ times → now ≡ w.now → d ≡ w.deadlines
+    → d' ≡ (told_due times w).deadlines
 told_alike times times' now d d' w is a b e = is ∙ ap (λ (t : Times). after_due t now d) a ∙ ap (λ n. after_due times n d) b ∙ ap (after_due times w.now) e
 
 module _ (c : Settings) (times : Times) (n : ℕ) (w : Timed) where
@@ -106,7 +119,8 @@ module _ (c : Settings) (times : Times) (n : ℕ) (w : Timed) where
   unfolding due_turns
   nothing_due is = ap (due_first c times (due_turns c times n) w) is
 
-  something_due : (due : Due) → due_of w.now w.deadlines ≡ Some due → due_turns c times (suc n) w ≡ and_then (due_turns c times n) (insist_turn c times due (told_due times w))
+  something_due : (due : Due) → due_of w.now w.deadlines ≡ Some due → due_turns c times (suc n) w
+      ≡ and_then (due_turns c times n) (insist_turn c times due (told_due times w))
   unfolding due_turns
   something_due due is = ap (due_first c times (due_turns c times n) w) is
 
@@ -117,7 +131,8 @@ none_more c times w = refl
 pub no_turn_left : (c : Settings) (times : Times) (n : ℕ) (w : Timed) → n ≡ 0 → due_turns c times n w ≡ writes w []
 no_turn_left c times n w is = ap (λ n. due_turns c times n w) is ∙ none_more c times w
 
-pub nothing_is_due : (c : Settings) (times : Times) (n : ℕ) (w : Timed) → 0 < n → due_of w.now w.deadlines ≡ None → due_turns c times n w ≡ writes (told_due times w) []
+pub nothing_is_due : (c : Settings) (times : Times) (n : ℕ) (w : Timed) → 0 < n → due_of w.now w.deadlines ≡ None → due_turns c times n w
+    ≡ writes (told_due times w) []
 nothing_is_due c times zero w some is = absurd (omega (arith, some))
 nothing_is_due c times (suc n) w some is = nothing_due c times n w is
 
@@ -126,7 +141,8 @@ pub something_is_due : (c : Settings) (times : Times) (n m : ℕ) (w : Timed) (d
 something_is_due c times n m w due more is = ap (λ n. due_turns c times n w) more ∙ something_due c times m w due is
 
 -- as much is left as is due at most
-pub all_left : (c : Settings) (times : Times) (old now : Option (List ℕ)) (p : TimedPipe) (w : Timed) (told : List ℕ) (refused : Bool) (n m : ℕ) → n ≡ m → StandsTimed c times old now p w told refused
+pub all_left : (c : Settings) (times : Times) (old now : Option (List ℕ)) (p : TimedPipe) (w : Timed) (told : List ℕ) (refused : Bool) (n m : ℕ) → n ≡ m
+    → StandsTimed c times old now p w told refused
     → LeavesTimed c times old now p (due_turns c times n) told refused (due_turns c times m w)
 all_left c times old now p w told refused n m is h = record {
   at = w;
@@ -140,11 +156,13 @@ all_left c times old now p w told refused n m is h = record {
 
 -- ---- an input, line by line
 
-pub line_is : (c : Settings) (times : Times) (line : List ℕ) (w : Timed) → timed_turn c times line w ≡ and_then (mark_turn c) (answer_turn c times line w (time_said line))
+pub line_is : (c : Settings) (times : Times) (line : List ℕ) (w : Timed) → timed_turn c times line w
+    ≡ and_then (mark_turn c) (answer_turn c times line w (time_said line))
 unfolding timed_turn
 line_is c times line w = refl
 
-pub turns_more : (c : Settings) (times : Times) (line : List ℕ) (lines : List (List ℕ)) (w : Timed) → timed_turns c times (line ∷ lines) w ≡ and_then (timed_turns c times lines) (timed_turn c times line w)
+pub turns_more : (c : Settings) (times : Times) (line : List ℕ) (lines : List (List ℕ)) (w : Timed) → timed_turns c times (line ∷ lines) w
+    ≡ and_then (timed_turns c times lines) (timed_turn c times line w)
 unfolding timed_turns
 turns_more c times line lines w = refl
 
@@ -153,7 +171,8 @@ unfolding timed_turns
 turns_none c times w = refl
 
 module _ (c : Settings) (times : Times) (old now next : Option (List ℕ)) (whole : TimedTurn) where
-  pub ended_written : (p u : TimedPipe) (lines : List (List ℕ)) (l : LeavesTimed c times old now p (timed_turns c times lines) [] false whole) → u.pipe.output ≡ []
+  pub ended_written : (p u : TimedPipe) (lines : List (List ℕ)) (l : LeavesTimed c times old now p (timed_turns c times lines) [] false whole) → u.pipe.output
+      ≡ []
       → StandsTimed c times old next u l.at l.text l.status → WritesTimed c times old next lines whole
   ended_written p u lines l empty h =
       let tells = h.pipe.tells in
@@ -161,11 +180,13 @@ module _ (c : Settings) (times : Times) (old now next : Option (List ℕ)) (whol
         at = l.at;
         part = tells.written;
         appends = tells.appends;
-        same = ap (λ t. t ++ (timed_turns c times lines l.at).text) (sym (append-nil tells.written) ∙ ap (λ t. tells.written ++ t) (sym empty) ∙ tells.same) ∙ l.same;
+        same = ap (λ t. t ++ (timed_turns c times lines l.at).text) (sym (append-nil tells.written) ∙ ap (λ t. tells.written ++ t) (sym empty) ∙ tells.same)
+            ∙ l.same;
       }
 
 -- all is told, and nothing waits
-pub whole_told : (c : Settings) (times : Times) (old now : Option (List ℕ)) (p : TimedPipe) (whole : TimedTurn) → LeavesTimed c times old now p (timed_turns c times []) [] false whole → p.pipe.output ≡ []
+pub whole_told : (c : Settings) (times : Times) (old now : Option (List ℕ)) (p : TimedPipe) (whole : TimedTurn)
+    → LeavesTimed c times old now p (timed_turns c times []) [] false whole → p.pipe.output ≡ []
     → Appends old now whole.text × (p.pipe.is_refused ≡ whole.is_refused)
 whole_told c times old now p whole l empty =
     let h = none_left c times old now now p p [] false whole (timed_turns c times []) l l.at (turns_none c times l.at) l.stands in
@@ -175,8 +196,10 @@ whole_told c times old now p whole l empty =
 
 -- ---- a whole input
 
-pub stands_first_timed : (c : Settings) (times : Times) (written : Option (List ℕ)) (p : TimedPipe) → FitsStation c p.pipe.station new_station → p.pipe.end ≡ c.role → p.pipe.output ≡ []
-    → p.pipe.is_refused ≡ false → plain p.clock ≡ nothing_awaited c.channels.count → p.clock.times ≡ times → p.now ≡ 0 → StandsTimed c times written written p (new_timed c) [] false
+pub stands_first_timed : (c : Settings) (times : Times) (written : Option (List ℕ)) (p : TimedPipe) → FitsStation c p.pipe.station new_station → p.pipe.end
+    ≡ c.role → p.pipe.output ≡ []
+    → p.pipe.is_refused ≡ false → plain p.clock ≡ nothing_awaited c.channels.count → p.clock.times ≡ times → p.now ≡ 0
+    → StandsTimed c times written written p (new_timed c) [] false
 stands_first_timed c times written p fits role empty status clock is_times now =
     record { pipe = stands_first c written p.pipe fits role empty status; deadlines = clock; timers = is_times; time = now }
 
@@ -199,7 +222,8 @@ module _ (c : Settings) (times : Times) (old now : Option (List ℕ)) (p : Timed
     any = refl;
   }
 
-  pub input_begins : (q : TimedPipe) (held first : HeldLine) → held ≡ first → q ≡ p → HoldsLine [] first → StandsTimedAt c times old now p [] false (mark_turn c (new_timed c))
+  pub input_begins : (q : TimedPipe) (held first : HeldLine) → held ≡ first → q ≡ p → HoldsLine [] first
+      → StandsTimedAt c times old now p [] false (mark_turn c (new_timed c))
       → LinesLead (λ lines. AnswersTimed c times q old now lines input) held input
   input_begins q held first is_held is_pipe empty h =
       between (λ (lines : List (List ℕ)). AnswersTimed c times q old now lines input) held input (subst (HoldsLine []) (sym is_held) empty)

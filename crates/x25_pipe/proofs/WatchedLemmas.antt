@@ -1,5 +1,6 @@
 -- What a pipe does with its clock, line by line, as moments of one who has a clock.
-use Rattle.std.proofs.Common.{◌≡◌, ◌≤◌, ◌+◌, ◌-◌, ◌==◌, ℕ, zero, suc, length, List, [], ◌∷◌, ◌++◌, Bool, true, false, if◌then◌else◌, nat_lt, Option, Some, None, refl, sym, ap, subst, ◌∙◌, arith}
+use Rattle.std.proofs.Common.{◌≡◌, ◌≤◌, ◌+◌, ◌-◌, ◌==◌, ℕ, zero, suc, length, List, [], ◌∷◌, ◌++◌, Bool, true, false, if◌then◌else◌, nat_lt, Option, Some, None}
+use Rattle.std.proofs.Common.{refl, sym, ap, subst, ◌∙◌, arith}
 use Rattle.std.proofs.lemmas.Bool.{ltb-false}
 use Rattle.x25_circuit.specs.Calling.{SaysReady}
 use Rattle.x25_layer.specs.Layer.{Layer}
@@ -26,7 +27,8 @@ use Rattle.x25_clock.specs.Due.{command_for}
 use Rattle.x25_clock.specs.laws.ClockLaw.{Moment, Happens, IsDue, Watched, seen_of, heeds as heeds_event, watched_by, watched_from}
 use Rattle.x25_clock.specs.laws.WaitLaw as wait
 use Rattle.x25_pipe.specs.Pipe.{Act, act_of, asked_act, event_act, event_for, event_in, nothing_act, pulled_behind, with_pulls}
-use Rattle.x25_pipe.specs.Timed.{Timed, TimedTurn, act_turn, answer_turn, due_first, due_turns, insist_turn, new_timed, seen_at, time_said, timed_turn, timed_turns, told_due}
+use Rattle.x25_pipe.specs.Timed.{Timed, TimedTurn, act_turn, answer_turn, due_first, due_turns, insist_turn, new_timed, seen_at, time_said, timed_turn}
+use Rattle.x25_pipe.specs.Timed.{timed_turns, told_due}
 use Rattle.x25_pipe.specs.laws.ClockedLaw.{watched_in, with_pull, EventIsDone, PipeIsWatched}
 
 -- some moments lead from one to the other
@@ -40,7 +42,11 @@ module _ (c : Settings) (times : Times) where
   from_both (m ∷ a) b w = from_both a b (watched_by c times m w)
 
   leads_on : (u v w : Watched) → Leads c times u v → Leads c times v w → Leads c times u w
-  leads_on u v w p q = record { moments = p.moments ++ q.moments; is = from_both p.moments q.moments u ∙ ap (λ (x : Watched). watched_from c times q.moments x) p.is ∙ q.is }
+  leads_on u v w p q = record {
+    moments = p.moments ++ q.moments;
+    is = from_both p.moments q.moments u
+        ∙ ap (λ (x : Watched). watched_from c times q.moments x) p.is ∙ q.is;
+  }
 
   here : (w : Watched) → Leads c times w w
   here w = record { moments = []; is = refl }
@@ -66,9 +72,12 @@ never c s = by (is_up s.link.phase) s.layer.restarting
     full = waits s.link.outgoing == 256
 
     entries : List StationEntry
-    entries = entries_of_outcome (layer_settings c) s.layer (asks_on 0 SaysReady) (outcome_in (layer_settings c) full s.layer.restarting s.layer.restarts s.layer.circuits (asks_on 0 SaysReady))
+    entries = entries_of_outcome (layer_settings c) s.layer (asks_on 0 SaysReady)
+        (outcome_in (layer_settings c) full s.layer.restarting s.layer.restarts s.layer.circuits (asks_on 0 SaysReady))
 
-    by : (up busy : Bool) → IsRefused (did c (alone s.link) entries (if up then went (view_of (link_settings c) s.link) (layer_settings c) (outcome_in (layer_settings c) full busy s.layer.restarts s.layer.circuits (asks_on 0 SaysReady)) else Refuses layer_error.NotUp))
+    by : (up busy : Bool) → IsRefused (did c (alone s.link) entries
+        (if up then went (view_of (link_settings c) s.link) (layer_settings c)
+        (outcome_in (layer_settings c) full busy s.layer.restarts s.layer.circuits (asks_on 0 SaysReady)) else Refuses layer_error.NotUp))
     by false busy = record { error = station_error.Layer layer_error.NotUp; is = refl }
     by true true = record { error = station_error.Layer layer_error.Restarting; is = refl }
     by true false = record { error = station_error.Layer layer_error.NoSuchChannel; is = refl }
@@ -79,7 +88,8 @@ nothing_leads c times w =
     let back : w.now + 0 ≡ w.now = omega arith in
     record {
       moments = Happens 0 refused_event ∷ [];
-      is = ap (λ (o : Outcome). heeds_event c times (w.now + 0) refused_event o (watched_in w)) no.is ∙ ap (λ (n : ℕ). heeds_event c times n refused_event (Refused no.error) (watched_in w)) back;
+      is = ap (λ (o : Outcome). heeds_event c times (w.now + 0) refused_event o (watched_in w)) no.is
+          ∙ ap (λ (n : ℕ). heeds_event c times n refused_event (Refused no.error) (watched_in w)) back;
     }
 
 -- ---- the turns
@@ -101,7 +111,8 @@ module _ (done : EventIsDone) (stays : StaysSettled) (c : Settings) (times : Tim
   event_reaches : (w : Timed) (event : StationEvent) → IsSettled c w.station → Reaches w (act_turn c times w (event_act c w.station event)).next
   unfolding event_act
   event_reaches w event h = record {
-    leads = subst (Leads c times (watched_in w)) (sym (done c times event w small h)) (deeds_lead c times event (timer.outcome c w.station event) (watched_in w));
+    leads = subst (Leads c times (watched_in w)) (sym (done c times event w small h))
+        (deeds_lead c times event (timer.outcome c w.station event) (watched_in w));
     settled = act_settled w.station event (timer.outcome c w.station event) (stays c w.station event small h) h;
   }
 
@@ -115,10 +126,15 @@ module _ (done : EventIsDone) (stays : StaysSettled) (c : Settings) (times : Tim
   told_leads : (w : Timed) → Leads c times (watched_in w) (watched_in (told_due times w))
   told_leads w =
       let back : w.now + 0 ≡ w.now = omega arith in
-      record { moments = IsDue 0 ∷ []; is = ap (λ (n : ℕ). let v : Watched = record { station = w.station; deadlines = after_due times n w.deadlines; now = n } in v) back }
+      record {
+        moments = IsDue 0 ∷ [];
+        is = ap
+            (λ (n : ℕ). let v : Watched = record { station = w.station; deadlines = after_due times n w.deadlines; now = n } in v) back;
+      }
 
   -- what is asked behind what was told as due
-  first_reaches : (n : ℕ) (w : Timed) (o : Option Due) → ((u : Timed) → IsSettled c u.station → Reaches u (due_turns c times n u).next) → IsSettled c w.station → Reaches (told_due times w) (due_first c times (due_turns c times n) w o).next
+  first_reaches : (n : ℕ) (w : Timed) (o : Option Due) → ((u : Timed) → IsSettled c u.station → Reaches u (due_turns c times n u).next) → IsSettled c w.station
+      → Reaches (told_due times w) (due_first c times (due_turns c times n) w o).next
   first_reaches n w None rest h = record { leads = here c times (watched_in (told_due times w)); settled = h }
   first_reaches n w (Some what) rest h =
       let v : Timed = told_due times w in
@@ -129,15 +145,20 @@ module _ (done : EventIsDone) (stays : StaysSettled) (c : Settings) (times : Tim
   all_reach : (n : ℕ) (w : Timed) → IsSettled c w.station → Reaches w (due_turns c times n w).next
   unfolding due_turns
   all_reach zero w h = record { leads = here c times (watched_in w); settled = h }
-  all_reach (suc n) w h = on w (told_due times w) (due_turns c times (suc n) w).next (told_leads w) (first_reaches n w (due_of w.now w.deadlines) (all_reach n) h)
+  all_reach (suc n) w h = on w (told_due times w) (due_turns c times (suc n) w).next (told_leads w)
+      (first_reaches n w (due_of w.now w.deadlines) (all_reach n) h)
 
   -- the time passes to one that is said
   passes : (w : Timed) (now : ℕ) → w.now ≤ now → Leads c times (watched_in w) (watched_in (told_due times (record w { now = now })))
   passes w now low =
       let there : w.now + (now - w.now) ≡ now = omega (arith, low) in
-      record { moments = IsDue (now - w.now) ∷ []; is = ap (λ (n : ℕ). let v : Watched = record { station = w.station; deadlines = after_due times n w.deadlines; now = n } in v) there }
+      record {
+        moments = IsDue (now - w.now) ∷ [];
+        is = ap (λ (n : ℕ). let v : Watched = record { station = w.station; deadlines = after_due times n w.deadlines; now = n } in v) there;
+      }
 
-  time_reaches : (w : Timed) (now : ℕ) → w.now ≤ now → IsSettled c w.station → Reaches w (due_turns c times (most_due w.deadlines) (record w { now = now })).next
+  time_reaches : (w : Timed) (now : ℕ) → w.now ≤ now → IsSettled c w.station
+      → Reaches w (due_turns c times (most_due w.deadlines) (record w { now = now })).next
   unfolding due_turns
   time_reaches w now low h =
       let v : Timed = record w { now = now } in
@@ -150,7 +171,9 @@ module _ (done : EventIsDone) (stays : StaysSettled) (c : Settings) (times : Tim
   answer_reaches line w None h = asked_reaches w (event_in c.wide c.role line) h
   answer_reaches line w (Some now) h = by (nat_lt now w.now) refl
     where
-      by : (b : Bool) → nat_lt now w.now ≡ b → Reaches w (let t : TimedTurn = if b then act_turn c times w (nothing_act w.station) else due_turns c times (most_due w.deadlines) (record w { now = now }) in t.next)
+      by : (b : Bool) → nat_lt now w.now ≡ b
+          → Reaches w (let t : TimedTurn = if b then act_turn c times w (nothing_act w.station)
+          else due_turns c times (most_due w.deadlines) (record w { now = now }) in t.next)
       by true is = record { leads = nothing_leads c times w; settled = h }
       by false is = time_reaches w now (ltb-false now w.now is) h
 
@@ -159,7 +182,8 @@ module _ (done : EventIsDone) (stays : StaysSettled) (c : Settings) (times : Tim
   lines_reach [] w h = record { leads = here c times (watched_in w); settled = h }
   lines_reach (line ∷ lines) w h =
       let first : Reaches w (timed_turn c times line w).next = answer_reaches line w (time_said line) h in
-      on w (timed_turn c times line w).next (timed_turns c times (line ∷ lines) w).next first.leads (lines_reach lines (timed_turn c times line w).next first.settled)
+      on w (timed_turn c times line w).next (timed_turns c times (line ∷ lines) w).next first.leads
+      (lines_reach lines (timed_turn c times line w).next first.settled)
 
 pub pipe_is_watched : EventIsDone → NewIsSettled → StaysSettled → PipeIsWatched
 pipe_is_watched done new stays c times lines small =

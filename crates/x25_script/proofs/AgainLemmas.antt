@@ -8,11 +8,16 @@ use Rattle.x25_bits.specs.declared.role.Role.{Role}
 use Rattle.x25_bits.specs.declared.role.Role.TheVariants.{Dte, Dce}
 use Rattle.x25_circuit.specs.declared.params.Params.{Params}
 use Rattle.x25_script.specs.declared.given.Given.{Given}
-use Rattle.x25_script.specs.ScriptLine.{PlainCommand, call, accept, clear, send, interrupt, reset, ready, not_ready, restart, pull, connect, disconnect, probe, relink, with_given, PlainLine, command, t1, deliver, lose, damage, drain, heal}
-use Rattle.x25_script.specs.Reading.Spelling.{end_text, direction_text, q_text, address_text, IsAddress, IsNumber, Writes, AreParams, params_text, IsSmall, IsGiven, given_text, d_text, SpellsPart, SpellsCommand, Spells}
-use Rattle.x25_script.specs.Reading.{parts_of, number_in, small_number_in, params_in, with_params_of, with_params_in, labelled_in, one_given, given_of, given_in, with_given_of, with_given_in, giving_on, call_in, accept_in, octets_in, d_in, send_in, interrupt_in, on_channel, IsNotBehind, part_in, with_in, with_fields, command_in, lose_in, damage_in, drain_in, line_in}
+use Rattle.x25_script.specs.ScriptLine.{PlainCommand, call, accept, clear, send, interrupt, reset, ready, not_ready, restart, pull, connect, disconnect, probe}
+use Rattle.x25_script.specs.ScriptLine.{relink, with_given, PlainLine, command, t1, deliver, lose, damage, drain, heal}
+use Rattle.x25_script.specs.Reading.Spelling.{end_text, direction_text, q_text, address_text, IsAddress, IsNumber, Writes, AreParams, params_text, IsSmall}
+use Rattle.x25_script.specs.Reading.Spelling.{IsGiven, given_text, d_text, SpellsPart, SpellsCommand, Spells}
+use Rattle.x25_script.specs.Reading.{parts_of, number_in, small_number_in, params_in, with_params_of, with_params_in, labelled_in, one_given, given_of}
+use Rattle.x25_script.specs.Reading.{given_in, with_given_of, with_given_in, giving_on, call_in, accept_in, octets_in, d_in, send_in, interrupt_in, on_channel}
+use Rattle.x25_script.specs.Reading.{IsNotBehind, part_in, with_in, with_fields, command_in, lose_in, damage_in, drain_in, line_in}
 use Rattle.x25_script.proofs.NumberLemmas.{own, number_again}
-use Rattle.x25_script.proofs.PartLemmas.{with_d, d_none, parts_again, whole_again, no_blank, octets_no_blank, digits_no_blank, address_no_blank, end_again, from_again, q_again, address_again, octets_again}
+use Rattle.x25_script.proofs.PartLemmas.{with_d, d_none, parts_again, whole_again, no_blank, octets_no_blank, digits_no_blank, address_no_blank, end_again}
+use Rattle.x25_script.proofs.PartLemmas.{from_again, q_again, address_again, octets_again}
 
 -- a step after one that reads
 bind_again : {A B : Type 0} (read : Option A) (f : A → Option B) (x : A) (y : B) → read ≡ Some x → f x ≡ Some y → option_and_then f read ≡ Some y
@@ -95,7 +100,8 @@ abbrev ReadsBehind : (List ℕ → Given → Type 0) → Type 0
 ReadsBehind Reads = (rest : List ℕ) (g : Given) → given_in rest ≡ Some g → Reads (32 ∷ rest) g
 
 -- all that may be given is read behind a blank, but nothing
-given_again : (Reads : List ℕ → Given → Type 0) → ReadsBehind Reads → Reads [] (given None None) → (cause diagnostic : Option ℕ) → IsSmall cause → IsSmall diagnostic
+given_again : (Reads : List ℕ → Given → Type 0) → ReadsBehind Reads → Reads [] (given None None) → (cause diagnostic : Option ℕ) → IsSmall cause
+    → IsSmall diagnostic
     → Reads (given_text (given cause diagnostic)) (given cause diagnostic)
 given_again Reads behind none None None h k = none
 given_again Reads behind none (Some n) None h k =
@@ -109,7 +115,8 @@ with_given_again field g h k =
     (λ rest read e. ap (with_given_of (field ++ (32 ∷ rest))) (parts_again field rest h) ∙ bind_again _ _ read _ e refl)
     (ap with_given_in (append-nil field) ∙ ap (with_given_of field) (whole_again field h)) g.cause g.diagnostic k.0 k.1
 
-giving_again : (asked : ℕ → Given → PlainCommand) (channel : ℕ) (g : Given) → IsNumber channel → IsGiven g → giving_on asked (decimal channel ++ given_text g) ≡ Some (asked channel g)
+giving_again : (asked : ℕ → Given → PlainCommand) (channel : ℕ) (g : Given) → IsNumber channel → IsGiven g → giving_on asked (decimal channel ++ given_text g)
+    ≡ Some (asked channel g)
 giving_again asked channel g h k =
     bind_again _ _ (decimal channel, g) _ (with_given_again (decimal channel) g (decimal_no_blank channel h) k)
     (bind_again _ _ channel _ (number_read channel h) refl)
@@ -214,7 +221,8 @@ d_again : (d : Bool) (v : PlainCommand) (rest : List ℕ) → SpellsPart v rest 
 d_again true v rest s = refl
 d_again false v rest s = no_d v rest s
 
-with_again : (facilities user : List ℕ) (d : Bool) (asked : PlainCommand) (field digits rest : List ℕ) → Writes field facilities → Writes digits user → SpellsPart asked rest
+with_again : (facilities user : List ℕ) (d : Bool) (asked : PlainCommand) (field digits rest : List ℕ) → Writes field facilities → Writes digits user
+    → SpellsPart asked rest
     → with_in (field ++ (32 ∷ (digits ++ (32 ∷ (d_text d ++ rest))))) ≡ Some (with_given facilities user d asked)
 unfolding with_in
 with_again facilities user d asked field digits rest f u s =
@@ -266,7 +274,8 @@ unfolding drain_in
 drain_again count h some =
     bind_again _ _ count _ (number_read count h) (ap (λ b. cond b None (Some (drain count))) (ne_eqb count 0 (omega arith)))
 
-commanded_again : (end : Role) (asked : PlainCommand) (rest : List ℕ) → SpellsCommand asked rest → line_in (end_text end ++ (32 ∷ rest)) ≡ Some (command end asked)
+commanded_again : (end : Role) (asked : PlainCommand) (rest : List ℕ) → SpellsCommand asked rest → line_in (end_text end ++ (32 ∷ rest))
+    ≡ Some (command end asked)
 unfolding line_in parts_of
 commanded_again Dte asked rest s = bind_again _ _ asked _ (command_again asked rest s) refl
 commanded_again Dce asked rest s = bind_again _ _ asked _ (command_again asked rest s) refl

@@ -1,5 +1,6 @@
 -- The parts of a text at its first blank, and texts of digits.
-use Rattle.std.proofs.Common.{ℕ, zero, suc, ◌+◌, ◌==◌, ◌<◌, ◌≡◌, ◌∙◌, Bool, true, false, List, [], ◌∷◌, length, get_or, take, drop, Some, None, nat_lt, refl, ap, sym, arith, add-one}
+use Rattle.std.proofs.Common.{ℕ, zero, suc, ◌+◌, ◌==◌, ◌<◌, ◌≡◌, ◌∙◌, Bool, true, false, List, [], ◌∷◌, length, get_or, take, drop, Some, None, nat_lt, refl}
+use Rattle.std.proofs.Common.{ap, sym, arith, add-one}
 use Rattle.std.specs.Prelude.{option_map, cond}
 use Rattle.std.specs.Char.{is_ascii_digit}
 use Rattle.std.specs.List.{list_all, position, position_or_len}

@@ -1,5 +1,6 @@
 -- A line is read exactly where it is spelled.
-use Rattle.std.proofs.Common.{ℕ, Bool, true, false, ◌==◌, ◌≤◌, ◌≡◌, ◌∙◌, inl, inr, List, ◌∷◌, ◌++◌, length, take, drop, Option, Some, None, refl, ap, sym, subst, arith, append-nil}
+use Rattle.std.proofs.Common.{ℕ, Bool, true, false, ◌==◌, ◌≤◌, ◌≡◌, ◌∙◌, inl, inr, List, ◌∷◌, ◌++◌, length, take, drop, Option, Some, None, refl, ap, sym}
+use Rattle.std.proofs.Common.{subst, arith, append-nil}
 use Rattle.std.specs.Prelude.{cond, option_map, codes, decimal, nat_lt}
 use Rattle.std.specs.Str.{bytes_eq}
 use Rattle.std.proofs.lemmas.Bool.{eqb-false, ltb-true}
@@ -7,12 +8,19 @@ use Rattle.std.proofs.lemmas.Option.{same_Some, none-some, cond_some}
 use Rattle.x25_bits.specs.declared.role.Role.{Role}
 use Rattle.x25_circuit.specs.declared.params.Params.{Params}
 use Rattle.x25_script.specs.declared.given.Given.{Given}
-use Rattle.x25_script.specs.ScriptLine.{PlainCommand, call, accept, clear, send, interrupt, reset, ready, not_ready, restart, pull, connect, disconnect, probe, relink, with_given, PlainLine, heal}
-use Rattle.x25_script.specs.Reading.Spelling.{end_text, direction_text, q_text, address_text, IsNumber, AreParams, params_text, IsGiven, given_text, d_text, SpellsPart, SpellsCommand, Spells}
-use Rattle.x25_script.specs.Reading.{Keyword, End, T1, Deliver, Lose, Damage, Drain, Verb, Call, Accept, Clear, Send, Interrupt, Reset, Restart, Ready, NotReady, With}
-use Rattle.x25_script.specs.Reading.{parts_of, end_in, from_in, q_in, number_in, address_in, octets_in, verb_in, keyword_in, small_number_in, params_in, with_params_of, with_params_in, labelled_in, nothing_given, one_given, given_of, given_in, with_given_of, with_given_in, giving_on, restart_in, call_in, accept_in, send_in, interrupt_in, on_channel, part_fields, part_in, d_in, with_in, with_fields, bare_command_in, command_of, command_in, lose_in, damage_in, drain_in, after, bare_line_in, line_of, line_in}
+use Rattle.x25_script.specs.ScriptLine.{PlainCommand, call, accept, clear, send, interrupt, reset, ready, not_ready, restart, pull, connect, disconnect, probe}
+use Rattle.x25_script.specs.ScriptLine.{relink, with_given, PlainLine, heal}
+use Rattle.x25_script.specs.Reading.Spelling.{end_text, direction_text, q_text, address_text, IsNumber, AreParams, params_text, IsGiven, given_text, d_text}
+use Rattle.x25_script.specs.Reading.Spelling.{SpellsPart, SpellsCommand, Spells}
+use Rattle.x25_script.specs.Reading.{Keyword, End, T1, Deliver, Lose, Damage, Drain, Verb, Call, Accept, Clear, Send, Interrupt, Reset, Restart, Ready}
+use Rattle.x25_script.specs.Reading.{NotReady, With}
+use Rattle.x25_script.specs.Reading.{parts_of, end_in, from_in, q_in, number_in, address_in, octets_in, verb_in, keyword_in, small_number_in, params_in}
+use Rattle.x25_script.specs.Reading.{with_params_of, with_params_in, labelled_in, nothing_given, one_given, given_of, given_in, with_given_of, with_given_in}
+use Rattle.x25_script.specs.Reading.{giving_on, restart_in, call_in, accept_in, send_in, interrupt_in, on_channel, part_fields, part_in, d_in, with_in}
+use Rattle.x25_script.specs.Reading.{with_fields, bare_command_in, command_of, command_in, lose_in, damage_in, drain_in, after, bare_line_in, line_of, line_in}
 use Rattle.x25_script.proofs.NumberLemmas.{number_found}
-use Rattle.x25_script.proofs.PartLemmas.{with_d, chosen, bind_found, begun, IsText, word_step, parts_joined, end_found, from_found, q_found, address_found, octets_found}
+use Rattle.x25_script.proofs.PartLemmas.{with_d, chosen, bind_found, begun, IsText, word_step, parts_joined, end_found, from_found, q_found, address_found}
+use Rattle.x25_script.proofs.PartLemmas.{octets_found}
 
 -- ---- what is read is spelled so
 
@@ -128,17 +136,20 @@ labelled_found label text n e = elim (chosen (bytes_eq label (take (length label
 abbrev IsGivenText : List ℕ → Given → Type 0
 IsGivenText text given = IsGiven given × (32 ∷ text ≡ given_text given)
 
-one_found : (text : List ℕ) (cause diagnostic : Option ℕ) (given : Given) → labelled_in (codes "cause=") text ≡ cause → labelled_in (codes "diag=") text ≡ diagnostic
+one_found : (text : List ℕ) (cause diagnostic : Option ℕ) (given : Given) → labelled_in (codes "cause=") text ≡ cause → labelled_in (codes "diag=") text
+    ≡ diagnostic
     → one_given cause diagnostic ≡ Some given → IsGivenText text given
 one_found text (Some cause) diagnostic given c d e =
     let found = labelled_found (codes "cause=") text cause c in
-    subst (λ (g : Given). IsGivenText text g) (same_Some _ _ e) ((found.0, tt), ap (λ t. 32 ∷ t) found.1 ∙ sym (append-nil (32 ∷ (codes "cause=" ++ decimal cause))))
+    subst (λ (g : Given). IsGivenText text g) (same_Some _ _ e)
+    ((found.0, tt), ap (λ t. 32 ∷ t) found.1 ∙ sym (append-nil (32 ∷ (codes "cause=" ++ decimal cause))))
 one_found text None (Some diagnostic) given c d e =
     let found = labelled_found (codes "diag=") text diagnostic d in
     subst (λ (g : Given). IsGivenText text g) (same_Some _ _ e) ((tt, found.0), ap (λ t. 32 ∷ t) found.1)
 one_found text None None given c d e = absurd (none-some _ e)
 
-given_parts : (text : List ℕ) (parts : Option (List ℕ × List ℕ)) (given : Given) → parts_of text ≡ parts → given_of text parts ≡ Some given → IsGivenText text given
+given_parts : (text : List ℕ) (parts : Option (List ℕ × List ℕ)) (given : Given) → parts_of text ≡ parts → given_of text parts ≡ Some given
+    → IsGivenText text given
 given_parts text None given same e = one_found text (labelled_in (codes "cause=") text) (labelled_in (codes "diag=") text) given refl refl e
 given_parts text (Some parts) given same e =
     let cause = bind_found (labelled_in (codes "cause=") parts.0) _ given e in
@@ -234,7 +245,8 @@ channel_found asked word fields v e spell =
     subst (λ (w : PlainCommand). SpellsCommand w (word ++ fields)) (same_Some _ _ channel.2)
     (subst (λ (t : List ℕ). SpellsCommand (asked channel.0) (word ++ t)) (sym one.1) (spell channel.0 one.0))
 
-giving_found : (Spelled : PlainCommand → List ℕ → Type 0) (asked : ℕ → Given → PlainCommand) (word fields : List ℕ) (v : PlainCommand) → giving_on asked fields ≡ Some v
+giving_found : (Spelled : PlainCommand → List ℕ → Type 0) (asked : ℕ → Given → PlainCommand) (word fields : List ℕ) (v : PlainCommand) → giving_on asked fields
+    ≡ Some v
     → ((n : ℕ) (given : Given) → IsNumber n → IsGiven given → Spelled (asked n given) (word ++ (decimal n ++ given_text given))) → Spelled v (word ++ fields)
 giving_found Spelled asked word fields v e spell =
     let last = bind_found (with_given_in fields) _ v e in
@@ -261,13 +273,7 @@ part_fields_found : (verb : Verb) (fields : List ℕ) (v : PlainCommand) → par
 part_fields_found Call fields v e = call_found fields v e
 part_fields_found Accept fields v e = accept_found fields v e
 part_fields_found Clear fields v e = clear_found fields v e
-part_fields_found Send fields v e = absurd (none-some _ e)
-part_fields_found Interrupt fields v e = absurd (none-some _ e)
-part_fields_found Reset fields v e = absurd (none-some _ e)
-part_fields_found Restart fields v e = absurd (none-some _ e)
-part_fields_found Ready fields v e = absurd (none-some _ e)
-part_fields_found NotReady fields v e = absurd (none-some _ e)
-part_fields_found With fields v e = absurd (none-some _ e)
+part_fields_found verb fields v e = absurd (none-some _ e)
 
 pub part_found : (text : List ℕ) (v : PlainCommand) → part_in text ≡ Some v → SpellsPart v text
 unfolding part_in
@@ -338,7 +344,8 @@ bare_found text v e =
     word_step SpellsCommand text (codes "probe") probe v _ refl e (λ e.
     word_step SpellsCommand text (codes "relink") relink v _ refl e (λ e. absurd (none-some _ e)))))))
 
-command_parts : (text : List ℕ) (parts : Option (List ℕ × List ℕ)) (v : PlainCommand) → parts_of text ≡ parts → command_of text parts ≡ Some v → SpellsCommand v text
+command_parts : (text : List ℕ) (parts : Option (List ℕ × List ℕ)) (v : PlainCommand) → parts_of text ≡ parts → command_of text parts ≡ Some v
+    → SpellsCommand v text
 command_parts text None v same e = bare_found text v e
 command_parts text (Some parts) v same e =
     let verb = bind_found (verb_in parts.0) _ v e in

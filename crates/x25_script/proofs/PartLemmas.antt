@@ -1,5 +1,6 @@
 -- Fields apart by a blank.
-use Rattle.std.proofs.Common.{ℕ, ◌==◌, ◌≡◌, ◌≢◌, ◌∙◌, ◌⊎◌, inl, inr, Bool, true, false, List, [], ◌∷◌, ◌++◌, length, take, drop, Option, Some, None, Result, Ok, Err, refl, ap, sym, subst, arith}
+use Rattle.std.proofs.Common.{ℕ, ◌==◌, ◌≡◌, ◌≢◌, ◌∙◌, ◌⊎◌, inl, inr, Bool, true, false, List, [], ◌∷◌, ◌++◌, length, take, drop, Option, Some, None, Result, Ok}
+use Rattle.std.proofs.Common.{Err, refl, ap, sym, subst, arith}
 use Rattle.std.specs.Prelude.{cond, not, option_map, option_and_then, ◌&&◌, if◌then◌else◌, codes, nat_eq}
 use Rattle.std.specs.Char.{is_ascii_digit, is_ascii_hexdigit}
 use Rattle.std.specs.List.{list_all}
@@ -12,7 +13,8 @@ use Rattle.std.proofs.Math.Seq.{take_at, drop-append_seam}
 use Rattle.x25_bits.specs.declared.role.Role.{Role}
 use Rattle.x25_bits.specs.declared.role.Role.TheVariants.{Dte, Dce}
 use Rattle.x25_script.specs.Reading.Spelling.{end_text, direction_text, q_text, address_text, IsAddress, Writes}
-use Rattle.x25_script.specs.Reading.{parts_of, onto_first, end_in, from_in, q_in, digits_in, address_in, octets_in, small_number_in, labelled_in, d_in, IsNotBehind}
+use Rattle.x25_script.specs.Reading.{parts_of, onto_first, end_in, from_in, q_in, digits_in, address_in, octets_in, small_number_in, labelled_in, d_in}
+use Rattle.x25_script.specs.Reading.{IsNotBehind}
 use Rattle.x25_script.specs.HexDigits.{octets_of}
 use Rattle.hex.specs.declared.error.FromHexError.{FromHexError}
 use Rattle.hex.specs.Hex.{decode_of}
@@ -56,7 +58,8 @@ not_begun text word h rest e =
 pub labelled_some : (label text rest : List ℕ) → text ≡ label ++ rest → labelled_in label text ≡ small_number_in rest
 labelled_some label text rest e =
     ap (labelled_in label) e
-    ∙ ap (λ b. cond b (small_number_in (drop (length label) (label ++ rest))) None) ((bytes_eq-Decides label (take (length label) (label ++ rest))).1 (sym (take_at label rest (length label) refl)))
+    ∙ ap (λ b. cond b (small_number_in (drop (length label) (label ++ rest))) None)
+    ((bytes_eq-Decides label (take (length label) (label ++ rest))).1 (sym (take_at label rest (length label) refl)))
     ∙ ap small_number_in (drop-append_seam label rest)
 
 pub labelled_none : (label text : List ℕ) → IsNotBehind label text → labelled_in label text ≡ None
@@ -85,7 +88,8 @@ abbrev pub IsText : {A : Type 0} → (A → List ℕ) → A → List ℕ → Typ
 IsText text_of read text = text ≡ text_of read
 
 -- this word, or what the other tests find
-pub word_step : {A : Type 0} (Spelled : A → List ℕ → Type 0) (text word : List ℕ) (this read : A) (rest : Option A) → Spelled this word → cond (bytes_eq text word) (Some this) rest ≡ Some read
+pub word_step : {A : Type 0} (Spelled : A → List ℕ → Type 0) (text word : List ℕ) (this read : A) (rest : Option A) → Spelled this word
+    → cond (bytes_eq text word) (Some this) rest ≡ Some read
     → (rest ≡ Some read → Spelled read text) → Spelled read text
 word_step {A} Spelled text word this read rest spells e others = elim (chosen (bytes_eq text word) _ _ _ e) [
   | inl p ↦ subst (λ (r : A). Spelled r text) (same_Some _ _ p.1) (subst (Spelled this) (sym (bytes_same text word p.0)) spells)
@@ -211,7 +215,8 @@ address_found text digits e = elim (dash_or text digits (digits_in text) e) [
     none text [] h k = (refl, h)
     none text (c ∷ digits) h k = absurd (cc)
 
-    some : (text digits : List ℕ) → (length text == 0) ≡ false → list_all is_ascii_digit text ≡ true → text ≡ digits → IsAddress digits × (text ≡ address_text digits)
+    some : (text digits : List ℕ) → (length text == 0) ≡ false → list_all is_ascii_digit text ≡ true → text ≡ digits → IsAddress digits
+        × (text ≡ address_text digits)
     some text digits long all same =
         (ap (list_all is_ascii_digit) (sym same) ∙ all, sym (some_digits text long) ∙ ap address_text same)
 
@@ -223,7 +228,8 @@ address_again [] h = refl
 address_again (c ∷ digits) h =
     let first = and_parts (is_ascii_digit c) (list_all is_ascii_digit digits) h in
     let other : bytes_eq (c ∷ digits) (codes "-") ≡ false = ap (λ b. b && bytes_eq digits []) (no_dash c first.0) in
-    let some : (length (c ∷ digits) == 0) ≡ false = false_from_ne_true (length (c ∷ digits) == 0) (λ t. let none = eqb-true (length (c ∷ digits)) 0 t in omega (arith, none)) in
+    let some : (length (c ∷ digits) == 0) ≡ false = false_from_ne_true (length (c ∷ digits) == 0)
+    (λ t. let none = eqb-true (length (c ∷ digits)) 0 t in omega (arith, none)) in
     ap (λ b. cond b (Some []) (cond (length (c ∷ digits) == 0) None (digits_in (c ∷ digits)))) other
     ∙ ap (λ b. cond b None (digits_in (c ∷ digits))) some ∙ ap (λ b. cond b (Some (c ∷ digits)) None) h
 
@@ -256,7 +262,8 @@ octets_again text (c ∷ octets) h =
     let read = decode_of-ok text (c ∷ octets) h in
     let even = read.0 in
     let size = read.2 in
-    let other : bytes_eq text (codes "-") ≡ false = false_from_ne_true (bytes_eq text (codes "-")) (λ t. let one = ap length (bytes_same text (codes "-") t) in omega (arith, one, even)) in
+    let other : bytes_eq text (codes "-") ≡ false = false_from_ne_true (bytes_eq text (codes "-"))
+    (λ t. let one = ap length (bytes_same text (codes "-") t) in omega (arith, one, even)) in
     let some : (length text == 0) ≡ false = false_from_ne_true (length text == 0) (λ t. let none = eqb-true (length text) 0 t in omega (arith, none, size)) in
     ap (λ b. cond b (Some []) (cond (length text == 0) None (octets_of text))) other
     ∙ ap (λ b. cond b None (octets_of text)) some ∙ ap result_ok h

@@ -3,9 +3,11 @@ use Rattle.std.proofs.Common.{ℕ, ◌≡◌, ◌∙◌, ◌≢◌, List, ◌∷
 use Rattle.std.proofs.lemmas.Option.{none-some}
 use Rattle.x25_bits.specs.declared.role.Role.TheVariants.{Dte, Dce}
 use Rattle.x25_script.specs.declared.given.Given.{Given}
-use Rattle.x25_script.specs.ScriptLine.{PlainCommand, call, accept, clear, send, interrupt, reset, ready, not_ready, restart, pull, connect, disconnect, probe, relink, with_given, PlainLine, command, t1, deliver, lose, damage, drain, heal}
+use Rattle.x25_script.specs.ScriptLine.{PlainCommand, call, accept, clear, send, interrupt, reset, ready, not_ready, restart, pull, connect, disconnect, probe}
+use Rattle.x25_script.specs.ScriptLine.{relink, with_given, PlainLine, command, t1, deliver, lose, damage, drain, heal}
 use Rattle.x25_script.specs.Reading.Spelling.{Spells, SpellsPart, SpellsCommand, given_text}
-use Rattle.x25_script.specs.Reading.{parts_of, Keyword, End, T1, Deliver, Lose, Damage, Drain, Verb, Call, Accept, Clear, Send, Interrupt, Reset, Restart, Ready, NotReady, With, part_fields, part_in, with_fields, bare_command_in, command_in, after, line_in, IsNotBehind}
+use Rattle.x25_script.specs.Reading.{parts_of, Keyword, End, Verb, Call, part_fields, part_in, with_fields, bare_command_in, command_in, after, line_in}
+use Rattle.x25_script.specs.Reading.{IsNotBehind}
 use Rattle.x25_script.proofs.AgainLemmas.{command_again}
 use Rattle.x25_script.proofs.GrammarLemmas.{bare_found, command_found, keyword_text, line_found, part_found, verb_text}
 
@@ -14,12 +16,7 @@ use Rattle.x25_script.proofs.GrammarLemmas.{bare_found, command_found, keyword_t
 pub line_behind : (word : Keyword) (text fields : List ℕ) → text ≡ keyword_text word ++ (32 ∷ fields) → line_in text ≡ after word fields
 unfolding line_in parts_of
 line_behind (End Dte) text fields e = ap line_in e
-line_behind (End Dce) text fields e = ap line_in e
-line_behind T1 text fields e = ap line_in e
-line_behind Deliver text fields e = ap line_in e
-line_behind Lose text fields e = ap line_in e
-line_behind Damage text fields e = ap line_in e
-line_behind Drain text fields e = ap line_in e
+line_behind word text fields e = ap line_in e
 
 pub heals : (text : List ℕ) → text ≡ codes "heal" → line_in text ≡ Some heal
 unfolding line_in parts_of
@@ -28,28 +25,12 @@ heals text e = ap line_in e
 pub command_behind : (word : Verb) (text fields : List ℕ) → text ≡ verb_text word ++ (32 ∷ fields) → command_in text ≡ with_fields word fields
 unfolding command_in parts_of
 command_behind Call text fields e = ap command_in e
-command_behind Accept text fields e = ap command_in e
-command_behind Clear text fields e = ap command_in e
-command_behind Send text fields e = ap command_in e
-command_behind Interrupt text fields e = ap command_in e
-command_behind Reset text fields e = ap command_in e
-command_behind Restart text fields e = ap command_in e
-command_behind Ready text fields e = ap command_in e
-command_behind NotReady text fields e = ap command_in e
-command_behind With text fields e = ap command_in e
+command_behind word text fields e = ap command_in e
 
 pub part_behind : (word : Verb) (text fields : List ℕ) → text ≡ verb_text word ++ (32 ∷ fields) → part_in text ≡ part_fields word fields
 unfolding part_in parts_of
 part_behind Call text fields e = ap part_in e
-part_behind Accept text fields e = ap part_in e
-part_behind Clear text fields e = ap part_in e
-part_behind Send text fields e = ap part_in e
-part_behind Interrupt text fields e = ap part_in e
-part_behind Reset text fields e = ap part_in e
-part_behind Restart text fields e = ap part_in e
-part_behind Ready text fields e = ap part_in e
-part_behind NotReady text fields e = ap part_in e
-part_behind With text fields e = ap part_in e
+part_behind word text fields e = ap part_in e
 
 -- ---- none of the words
 
@@ -77,7 +58,8 @@ no_part text no_call no_accept no_clear = none_or_some (part_in text) (λ v e. g
     go probe s = s
     go relink s = s
 
-pub no_line : (text : List ℕ) → IsNotBehind (codes "deliver ") text → IsNotBehind (codes "dte ") text → IsNotBehind (codes "dce ") text → IsNotBehind (codes "drain ") text
+pub no_line : (text : List ℕ) → IsNotBehind (codes "deliver ") text → IsNotBehind (codes "dte ") text → IsNotBehind (codes "dce ") text
+    → IsNotBehind (codes "drain ") text
     → IsNotBehind (codes "t1 ") text → IsNotBehind (codes "lose ") text → IsNotBehind (codes "damage ") text → text ≢ codes "heal" → line_in text ≡ None
 no_line text no_deliver no_dte no_dce no_drain no_t1 no_lose no_damage no_heal = none_or_some (line_in text) (λ v e. go v (line_found text v e))
   where
@@ -92,12 +74,15 @@ no_line text no_deliver no_dte no_dce no_drain no_t1 no_lose no_damage no_heal =
     go heal s = no_heal s
 
 -- what is left are the commands without fields
-pub bare_alone : (text : List ℕ) → IsNotBehind (codes "send ") text → IsNotBehind (codes "accept ") text → IsNotBehind (codes "call ") text → IsNotBehind (codes "int ") text
-    → IsNotBehind (codes "reset ") text → IsNotBehind (codes "clear ") text → IsNotBehind (codes "ready ") text → IsNotBehind (codes "notready ") text → IsNotBehind (codes "restart ") text → IsNotBehind (codes "with ") text
+pub bare_alone : (text : List ℕ) → IsNotBehind (codes "send ") text → IsNotBehind (codes "accept ") text → IsNotBehind (codes "call ") text
+    → IsNotBehind (codes "int ") text
+    → IsNotBehind (codes "reset ") text → IsNotBehind (codes "clear ") text → IsNotBehind (codes "ready ") text → IsNotBehind (codes "notready ") text
+    → IsNotBehind (codes "restart ") text → IsNotBehind (codes "with ") text
     → command_in text ≡ bare_command_in text
 bare_alone text no_send no_accept no_call no_int no_reset no_clear no_ready no_not_ready no_restart no_with = go (command_in text) refl
   where
-    restarts : (cause diagnostic : Option ℕ) → (let given : Given = record { cause = cause; diagnostic = diagnostic } in text ≡ codes "restart" ++ given_text given)
+    restarts : (cause diagnostic : Option ℕ)
+        → (let given : Given = record { cause = cause; diagnostic = diagnostic } in text ≡ codes "restart" ++ given_text given)
         → command_in text ≡ Some (restart (record { cause = cause; diagnostic = diagnostic })) → command_in text ≡ bare_command_in text
     restarts None None s e = e ∙ sym (ap bare_command_in s)
     restarts (Some cause) diagnostic s e = absurd (no_restart _ s)

@@ -9,13 +9,15 @@ use Rattle.x25_settings.specs.declared.options.At.{At}
 use Rattle.x25_settings.specs.declared.options.At.TheVariants as at
 use Rattle.x25_settings.specs.declared.options.Chosen.{Chosen}
 use Rattle.x25_settings.specs.declared.options.Flag.{Flag}
-use Rattle.x25_settings.specs.declared.options.Flag.TheVariants.{Clock, Down, Events, Long, Loose, Manners, SaySizes, Tap, Strict, Wide}
+use Rattle.x25_settings.specs.declared.options.Flag.TheVariants.{Clock}
 use Rattle.x25_settings.specs.declared.options.Kind.{Kind}
-use Rattle.x25_settings.specs.declared.options.Kind.TheVariants.{Decode, Sim, Station, Judge, Frame}
+use Rattle.x25_settings.specs.declared.options.Kind.TheVariants.{Decode}
 use Rattle.x25_settings.specs.declared.options.Numbered.{Numbered}
-use Rattle.x25_settings.specs.declared.options.Numbered.TheVariants.{Window, Tries, Channels, Incoming, Outgoing, Message, T1, T3, T20, T21, T22, T23}
-use Rattle.x25_settings.specs.Options.Choosing.{at_in, number_in, flags, flag_in, numbers, numbered_in, places, put_flag, put_fresh, put_read, put_text, put_number, put_pair, put_place, chosen_in}
-use Rattle.x25_settings.specs.Options.{Choice, flag, number, place, at_word, flag_word, word_of, least_of, most_of, words_of, nothing, chosen_flag, with_flag, chosen_number, with_number, takes, has, has_place, IsInRange, IsOpen, Leads, settled, Choose, AreInRange}
+use Rattle.x25_settings.specs.declared.options.Numbered.TheVariants.{Window, Tries, Channels, Message}
+use Rattle.x25_settings.specs.Options.Choosing.{at_in, number_in, flags, flag_in, numbers, numbered_in, places, put_flag, put_fresh, put_read, put_text}
+use Rattle.x25_settings.specs.Options.Choosing.{put_number, put_pair, put_place, chosen_in}
+use Rattle.x25_settings.specs.Options.{Choice, flag, number, place, at_word, flag_word, word_of, least_of, most_of, words_of, nothing, chosen_flag, with_flag}
+use Rattle.x25_settings.specs.Options.{chosen_number, with_number, takes, has, has_place, IsInRange, IsOpen, Leads, settled, Choose, AreInRange}
 use Rattle.x25_settings.proofs.NumberLemmas.{number_found, number_read}
 
 -- ---- a word among some
@@ -25,7 +27,8 @@ pub word_found : {X : Type 0} (spell : X → List ℕ) (word : List ℕ) (xs : L
 word_found {X} spell word [] x e = absurd (cc)
 word_found {X} spell word (y ∷ ys) x e = go (bytes_eq word (spell y)) refl (word_found spell word ys x) e
   where
-    go : (b : Bool) → bytes_eq word (spell y) ≡ b → (find (λ y. bytes_eq word (spell y)) ys ≡ Some x → word ≡ spell x) → cond b (Some y) (find (λ y. bytes_eq word (spell y)) ys) ≡ Some x → word ≡ spell x
+    go : (b : Bool) → bytes_eq word (spell y) ≡ b → (find (λ y. bytes_eq word (spell y)) ys ≡ Some x → word ≡ spell x)
+        → cond b (Some y) (find (λ y. bytes_eq word (spell y)) ys) ≡ Some x → word ≡ spell x
     go true is rest e = (bytes_eq-Decides word (spell y)).0 is ∙ ap spell (same_Some y x e)
     go false is rest e = rest e
 
@@ -33,84 +36,31 @@ word_found {X} spell word (y ∷ ys) x e = go (bytes_eq word (spell y)) refl (wo
 
 is_flag : (x : Flag) → flag_in (flag_word x) ≡ Some x
 is_flag Clock = refl
-is_flag Down = refl
-is_flag Events = refl
-is_flag Long = refl
-is_flag Loose = refl
-is_flag Manners = refl
-is_flag SaySizes = refl
-is_flag Tap = refl
-is_flag Strict = refl
-is_flag Wide = refl
+is_flag x = refl
 
 no_flag : (x : Numbered) → flag_in (word_of x) ≡ None
 no_flag Window = refl
-no_flag Tries = refl
-no_flag Channels = refl
-no_flag Incoming = refl
-no_flag Outgoing = refl
-no_flag Message = refl
-no_flag T1 = refl
-no_flag T3 = refl
-no_flag T20 = refl
-no_flag T21 = refl
-no_flag T22 = refl
-no_flag T23 = refl
+no_flag x = refl
 
 no_place : (x : Numbered) → bytes_eq (word_of x) (codes "--at") ≡ false
 no_place Window = refl
-no_place Tries = refl
-no_place Channels = refl
-no_place Incoming = refl
-no_place Outgoing = refl
-no_place Message = refl
-no_place T1 = refl
-no_place T3 = refl
-no_place T20 = refl
-no_place T21 = refl
-no_place T22 = refl
-no_place T23 = refl
+no_place x = refl
 
 is_place : (x : At) → at_in (at_word x) ≡ Some x
 is_place at.Line = refl
-is_place at.Dte = refl
-is_place at.Dce = refl
-is_place at.Either = refl
+is_place x = refl
 
 is_numbered : (x : Numbered) → numbered_in (word_of x) ≡ Some x
 is_numbered Window = refl
-is_numbered Tries = refl
-is_numbered Channels = refl
-is_numbered Incoming = refl
-is_numbered Outgoing = refl
-is_numbered Message = refl
-is_numbered T1 = refl
-is_numbered T3 = refl
-is_numbered T20 = refl
-is_numbered T21 = refl
-is_numbered T22 = refl
-is_numbered T23 = refl
+is_numbered x = refl
 
 few_channels : (kind : Kind) → (1 ≤ most_of kind Channels) × (most_of kind Channels < 4294967296)
 few_channels Decode = (omega arith, omega arith)
-few_channels Sim = (omega arith, omega arith)
-few_channels Station = (omega arith, omega arith)
-few_channels Judge = (omega arith, omega arith)
-few_channels Frame = (omega arith, omega arith)
+few_channels kind = (omega arith, omega arith)
 
 few : (kind : Kind) (x : Numbered) → most_of kind x < 4294967296
-few kind Window = omega arith
-few kind Tries = omega arith
 few kind Channels = (few_channels kind).1
-few kind Incoming = omega arith
-few kind Outgoing = omega arith
-few kind Message = omega arith
-few kind T1 = omega arith
-few kind T3 = omega arith
-few kind T20 = omega arith
-few kind T21 = omega arith
-few kind T22 = omega arith
-few kind T23 = omega arith
+few kind x = omega arith
 
 within : (kind : Kind) (x : Numbered) (o : Option ℕ) (default : ℕ) → least_of x ≤ default → default ≤ most_of kind x → IfSome o (IsInRange kind x)
     → (least_of x ≤ unwrap_or o default) × (unwrap_or o default ≤ most_of kind x)
@@ -127,7 +77,8 @@ module _ (kind : Kind) where
   abbrev step : Chosen → List ℕ → List ℕ → List (List ℕ) → Option Flag → Option Chosen
   step c word text rest o = cond (is_some o) (read_on (text ∷ rest) (option_and_then (put_flag kind c) o)) (read_on rest (put_pair kind c word text))
 
-  reads_flag : (c : Chosen) (word : List ℕ) (x : Flag) (rest : List (List ℕ)) → flag_in word ≡ Some x → chosen_in kind c (word ∷ rest) ≡ read_on rest (put_flag kind c x)
+  reads_flag : (c : Chosen) (word : List ℕ) (x : Flag) (rest : List (List ℕ)) → flag_in word ≡ Some x → chosen_in kind c (word ∷ rest)
+      ≡ read_on rest (put_flag kind c x)
   unfolding chosen_in
   reads_flag c word x [] is = ap (option_and_then (put_flag kind c)) is ∙ alone (put_flag kind c x)
     where
@@ -186,7 +137,8 @@ module _ (kind : Kind) where
   numbers_found : (c d : Chosen) (word text : List ℕ) → put_number kind c word text ≡ Some d → Numbers c d word text
   numbers_found c d word text e = by_option (numbered_in word) refl e
     where
-      by_before : (x : Numbered) (n : ℕ) (before : Option ℕ) → numbered_in word ≡ Some x → has kind x ≡ true → number_in (least_of x) (most_of kind x) text ≡ Some n
+      by_before : (x : Numbered) (n : ℕ) (before : Option ℕ) → numbered_in word ≡ Some x → has kind x ≡ true → number_in (least_of x) (most_of kind x) text
+          ≡ Some n
           → chosen_number c x ≡ before → put_fresh c x n (is_some before) ≡ Some d → Numbers c d word text
       by_before x n None is there reads fresh e = let found = number_found (least_of x) (most_of kind x) text n reads in record {
         option = x;
@@ -198,11 +150,13 @@ module _ (kind : Kind) where
       }
       by_before x n (Some m) is there reads fresh e = absurd (cc)
 
-      by_read : (x : Numbered) (read : Option ℕ) → numbered_in word ≡ Some x → has kind x ≡ true → number_in (least_of x) (most_of kind x) text ≡ read → put_read c x read ≡ Some d → Numbers c d word text
+      by_read : (x : Numbered) (read : Option ℕ) → numbered_in word ≡ Some x → has kind x ≡ true → number_in (least_of x) (most_of kind x) text ≡ read
+          → put_read c x read ≡ Some d → Numbers c d word text
       by_read x None is there reads e = absurd (cc)
       by_read x (Some n) is there reads e = by_before x n (chosen_number c x) is there reads refl e
 
-      by_command : (x : Numbered) (there : Bool) → numbered_in word ≡ Some x → has kind x ≡ there → cond there (put_read c x (number_in (least_of x) (most_of kind x) text)) None ≡ Some d → Numbers c d word text
+      by_command : (x : Numbered) (there : Bool) → numbered_in word ≡ Some x → has kind x ≡ there
+          → cond there (put_read c x (number_in (least_of x) (most_of kind x) text)) None ≡ Some d → Numbers c d word text
       by_command x true is there e = by_read x (number_in (least_of x) (most_of kind x) text) is there refl e
       by_command x false is there e = absurd (cc)
 
@@ -219,11 +173,13 @@ module _ (kind : Kind) where
         (taken.0, subst (λ (s : Chosen). Leads kind s found.0 end) taken.1 found.2),
       )
 
-  behind_number : (c d end : Chosen) (word text : List ℕ) (rest : List (List ℕ)) → put_number kind c word text ≡ Some d → Found d rest end → Found c (word ∷ text ∷ rest) end
+  behind_number : (c d end : Chosen) (word text : List ℕ) (rest : List (List ℕ)) → put_number kind c word text ≡ Some d → Found d rest end
+      → Found c (word ∷ text ∷ rest) end
   behind_number c d end word text rest put found =
       let taken = numbers_found c d word text put in (
         number taken.option taken.value ∷ found.0,
-        ap (λ w. w ∷ text ∷ rest) taken.word_is ∙ ap (λ t. word_of taken.option ∷ t ∷ rest) taken.text_is ∙ ap (λ ws. word_of taken.option ∷ decimal taken.value ∷ ws) found.1,
+        ap (λ w. w ∷ text ∷ rest) taken.word_is ∙ ap (λ t. word_of taken.option ∷ t ∷ rest) taken.text_is
+            ∙ ap (λ ws. word_of taken.option ∷ decimal taken.value ∷ ws) found.1,
         (taken.is_open, subst (λ (s : Chosen). Leads kind s found.0 end) taken.gives found.2),
       )
 
@@ -252,7 +208,8 @@ module _ (kind : Kind) where
           go true (Some y) there fresh e = absurd (cc)
           go false before there fresh e = absurd (cc)
 
-  behind_place : (c d end : Chosen) (word text : List ℕ) (rest : List (List ℕ)) → word ≡ codes "--at" → put_place kind c (at_in text) ≡ Some d → Found d rest end → Found c (word ∷ text ∷ rest) end
+  behind_place : (c d end : Chosen) (word text : List ℕ) (rest : List (List ℕ)) → word ≡ codes "--at" → put_place kind c (at_in text) ≡ Some d
+      → Found d rest end → Found c (word ∷ text ∷ rest) end
   behind_place c d end word text rest is put found =
       let taken = place_found c d text put in (
         place taken.value ∷ found.0,
@@ -260,10 +217,12 @@ module _ (kind : Kind) where
         (taken.is_open, subst (λ (s : Chosen). Leads kind s found.0 end) taken.gives found.2),
       )
 
-  behind_pair : (c d end : Chosen) (word text : List ℕ) (rest : List (List ℕ)) → put_pair kind c word text ≡ Some d → Found d rest end → Found c (word ∷ text ∷ rest) end
+  behind_pair : (c d end : Chosen) (word text : List ℕ) (rest : List (List ℕ)) → put_pair kind c word text ≡ Some d → Found d rest end
+      → Found c (word ∷ text ∷ rest) end
   behind_pair c d end word text rest put found = go (bytes_eq word (codes "--at")) refl put
     where
-      go : (b : Bool) → bytes_eq word (codes "--at") ≡ b → cond b (put_place kind c (at_in text)) (put_number kind c word text) ≡ Some d → Found c (word ∷ text ∷ rest) end
+      go : (b : Bool) → bytes_eq word (codes "--at") ≡ b → cond b (put_place kind c (at_in text)) (put_number kind c word text) ≡ Some d
+          → Found c (word ∷ text ∷ rest) end
       go true is put = behind_place c d end word text rest ((bytes_eq-Decides word (codes "--at")).0 is) put found
       go false is put = behind_number c d end word text rest put found
 
@@ -281,14 +240,17 @@ module _ (kind : Kind) where
   finds_pair c end word text rest next None put e = absurd (cc)
   finds_pair c end word text rest next (Some d) put e = behind_pair c d end word text rest put (next d e)
 
-  finds_alone : (c end : Chosen) (word : List ℕ) → Finds [] end → (o : Option Flag) → flag_in word ≡ o → chosen_in kind c (word ∷ []) ≡ Some end → Found c (word ∷ []) end
+  finds_alone : (c end : Chosen) (word : List ℕ) → Finds [] end → (o : Option Flag) → flag_in word ≡ o → chosen_in kind c (word ∷ []) ≡ Some end
+      → Found c (word ∷ []) end
   finds_alone c end word next (Some x) is e = finds_flag c end word x [] is next (put_flag kind c x) refl (sym (reads_flag c word x [] is) ∙ e)
   finds_alone c end word next None is e = let none = reads_alone c word is in absurd (cc)
 
   finds_more : (c end : Chosen) (word text : List ℕ) (rest : List (List ℕ)) → Finds (text ∷ rest) end → Finds rest end
       → (o : Option Flag) → flag_in word ≡ o → chosen_in kind c (word ∷ text ∷ rest) ≡ Some end → Found c (word ∷ text ∷ rest) end
-  finds_more c end word text rest next after (Some x) is e = finds_flag c end word x (text ∷ rest) is next (put_flag kind c x) refl (sym (reads_flag c word x (text ∷ rest) is) ∙ e)
-  finds_more c end word text rest next after None is e = finds_pair c end word text rest after (put_pair kind c word text) refl (sym (reads_pair c word text rest is) ∙ e)
+  finds_more c end word text rest next after (Some x) is e =
+      finds_flag c end word x (text ∷ rest) is next (put_flag kind c x) refl (sym (reads_flag c word x (text ∷ rest) is) ∙ e)
+  finds_more c end word text rest next after None is e = finds_pair c end word text rest after (put_pair kind c word text) refl
+      (sym (reads_pair c word text rest is) ∙ e)
 
   finds : (words : List (List ℕ)) (end : Chosen) → Finds words end
   finds [] end c e = ([], refl, same_Some _ _ (sym e ∙ nothing_left c [] refl))
@@ -340,29 +302,14 @@ module _ (kind : Kind) where
 
   flag_keeps : (x : Flag) (c : Chosen) → IsKept c → IsKept (with_flag c x)
   flag_keeps Clock c kept = record { k = kept.k; n2 = kept.n2; channels = kept.channels; message = kept.message }
-  flag_keeps Down c kept = record { k = kept.k; n2 = kept.n2; channels = kept.channels; message = kept.message }
-  flag_keeps Events c kept = record { k = kept.k; n2 = kept.n2; channels = kept.channels; message = kept.message }
-  flag_keeps Long c kept = record { k = kept.k; n2 = kept.n2; channels = kept.channels; message = kept.message }
-  flag_keeps Loose c kept = record { k = kept.k; n2 = kept.n2; channels = kept.channels; message = kept.message }
-  flag_keeps Manners c kept = record { k = kept.k; n2 = kept.n2; channels = kept.channels; message = kept.message }
-  flag_keeps SaySizes c kept = record { k = kept.k; n2 = kept.n2; channels = kept.channels; message = kept.message }
-  flag_keeps Tap c kept = record { k = kept.k; n2 = kept.n2; channels = kept.channels; message = kept.message }
-  flag_keeps Strict c kept = record { k = kept.k; n2 = kept.n2; channels = kept.channels; message = kept.message }
-  flag_keeps Wide c kept = record { k = kept.k; n2 = kept.n2; channels = kept.channels; message = kept.message }
+  flag_keeps x c kept = record { k = kept.k; n2 = kept.n2; channels = kept.channels; message = kept.message }
 
   number_keeps : (x : Numbered) (n : ℕ) (c : Chosen) → IsInRange kind x n → IsKept c → IsKept (with_number c x n)
   number_keeps Window n c range kept = record { k = range; n2 = kept.n2; channels = kept.channels; message = kept.message }
   number_keeps Tries n c range kept = record { k = kept.k; n2 = range; channels = kept.channels; message = kept.message }
   number_keeps Channels n c range kept = record { k = kept.k; n2 = kept.n2; channels = range; message = kept.message }
-  number_keeps Incoming n c range kept = record { k = kept.k; n2 = kept.n2; channels = kept.channels; message = kept.message }
-  number_keeps Outgoing n c range kept = record { k = kept.k; n2 = kept.n2; channels = kept.channels; message = kept.message }
   number_keeps Message n c range kept = record { k = kept.k; n2 = kept.n2; channels = kept.channels; message = range }
-  number_keeps T1 n c range kept = record { k = kept.k; n2 = kept.n2; channels = kept.channels; message = kept.message }
-  number_keeps T3 n c range kept = record { k = kept.k; n2 = kept.n2; channels = kept.channels; message = kept.message }
-  number_keeps T20 n c range kept = record { k = kept.k; n2 = kept.n2; channels = kept.channels; message = kept.message }
-  number_keeps T21 n c range kept = record { k = kept.k; n2 = kept.n2; channels = kept.channels; message = kept.message }
-  number_keeps T22 n c range kept = record { k = kept.k; n2 = kept.n2; channels = kept.channels; message = kept.message }
-  number_keeps T23 n c range kept = record { k = kept.k; n2 = kept.n2; channels = kept.channels; message = kept.message }
+  number_keeps x n c range kept = record { k = kept.k; n2 = kept.n2; channels = kept.channels; message = kept.message }
 
   keeps : (choices : List Choice) (c end : Chosen) → IsKept c → Leads kind c choices end → IsKept end
   keeps [] c end kept e = subst IsKept (sym e) kept

@@ -44,6 +44,7 @@ pub number_refused : (least most : ℕ) (text : List ℕ) → ((n : ℕ) → lea
 number_refused least most text h = some_or_none (number_in least most text) (λ n e. let found = number_found least most text n e in h n found.0 found.1 found.2)
 
 -- a text of a number is read by std as that number
-pub parsed : {E : Type 0} (text : List ℕ) (r : Result ℕ E) (o : Option ℕ) (n most : ℕ) → ParsesUnsigned 32 10 text r → o ≡ result_ok r → most < 4294967296 → n ≤ most
+pub parsed : {E : Type 0} (text : List ℕ) (r : Result ℕ E) (o : Option ℕ) (n most : ℕ) → ParsesUnsigned 32 10 text r → o ≡ result_ok r → most < 4294967296 → n
+    ≤ most
     → text ≡ decimal n → o ≡ Some n
 parsed text r o n most h e few high same = e ∙ ap result_ok (parse-decimal 32 n text r (omega arith) (omega arith) same h)

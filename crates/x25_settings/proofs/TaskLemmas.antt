@@ -14,8 +14,9 @@ use Rattle.x25_settings.specs.declared.options.Place.{Place}
 use Rattle.x25_settings.specs.declared.options.Simulation.{Simulation}
 use Rattle.x25_settings.specs.declared.words.Task.{Task}
 use Rattle.x25_settings.specs.declared.words.Task.TheVariants.{Decode, Vectors, Sim, Station, Judge, Deframe, Frame}
-use Rattle.x25_settings.specs.Options.Choosing.{chosen_in, read_decoding, read_framing, read_judging, read_place, read_simulation, place_behind, place_of, end_in, deframe_in, vectors_in, task_behind, task_in}
-use Rattle.x25_settings.specs.Options.{nothing, decoded, fits_together, judged, placed, simulated, settled, end_word, JudgingIsInRange}
+use Rattle.x25_settings.specs.Options.Choosing.{chosen_in, read_decoding, read_framing, read_judging, read_place, read_simulation, place_behind, place_of}
+use Rattle.x25_settings.specs.Options.Choosing.{end_in, deframe_in, vectors_in, task_behind, task_in}
+use Rattle.x25_settings.specs.Options.{nothing, decoded, fits_together, judged, placed, simulated, end_word, JudgingIsInRange}
 use Rattle.x25_settings.specs.Options as options
 use Rattle.x25_settings.specs.Words.{AreInRange, ChooseBehind, Say}
 use Rattle.x25_settings.proofs.ChoiceLemmas.{found, in_range, read, word_found}
@@ -39,7 +40,8 @@ again_behind : {T : Type 0} (front : List (List ℕ) → List (List ℕ)) (kind 
     → ((rest : List (List ℕ)) → task_in (front rest) ≡ option_map make (option_map give (chosen_in kind nothing rest)))
     → ChooseBehind front kind words (λ c. t ≡ give c) → task_in words ≡ Some (make t)
 again_behind {T} front kind words give make t reads say =
-    ap task_in say.words_are ∙ reads say.rest ∙ ap (λ o. option_map make (option_map give o)) (read kind say.rest say.end say.choose) ∙ ap (λ x. Some (make x)) (sym say.is)
+    ap task_in say.words_are ∙ reads say.rest ∙ ap (λ o. option_map make (option_map give o)) (read kind say.rest say.end say.choose)
+    ∙ ap (λ x. Some (make x)) (sym say.is)
 
 pub again : (words : List (List ℕ)) (task : Task) → Say words task → task_in words ≡ Some task
 unfolding task_in
@@ -52,7 +54,8 @@ again words (Station p) say =
     ∙ ap (λ b. option_map (λ p. Station p) (cond b (Some (placed p.end say.end)) None)) say.is.1 ∙ ap (λ p. Some (Station p)) (sym say.is.0)
 again words (Judge g) say = again_behind (λ rest. codes "judge" ∷ rest) kind.Judge words judged (λ g. Judge g) g (λ rest. refl) say
 again words (Deframe end) e = ap task_in e ∙ ap (option_map (λ end. Deframe end)) (again_end end)
-again words (Frame loose) say = again_behind (λ rest. codes "frame" ∷ rest) kind.Frame words (λ (c : Chosen). c.loose) (λ loose. Frame loose) loose (λ rest. refl) say
+again words (Frame loose) say = again_behind (λ rest. codes "frame" ∷ rest) kind.Frame words (λ (c : Chosen). c.loose) (λ loose. Frame loose) loose
+    (λ rest. refl) say
 
 -- ---- what is read is plain
 
@@ -61,14 +64,16 @@ given : (words : List (List ℕ)) (t task : Task) → Some t ≡ Some task → S
 given words t task e say = subst (Say words) (same_Some t task e) say
 
 -- the words behind chose something, and the task is made of that
-found_behind_front : {T : Type 0} (front : List (List ℕ) → List (List ℕ)) (kind : Kind) (words rest : List (List ℕ)) (give : Chosen → T) (make : T → Task) (task : Task)
+found_behind_front : {T : Type 0} (front : List (List ℕ) → List (List ℕ)) (kind : Kind) (words rest : List (List ℕ)) (give : Chosen → T) (make : T → Task)
+    (task : Task)
     → ((t : T) → ChooseBehind front kind words (λ c. t ≡ give c) → Say words (make t)) → words ≡ front rest
     → (o : Option Chosen) → chosen_in kind nothing rest ≡ o → option_map make (option_map give o) ≡ Some task → Say words task
 found_behind_front {T} front kind words rest give make task says is None reads e = absurd (cc)
 found_behind_front {T} front kind words rest give make task says is (Some c) reads e =
     given words (make (give c)) task e (says (give c) (record { rest = rest; end = c; words_are = is; choose = found kind rest c reads; is = refl }))
 
-found_decode : (word : List ℕ) (words : List (List ℕ)) (task : Task) → word ≡ codes "decode" → option_map (λ d. Decode d) (read_decoding words) ≡ Some task → Say (word ∷ words) task
+found_decode : (word : List ℕ) (words : List (List ℕ)) (task : Task) → word ≡ codes "decode" → option_map (λ d. Decode d) (read_decoding words) ≡ Some task
+    → Say (word ∷ words) task
 found_decode word words task is e =
     found_behind_front (λ rest. codes "decode" ∷ rest) kind.Decode (word ∷ words) words decoded (λ d. Decode d) task (λ t say. say) (ap (λ w. w ∷ words) is)
     (chosen_in kind.Decode nothing words) refl e
@@ -77,7 +82,8 @@ found_vectors : (word : List ℕ) (words : List (List ℕ)) (task : Task) → wo
 found_vectors word [] task is e = given (word ∷ []) Vectors task e (ap (λ w. w ∷ []) is)
 found_vectors word (next ∷ words) task is e = absurd (cc)
 
-found_sim : (word : List ℕ) (words : List (List ℕ)) (task : Task) → word ≡ codes "sim" → option_map (λ s. Sim s) (read_simulation words) ≡ Some task → Say (word ∷ words) task
+found_sim : (word : List ℕ) (words : List (List ℕ)) (task : Task) → word ≡ codes "sim" → option_map (λ s. Sim s) (read_simulation words) ≡ Some task
+    → Say (word ∷ words) task
 found_sim word words task is e =
     found_behind_front (λ rest. codes "sim" ∷ rest) kind.Sim (word ∷ words) words simulated (λ s. Sim s) task (λ t say. say) (ap (λ w. w ∷ words) is)
     (chosen_in kind.Sim nothing words) refl e
@@ -85,7 +91,8 @@ found_sim word words task is e =
 end_found : (word : List ℕ) (end : End) → end_in word ≡ Some end → word ≡ end_word end
 end_found word end e = word_found end_word word (Dte ∷ Dce ∷ []) end e
 
-found_station : (word : List ℕ) (words : List (List ℕ)) (task : Task) → word ≡ codes "station" → option_map (λ p. Station p) (read_place words) ≡ Some task → Say (word ∷ words) task
+found_station : (word : List ℕ) (words : List (List ℕ)) (task : Task) → word ≡ codes "station" → option_map (λ p. Station p) (read_place words) ≡ Some task
+    → Say (word ∷ words) task
 found_station word [] task is e = absurd (cc)
 found_station word (next ∷ rest) task is e = by_end (end_in next) refl e
   where
@@ -100,17 +107,21 @@ found_station word (next ∷ rest) task is e = by_end (end_in next) refl e
         words_are : word ∷ next ∷ rest ≡ front end rest
         words_are = ap (λ w. w ∷ next ∷ rest) is ∙ ap (λ n. codes "station" ∷ n ∷ rest) (end_found next end reads)
 
-        by_clock : (c : Chosen) (fits : Bool) → chosen_in kind.Station nothing rest ≡ Some c → fits_together c ≡ fits → option_map (λ p. Station p) (cond fits (Some (placed end c)) None) ≡ Some task
+        by_clock : (c : Chosen) (fits : Bool) → chosen_in kind.Station nothing rest ≡ Some c → fits_together c ≡ fits
+            → option_map (λ p. Station p) (cond fits (Some (placed end c)) None) ≡ Some task
             → Say (word ∷ next ∷ rest) task
         by_clock c true reads fits e =
-            given (word ∷ next ∷ rest) (Station (placed end c)) task e (record { rest = rest; end = c; words_are = words_are; choose = found kind.Station rest c reads; is = (refl, fits) })
+            given (word ∷ next ∷ rest) (Station (placed end c)) task e
+            (record { rest = rest; end = c; words_are = words_are; choose = found kind.Station rest c reads; is = (refl, fits) })
         by_clock c false reads fits e = absurd (cc)
 
-        by_chosen : (o : Option Chosen) → chosen_in kind.Station nothing rest ≡ o → option_map (λ p. Station p) (option_and_then (place_of end) o) ≡ Some task → Say (word ∷ next ∷ rest) task
+        by_chosen : (o : Option Chosen) → chosen_in kind.Station nothing rest ≡ o → option_map (λ p. Station p) (option_and_then (place_of end) o) ≡ Some task
+            → Say (word ∷ next ∷ rest) task
         by_chosen None reads e = absurd (cc)
         by_chosen (Some c) reads e = by_clock c (fits_together c) reads refl e
 
-found_judge : (word : List ℕ) (words : List (List ℕ)) (task : Task) → word ≡ codes "judge" → option_map (λ g. Judge g) (read_judging words) ≡ Some task → Say (word ∷ words) task
+found_judge : (word : List ℕ) (words : List (List ℕ)) (task : Task) → word ≡ codes "judge" → option_map (λ g. Judge g) (read_judging words) ≡ Some task
+    → Say (word ∷ words) task
 found_judge word words task is e =
     found_behind_front (λ rest. codes "judge" ∷ rest) kind.Judge (word ∷ words) words judged (λ g. Judge g) task (λ t say. say) (ap (λ w. w ∷ words) is)
     (chosen_in kind.Judge nothing words) refl e
@@ -125,17 +136,21 @@ found_deframe word (next ∷ []) task is e = by_end (end_in next) refl e
         given (word ∷ next ∷ []) (Deframe end) task e (ap (λ w. w ∷ next ∷ []) is ∙ ap (λ n. codes "deframe" ∷ n ∷ []) (end_found next end reads))
 found_deframe word (next ∷ more ∷ words) task is e = absurd (cc)
 
-found_frame : (word : List ℕ) (words : List (List ℕ)) (task : Task) → word ≡ codes "frame" → option_map (λ loose. Frame loose) (read_framing words) ≡ Some task → Say (word ∷ words) task
+found_frame : (word : List ℕ) (words : List (List ℕ)) (task : Task) → word ≡ codes "frame" → option_map (λ loose. Frame loose) (read_framing words) ≡ Some task
+    → Say (word ∷ words) task
 found_frame word words task is e =
-    found_behind_front (λ rest. codes "frame" ∷ rest) kind.Frame (word ∷ words) words (λ (c : Chosen). c.loose) (λ loose. Frame loose) task (λ t say. say) (ap (λ w. w ∷ words) is)
+    found_behind_front (λ rest. codes "frame" ∷ rest) kind.Frame (word ∷ words) words (λ (c : Chosen). c.loose) (λ loose. Frame loose) task (λ t say. say)
+    (ap (λ w. w ∷ words) is)
     (chosen_in kind.Frame nothing words) refl e
 
 found_behind : (word : List ℕ) (words : List (List ℕ)) (task : Task) → task_behind word words ≡ Some task → Say (word ∷ words) task
 found_behind word words task e =
-    go (bytes_eq word (codes "decode")) (bytes_eq word (codes "vectors")) (bytes_eq word (codes "sim")) (bytes_eq word (codes "station")) (bytes_eq word (codes "judge")) (bytes_eq word (codes "deframe"))
+    go (bytes_eq word (codes "decode")) (bytes_eq word (codes "vectors")) (bytes_eq word (codes "sim")) (bytes_eq word (codes "station"))
+    (bytes_eq word (codes "judge")) (bytes_eq word (codes "deframe"))
     (bytes_eq word (codes "frame")) refl refl refl refl refl refl refl e
   where
-    go : (a b c d h f g : Bool) → bytes_eq word (codes "decode") ≡ a → bytes_eq word (codes "vectors") ≡ b → bytes_eq word (codes "sim") ≡ c → bytes_eq word (codes "station") ≡ d
+    go : (a b c d h f g : Bool) → bytes_eq word (codes "decode") ≡ a → bytes_eq word (codes "vectors") ≡ b → bytes_eq word (codes "sim") ≡ c
+        → bytes_eq word (codes "station") ≡ d
         → bytes_eq word (codes "judge") ≡ h → bytes_eq word (codes "deframe") ≡ f → bytes_eq word (codes "frame") ≡ g
         → cond a (option_map (λ d. Decode d) (read_decoding words)) (cond b (vectors_in words) (cond c (option_map (λ s. Sim s) (read_simulation words))
         (cond d (option_map (λ p. Station p) (read_place words)) (cond h (option_map (λ g. Judge g) (read_judging words)) (cond f (deframe_in words)
@@ -156,11 +171,8 @@ found_task [] task e = absurd (cc)
 found_task (word ∷ words) task e = found_behind word words task e
 
 pub within : (words : List (List ℕ)) (task : Task) → Say words task → AreInRange task
-within words (Decode d) say = tt
-within words Vectors say = tt
 within words (Sim s) say = subst (λ (s : Simulation). options.AreInRange kind.Sim s.station) (sym say.is) (in_range kind.Sim say.rest say.end say.choose)
 within words (Station p) say = subst (λ (p : Place). options.AreInRange kind.Station p.station × (options.fit_ranges p.station ≡ true)) (sym say.is.0)
     (in_range kind.Station say.rest say.end say.choose, (and_parts _ _ say.is.1).1)
 within words (Judge g) say = subst JudgingIsInRange (sym say.is) (in_range kind.Judge say.rest say.end say.choose).0
-within words (Deframe end) say = tt
-within words (Frame loose) say = tt
+within words task say = tt

@@ -17,7 +17,8 @@ use Rattle.x25_sim.proofs.StandLemmas.{StandsAt, BeginsAt, parts_text, parts_ref
 
 module _ (cfg : Cfg) (shown : Shown) (old now next : Option (List ℕ)) (s u : Stage) (told : List ℕ) (refused : Bool) (whole : Turn) where
   -- nothing of it is left
-  pub none_left : (rest : World → Turn) (l : Leaves cfg shown old now s rest told refused whole) → rest l.at ≡ quiet l.at → StandsAt cfg shown old now s told refused whole
+  pub none_left : (rest : World → Turn) (l : Leaves cfg shown old now s rest told refused whole) → rest l.at ≡ quiet l.at
+      → StandsAt cfg shown old now s told refused whole
   none_left rest l is =
       let at : l.at ≡ whole.next = sym (ap (λ t. t.next) is) ∙ l.next in
       let text : l.text ≡ told ++ sayings_text whole.sayings = sym (append-nil l.text) ∙ sym (ap (λ t. l.text ++ sayings_text t.sayings) is) ∙ l.same in
@@ -27,7 +28,8 @@ module _ (cfg : Cfg) (shown : Shown) (old now next : Option (List ℕ)) (s u : S
       (subst (Stands cfg shown old now s l.at l.text) any l.stands))
 
   -- the same is left
-  pub left_as : (rest other : World → Turn) (l : Leaves cfg shown old now s rest told refused whole) → rest l.at ≡ other l.at → Leaves cfg shown old now s other told refused whole
+  pub left_as : (rest other : World → Turn) (l : Leaves cfg shown old now s rest told refused whole) → rest l.at ≡ other l.at
+      → Leaves cfg shown old now s other told refused whole
   left_as rest other l e = record {
     at = l.at;
     text = l.text;
@@ -61,4 +63,5 @@ module _ (cfg : Cfg) (shown : Shown) (old now next : Option (List ℕ)) (s u : S
 
   -- nothing more is told
   pub given_up : (rest : World → Turn) → Leaves cfg shown old now s rest told refused whole → BeginsAt old now told whole
-  given_up rest l = subst (AppendsPrefix old now) l.same (prefix_more old now l.text (sayings_text (rest l.at).sayings) (told_prefix old now s.output l.text l.stands.tells))
+  given_up rest l = subst (AppendsPrefix old now) l.same
+      (prefix_more old now l.text (sayings_text (rest l.at).sayings) (told_prefix old now s.output l.text l.stands.tells))

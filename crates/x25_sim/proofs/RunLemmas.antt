@@ -1,5 +1,6 @@
 -- What is written for a script is the transcript of a run.
-use Rattle.std.proofs.Common.{◌≡◌, ◌∙◌, inl, inr, ℕ, zero, suc, nat_lt, nat_le, Bool, true, false, List, [], ◌∷◌, ◌++◌, length, drop, map, remove, Option, Some, None, append_assoc, ap, sym, subst, refl, arith, ◌<◌}
+use Rattle.std.proofs.Common.{◌≡◌, ◌∙◌, inl, inr, ℕ, zero, suc, nat_lt, nat_le, Bool, true, false, List, [], ◌∷◌, ◌++◌, length, drop, map, remove, Option, Some}
+use Rattle.std.proofs.Common.{None, append_assoc, ap, sym, subst, refl, arith, ◌<◌}
 use Rattle.std.proofs.lemmas.List.{append-nil}
 use Rattle.std.proofs.Math.Seq.{drop-append_seam}
 use Rattle.std.specs.Prelude.{cond, ◌&&◌}
@@ -11,22 +12,29 @@ use Rattle.x25_station.specs.declared.config.Cfg.{Cfg}
 use Rattle.x25_station.specs.Config.{Settings, settings_from}
 use Rattle.x25_station.specs.laws.ReadLaw.{RequestsOctets}
 use Rattle.x25_station.specs.Step.{Outcome, Did, Refused, fires, commands}
-use Rattle.x25_script.specs.ScriptLine.{PlainCommand, call, clear, send, interrupt, reset, restart, pull, connect, relink, with_given, PlainLine, command, drain, heal, is_taken, taken}
+use Rattle.x25_script.specs.ScriptLine.{PlainCommand, call, clear, send, interrupt, reset, restart, pull, connect, relink, with_given, PlainLine, command}
+use Rattle.x25_script.specs.ScriptLine.{drain, heal, is_taken, taken}
 use Rattle.std.specs.Option.{unwrap_or}
 use Rattle.x25_script.specs.Reading.{line_in}
 use Rattle.x25_script.specs.laws.ReadingLaw.{IsOctet, PartInOctets, AsksInOctets, IsInOctets, ReadsOctets}
 use Rattle.x25_io.specs.Lines.{lines_of}
-use Rattle.x25_world.specs.World.{World, OnTap, AtEnd, mirrored, Act, Commands, Receives, Fires, Loses, Damages, Event, WorldOutcome, Happened, Declined, of_station, delivered, on_line, is_on_line, acts, swapped_back, acts_at, happens, refusal_of, after, run, AreAccepted, start, connected, established}
+use Rattle.x25_world.specs.World.{World, OnTap, AtEnd, mirrored, Act, Commands, Receives, Fires, Loses, Damages, Event, WorldOutcome, Happened, Declined}
+use Rattle.x25_world.specs.World.{of_station, delivered, on_line, is_on_line, acts, swapped_back, acts_at, happens, refusal_of, after, run, AreAccepted, start}
+use Rattle.x25_world.specs.World.{connected, established}
 use Rattle.x25_world.specs.declared.error.WorldError.{WorldError}
-use Rattle.x25_world.specs.laws.Claims.{ActsInOctets, AreInOctets, IsUpOnce, IsUpAtMostOnce, IsBeginning, IsNoConnect, NoneConnects, UpOnceUnlessConnected, Always, UntilSecondUp}
+use Rattle.x25_world.specs.laws.Claims.{ActsInOctets, AreInOctets, IsUpOnce, IsUpAtMostOnce, IsBeginning, IsNoConnect, NoneConnects, UpOnceUnlessConnected}
+use Rattle.x25_world.specs.laws.Claims.{Always, UntilSecondUp}
 use Rattle.x25_world.specs.laws.SessionClaims.{Throughout, ThroughoutAlong}
 use Rattle.x25_sim.specs.Telling.{Saying, enters, taps, reads_nothing, refuses}
 use Rattle.x25_console.specs.Commands.{command_asked, part_asked}
 use Rattle.x25_io.specs.HeldLine.{most_line}
 use Rattle.x25_world.specs.Healing.{next_end}
-use Rattle.x25_sim.specs.Stage.{Turn, and_then, frames_if, frames_told, marks_if, marked, step_told, told_between, turn_of, event_turn, delivered_to, drained, tried_of, tried, both_tried, most_times, fired, pulled, unless_empty, emptied, healed, line_turn, asked_in, asked_turn, turn, turns, connecting, set_up, opened, simulated}
+use Rattle.x25_sim.specs.Stage.{Turn, and_then, frames_if, frames_told, marks_if, marked, step_told, told_between, turn_of, event_turn, delivered_to, drained}
+use Rattle.x25_sim.specs.Stage.{tried_of, tried, both_tried, most_times, fired, pulled, unless_empty, emptied, healed, line_turn, asked_in, asked_turn, turn}
+use Rattle.x25_sim.specs.Stage.{turns, connecting, set_up, opened, simulated}
 use Rattle.x25_sim.specs.declared.stage.Shown.{Shown}
-use Rattle.x25_sim.specs.laws.RunLaw.{entries_in, frames_in, begins, IsNoConnectLine, NoneAsks, IsRun, ScriptsAreRuns, OfScripts, OfScriptsSetUp, OfAllScripts, UpOnceUnlessAsked, ScriptsAreTold, ScriptsAreTapped}
+use Rattle.x25_sim.specs.laws.RunLaw.{entries_in, frames_in, begins, IsNoConnectLine, NoneAsks, IsRun, ScriptsAreRuns, OfScripts, OfScriptsSetUp, OfAllScripts}
+use Rattle.x25_sim.specs.laws.RunLaw.{UpOnceUnlessAsked, ScriptsAreTold, ScriptsAreTapped}
 use Rattle.x25_world.proofs.WorldLemmas.{run_append, accepted_append, octets_append}
 
 -- ---- a world only grows
@@ -162,7 +170,8 @@ asked_octets reads text = short_octets (nat_le (length text) most_line) (line_in
 
 -- ---- where no line asks for it, no event connects
 
-other_asked : (end : Role) (asked : PlainCommand) (refusal : Option WorldError) → IsNoConnectLine (Some (command end asked)) → IsNoConnect (Commands (command_asked asked)) refusal
+other_asked : (end : Role) (asked : PlainCommand) (refusal : Option WorldError) → IsNoConnectLine (Some (command end asked))
+    → IsNoConnect (Commands (command_asked asked)) refusal
 other_asked end connect refusal h = absurd h
 other_asked end relink refusal h = absurd h
 other_asked end asked refusal h = tt
@@ -179,7 +188,8 @@ record Runs (P : Type 0) (cfg : Cfg) (shown : Shown) (w : World) (t : Turn) : Ty
   frames : shown.tap ≡ true → t.next.tap ≡ w.tap ++ frames_in t.sayings
   unconnected : P → NoneConnects cfg events w
 
-stays : (P : Type 0) (cfg : Cfg) (shown : Shown) (w : World) (sayings : List Saying) → entries_in sayings ≡ [] → frames_in sayings ≡ [] → Runs P cfg shown w (record { next = w; sayings = sayings })
+stays : (P : Type 0) (cfg : Cfg) (shown : Shown) (w : World) (sayings : List Saying) → entries_in sayings ≡ [] → frames_in sayings ≡ []
+    → Runs P cfg shown w (record { next = w; sayings = sayings })
 stays P cfg shown w sayings no_entries no_frames = record {
   events = [];
   accepted = tt;
@@ -197,43 +207,55 @@ moves P cfg shown w e (Happened next) is g octets other = record {
   accepted = (ap refusal_of is, tt);
   octets = (octets, tt);
   next = sym (ap (after w) is);
-  entries = g.transcript ∙ ap (λ xs. w.transcript ++ xs) (sym (step_entries shown _ _ ∙ ap (drop (length w.transcript)) g.transcript ∙ drop-append_seam w.transcript g.entries));
-  frames = λ asked. g.tap ∙ ap (λ xs. w.tap ++ xs) (sym (step_frames shown (drop (length w.transcript) next.transcript) _ asked ∙ ap (drop (length w.tap)) g.tap ∙ drop-append_seam w.tap g.frames));
+  entries = g.transcript ∙ ap (λ xs. w.transcript ++ xs)
+      (sym (step_entries shown _ _ ∙ ap (drop (length w.transcript)) g.transcript ∙ drop-append_seam w.transcript g.entries));
+  frames = λ asked. g.tap ∙ ap (λ xs. w.tap ++ xs)
+      (sym (step_frames shown (drop (length w.transcript) next.transcript) _ asked ∙ ap (drop (length w.tap)) g.tap ∙ drop-append_seam w.tap g.frames));
   unconnected = λ p. (other p (refusal_of (happens cfg w e)), tt);
 }
 moves P cfg shown w e (Declined error) is g octets other = stays P cfg shown w (refuses error ∷ []) refl refl
 
-none-append : (cfg : Cfg) (events more : List Event) (w : World) → NoneConnects cfg events w → NoneConnects cfg more (run cfg events w) → NoneConnects cfg (events ++ more) w
+none-append : (cfg : Cfg) (events more : List Event) (w : World) → NoneConnects cfg events w → NoneConnects cfg more (run cfg events w)
+    → NoneConnects cfg (events ++ more) w
 none-append cfg [] more w h k = k
 none-append cfg (e ∷ events) more w h k = (h.0, none-append cfg events more (after w (happens cfg w e)) h.1 k)
 
-both_run : (P : Type 0) (cfg : Cfg) (shown : Shown) (w : World) (t : Turn) (rest : World → Turn) → Runs P cfg shown w t → ((v : World) → Runs P cfg shown v (rest v)) → Runs P cfg shown w (and_then rest t)
+both_run : (P : Type 0) (cfg : Cfg) (shown : Shown) (w : World) (t : Turn) (rest : World → Turn) → Runs P cfg shown w t
+    → ((v : World) → Runs P cfg shown v (rest v)) → Runs P cfg shown w (and_then rest t)
 both_run P cfg shown w t rest first second =
     let then = second t.next in record {
       events = first.events ++ then.events;
       accepted = accepted_append cfg first.events then.events w first.accepted (subst (AreAccepted cfg then.events) first.next then.accepted);
       octets = octets_append first.events then.events first.octets then.octets;
       next = then.next ∙ ap (run cfg then.events) first.next ∙ sym (run_append cfg first.events then.events w);
-      entries = then.entries ∙ ap (λ xs. xs ++ entries_in (rest t.next).sayings) first.entries ∙ append_assoc w.transcript (entries_in t.sayings) (entries_in (rest t.next).sayings)
+      entries = then.entries ∙ ap (λ xs. xs ++ entries_in (rest t.next).sayings) first.entries
+          ∙ append_assoc w.transcript (entries_in t.sayings) (entries_in (rest t.next).sayings)
           ∙ ap (λ xs. w.transcript ++ xs) (sym (entries-append t.sayings (rest t.next).sayings));
-      frames = λ asked. then.frames asked ∙ ap (λ xs. xs ++ frames_in (rest t.next).sayings) (first.frames asked) ∙ append_assoc w.tap (frames_in t.sayings) (frames_in (rest t.next).sayings)
+      frames = λ asked. then.frames asked ∙ ap (λ xs. xs ++ frames_in (rest t.next).sayings) (first.frames asked)
+          ∙ append_assoc w.tap (frames_in t.sayings) (frames_in (rest t.next).sayings)
           ∙ ap (λ xs. w.tap ++ xs) (sym (frames-append t.sayings (rest t.next).sayings));
-      unconnected = λ p. none-append cfg first.events then.events w (first.unconnected p) (subst (NoneConnects cfg then.events) first.next (then.unconnected p));
+      unconnected = λ p. none-append cfg first.events then.events w (first.unconnected p)
+          (subst (NoneConnects cfg then.events) first.next (then.unconnected p));
     }
 
 -- a turn, and behind it the event
-marked_runs : (P : Type 0) (cfg : Cfg) (shown : Shown) (e : Event) (w : World) (t : Turn) → Runs P cfg shown w t → Runs P cfg shown w (and_then (marked shown e) t)
+marked_runs : (P : Type 0) (cfg : Cfg) (shown : Shown) (e : Event) (w : World) (t : Turn) → Runs P cfg shown w t
+    → Runs P cfg shown w (and_then (marked shown e) t)
 marked_runs P cfg shown e w t runs =
-    both_run P cfg shown w t (marked shown e) runs (λ v. stays P cfg shown v (marks_if shown.events e) (no_entries_marked shown.events e) (no_frames_marked shown.events e))
+    both_run P cfg shown w t (marked shown e) runs
+    (λ v. stays P cfg shown v (marks_if shown.events e) (no_entries_marked shown.events e) (no_frames_marked shown.events e))
 
-event_runs : (P : Type 0) (cfg : Cfg) (shown : Shown) (e : Event) (w : World) → ActsInOctets e.act → (P → (refusal : Option WorldError) → IsNoConnect e.act refusal)
+event_runs : (P : Type 0) (cfg : Cfg) (shown : Shown) (e : Event) (w : World) → ActsInOctets e.act
+    → (P → (refusal : Option WorldError) → IsNoConnect e.act refusal)
     → Runs P cfg shown w (event_turn cfg shown e w)
 unfolding event_turn
 event_runs P cfg shown e w octets other = marked_runs P cfg shown e w _ (moves P cfg shown w e (happens cfg w e) refl (by_event cfg w e.at e.act) octets other)
 
-delivery_runs : (P : Type 0) (cfg : Cfg) (shown : Shown) (rest : World → Turn) (w : World) (at : Option Role) → ((v : World) → Runs P cfg shown v (rest v)) → Runs P cfg shown w (delivered_to cfg shown rest w at)
+delivery_runs : (P : Type 0) (cfg : Cfg) (shown : Shown) (rest : World → Turn) (w : World) (at : Option Role) → ((v : World) → Runs P cfg shown v (rest v))
+    → Runs P cfg shown w (delivered_to cfg shown rest w at)
 delivery_runs P cfg shown rest w None h = stays P cfg shown w [] refl refl
-delivery_runs P cfg shown rest w (Some at) h = both_run P cfg shown w _ rest (event_runs P cfg shown (record { at = at; act = Receives }) w tt (λ p refusal. tt)) h
+delivery_runs P cfg shown rest w (Some at) h = both_run P cfg shown w _ rest
+    (event_runs P cfg shown (record { at = at; act = Receives }) w tt (λ p refusal. tt)) h
 
 drain_runs : (P : Type 0) (cfg : Cfg) (shown : Shown) (n : ℕ) (w : World) → Runs P cfg shown w (drained cfg shown n w)
 unfolding drained
@@ -245,12 +267,14 @@ outcome_runs : (P : Type 0) (cfg : Cfg) (shown : Shown) (w : World) (e : Event) 
 outcome_runs P cfg shown w e (Happened next) is g octets other = marked_runs P cfg shown e w _ (moves P cfg shown w e (Happened next) is g octets other)
 outcome_runs P cfg shown w e (Declined error) is g octets other = stays P cfg shown w [] refl refl
 
-tried_runs : (P : Type 0) (cfg : Cfg) (shown : Shown) (e : Event) (w : World) → ActsInOctets e.act → (P → (refusal : Option WorldError) → IsNoConnect e.act refusal)
+tried_runs : (P : Type 0) (cfg : Cfg) (shown : Shown) (e : Event) (w : World) → ActsInOctets e.act
+    → (P → (refusal : Option WorldError) → IsNoConnect e.act refusal)
     → Runs P cfg shown w (tried cfg shown e w)
 unfolding tried
 tried_runs P cfg shown e w octets other = outcome_runs P cfg shown w e (happens cfg w e) refl (by_event cfg w e.at e.act) octets other
 
-both_tried_run : (P : Type 0) (cfg : Cfg) (shown : Shown) (act : Act) (w : World) → ActsInOctets act → (P → (refusal : Option WorldError) → IsNoConnect act refusal)
+both_tried_run : (P : Type 0) (cfg : Cfg) (shown : Shown) (act : Act) (w : World) → ActsInOctets act
+    → (P → (refusal : Option WorldError) → IsNoConnect act refusal)
     → Runs P cfg shown w (both_tried cfg shown act w)
 unfolding both_tried
 both_tried_run P cfg shown act w octets other =
@@ -259,7 +283,8 @@ both_tried_run P cfg shown act w octets other =
 
 fired_runs : (P : Type 0) (cfg : Cfg) (shown : Shown) (w : World) → Runs P cfg shown w (fired cfg shown w)
 unfolding fired
-fired_runs P cfg shown w = both_run P cfg shown w _ (both_tried cfg shown Fires) (drain_runs P cfg shown most_times w) (λ v. both_tried_run P cfg shown Fires v tt (λ p refusal. tt))
+fired_runs P cfg shown w = both_run P cfg shown w _ (both_tried cfg shown Fires) (drain_runs P cfg shown most_times w)
+    (λ v. both_tried_run P cfg shown Fires v tt (λ p refusal. tt))
 
 pulled_runs : (P : Type 0) (cfg : Cfg) (shown : Shown) (w : World) → Runs P cfg shown w (pulled cfg shown w)
 unfolding pulled
@@ -267,7 +292,8 @@ pulled_runs P cfg shown w =
     both_run P cfg shown w _ (both_tried cfg shown (Commands (command_asked pull))) (drain_runs P cfg shown most_times w)
     (λ v. both_tried_run P cfg shown (Commands (command_asked pull)) v tt (λ p refusal. tt))
 
-rest_runs : (P : Type 0) (cfg : Cfg) (shown : Shown) (rest : World → Turn) (w : World) (at : Option Role) → ((v : World) → Runs P cfg shown v (rest v)) → Runs P cfg shown w (unless_empty rest w at)
+rest_runs : (P : Type 0) (cfg : Cfg) (shown : Shown) (rest : World → Turn) (w : World) (at : Option Role) → ((v : World) → Runs P cfg shown v (rest v))
+    → Runs P cfg shown w (unless_empty rest w at)
 rest_runs P cfg shown rest w None h = stays P cfg shown w [] refl refl
 rest_runs P cfg shown rest w (Some at) h = h w
 
@@ -282,14 +308,16 @@ healed_runs : (P : Type 0) (cfg : Cfg) (shown : Shown) (w : World) → Runs P cf
 unfolding healed
 healed_runs P cfg shown w = both_run P cfg shown w _ (emptied cfg shown most_times) (fired_runs P cfg shown w) (emptied_runs P cfg shown most_times)
 
-line_runs : (P : Type 0) (cfg : Cfg) (shown : Shown) (line : PlainLine) (w : World) → IsInOctets line → (P → IsNoConnectLine (Some line)) → Runs P cfg shown w (line_turn cfg shown line w)
+line_runs : (P : Type 0) (cfg : Cfg) (shown : Shown) (line : PlainLine) (w : World) → IsInOctets line → (P → IsNoConnectLine (Some line))
+    → Runs P cfg shown w (line_turn cfg shown line w)
 unfolding line_turn
 line_runs P cfg shown (command end asked) w h other = event_runs P cfg shown _ w (handed asked h) (λ p refusal. other_asked end asked refusal (other p))
 line_runs P cfg shown (drain count) w h other = drain_runs P cfg shown count w
 line_runs P cfg shown heal w h other = healed_runs P cfg shown w
 line_runs P cfg shown line w h other = event_runs P cfg shown _ w tt (λ p refusal. tt)
 
-asked_runs : (P : Type 0) (cfg : Cfg) (shown : Shown) (w : World) (asked : Option PlainLine) → AskedInOctets asked → (P → IsNoConnectLine asked) → Runs P cfg shown w (asked_turn cfg shown w asked)
+asked_runs : (P : Type 0) (cfg : Cfg) (shown : Shown) (w : World) (asked : Option PlainLine) → AskedInOctets asked → (P → IsNoConnectLine asked)
+    → Runs P cfg shown w (asked_turn cfg shown w asked)
 asked_runs P cfg shown w None h other = stays P cfg shown w (reads_nothing ∷ []) refl refl
 asked_runs P cfg shown w (Some line) h other = line_runs P cfg shown line w h other
 
@@ -310,14 +338,18 @@ taken_none : (wide : Bool) (read : Option PlainLine) → IsNoConnectLine read �
 taken_none wide (Some (command end asked)) h = taken_no_connect (is_taken wide asked) (command end asked) h
 taken_none wide read h = tt
 
-turn_runs : (P : Type 0) → ReadsOctets → (cfg : Cfg) (shown : Shown) (line : List ℕ) (w : World) → (P → IsNoConnectLine (asked_in line)) → Runs P cfg shown w (turn cfg shown line w)
+turn_runs : (P : Type 0) → ReadsOctets → (cfg : Cfg) (shown : Shown) (line : List ℕ) (w : World) → (P → IsNoConnectLine (asked_in line))
+    → Runs P cfg shown w (turn cfg shown line w)
 unfolding turn
-turn_runs P reads cfg shown line w other = asked_runs P cfg shown w (taken cfg.wide (asked_in line)) (taken_octets cfg.wide (asked_in line) (asked_octets reads line)) (λ p. taken_none cfg.wide (asked_in line) (other p))
+turn_runs P reads cfg shown line w other = asked_runs P cfg shown w (taken cfg.wide (asked_in line))
+    (taken_octets cfg.wide (asked_in line) (asked_octets reads line)) (λ p. taken_none cfg.wide (asked_in line) (other p))
 
-lines_run : (P : Type 0) → ReadsOctets → (cfg : Cfg) (shown : Shown) (lines : List (List ℕ)) (w : World) → (P → NoneAsks lines) → Runs P cfg shown w (turns cfg shown lines w)
+lines_run : (P : Type 0) → ReadsOctets → (cfg : Cfg) (shown : Shown) (lines : List (List ℕ)) (w : World) → (P → NoneAsks lines)
+    → Runs P cfg shown w (turns cfg shown lines w)
 unfolding turns
 lines_run P reads cfg shown [] w other = stays P cfg shown w [] refl refl
-lines_run P reads cfg shown (line ∷ lines) w other = both_run P cfg shown w (turn cfg shown line w) (turns cfg shown lines) (turn_runs P reads cfg shown line w (λ p. (other p).0))
+lines_run P reads cfg shown (line ∷ lines) w other = both_run P cfg shown w (turn cfg shown line w) (turns cfg shown lines)
+    (turn_runs P reads cfg shown line w (λ p. (other p).0))
     (λ v. lines_run P reads cfg shown lines v (λ p. (other p).1))
 
 -- ---- set-up
@@ -327,7 +359,8 @@ record Says (shown : Shown) (t : Turn) : Type 0 where
   entries : entries_in t.sayings ≡ t.next.transcript
   frames : shown.tap ≡ true → frames_in t.sayings ≡ t.next.tap
 
-says_more : (P : Type 0) (cfg : Cfg) (shown : Shown) (t : Turn) (rest : World → Turn) → Says shown t → Runs P cfg shown t.next (rest t.next) → Says shown (and_then rest t)
+says_more : (P : Type 0) (cfg : Cfg) (shown : Shown) (t : Turn) (rest : World → Turn) → Says shown t → Runs P cfg shown t.next (rest t.next)
+    → Says shown (and_then rest t)
 says_more P cfg shown t rest s r = record {
   entries = entries-append t.sayings (rest t.next).sayings ∙ ap (λ xs. xs ++ entries_in (rest t.next).sayings) s.entries ∙ sym r.entries;
   frames = λ asked. frames-append t.sayings (rest t.next).sayings ∙ ap (λ xs. xs ++ frames_in (rest t.next).sayings) (s.frames asked) ∙ sym (r.frames asked);
@@ -352,7 +385,8 @@ to_dte = record { at = Dte; act = Receives }
 
 two_turned : (cfg : Cfg) (shown : Shown) (w : World)
     → (event_turn cfg shown to_dte (event_turn cfg shown to_dce w).next).next ≡ run cfg (to_dce ∷ to_dte ∷ []) w
-two_turned cfg shown w = event_turned cfg shown to_dte (event_turn cfg shown to_dce w).next ∙ ap (λ v. after v (happens cfg v to_dte)) (event_turned cfg shown to_dce w)
+two_turned cfg shown w = event_turned cfg shown to_dte (event_turn cfg shown to_dce w).next
+    ∙ ap (λ v. after v (happens cfg v to_dte)) (event_turned cfg shown to_dce w)
 
 up_at : (cfg : Cfg) (shown : Shown) → (set_up cfg shown).next ≡ established cfg
 unfolding set_up
@@ -362,7 +396,8 @@ says_up : (cfg : Cfg) (shown : Shown) → Says shown (set_up cfg shown)
 unfolding set_up
 says_up cfg shown =
     says_more (Unit {0}) cfg shown (and_then (event_turn cfg shown to_dce) (connecting cfg shown)) (event_turn cfg shown to_dte)
-    (says_more (Unit {0}) cfg shown (connecting cfg shown) (event_turn cfg shown to_dce) (says_connecting shown (connected cfg)) (event_runs (Unit {0}) cfg shown to_dce (connected cfg) tt (λ p refusal. tt)))
+    (says_more (Unit {0}) cfg shown (connecting cfg shown) (event_turn cfg shown to_dce) (says_connecting shown (connected cfg))
+    (event_runs (Unit {0}) cfg shown to_dce (connected cfg) tt (λ p refusal. tt)))
     (event_runs (Unit {0}) cfg shown to_dte (event_turn cfg shown to_dce (connected cfg)).next tt (λ p refusal. tt))
 
 -- what comes before the script
@@ -380,7 +415,8 @@ script_runs reads cfg down shown script =
     let up = opened cfg down shown in
     let r = lines_run (NoneAsks (lines_of script)) reads cfg shown (lines_of script) up.next (λ none. none) in
     let says = says_more (NoneAsks (lines_of script)) cfg shown up (turns cfg shown (lines_of script)) (says_opened cfg down shown) r in
-    let at : (turns cfg shown (lines_of script) up.next).next ≡ run cfg r.events (begins cfg down) = r.next ∙ ap (run cfg r.events) (opened_at cfg down shown) in record {
+    let at : (turns cfg shown (lines_of script) up.next).next ≡ run cfg r.events (begins cfg down) =
+    r.next ∙ ap (run cfg r.events) (opened_at cfg down shown) in record {
       events = r.events;
       accepted = subst (AreAccepted cfg r.events) (opened_at cfg down shown) r.accepted;
       octets = r.octets;
@@ -410,9 +446,15 @@ of_all_scripts Holds throughout runs = λ cfg range down shown script. let r = r
     subst (Holds cfg) (sym r.next) (throughout cfg range (begins cfg down) (begins_there cfg down) r.events r.octets)
 
 pub of_all_runs : (Holds : Cfg → World → List Event → World → Type 0) → ThroughoutAlong Holds → ScriptsAreRuns
-    → OfAllScripts (λ (cfg : Cfg) (w : World). (begin : World) × IsBeginning cfg begin × (events : List Event) × (run cfg events begin ≡ w) × Holds cfg begin events w)
-of_all_runs Holds throughout runs = λ cfg range down shown script. let r = runs cfg down shown script in
-    (begins cfg down, begins_there cfg down, r.events, sym r.next, subst (Holds cfg (begins cfg down) r.events) (sym r.next) (throughout cfg range (begins cfg down) (begins_there cfg down) r.events r.octets))
+    → OfAllScripts (λ (cfg : Cfg) (w : World). (begin : World) × IsBeginning cfg begin × (events : List Event) × (run cfg events begin ≡ w)
+    × Holds cfg begin events w)
+of_all_runs Holds throughout runs = λ cfg range down shown script. let r = runs cfg down shown script in (
+  begins cfg down,
+  begins_there cfg down,
+  r.events,
+  sym r.next,
+  subst (Holds cfg (begins cfg down) r.events) (sym r.next) (throughout cfg range (begins cfg down) (begins_there cfg down) r.events r.octets),
+)
 
 pub up_once : UpOnceUnlessConnected → ScriptsAreRuns → UpOnceUnlessAsked
 up_once once runs = λ cfg range shown script none. let r = runs cfg false shown script in

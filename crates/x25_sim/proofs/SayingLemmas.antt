@@ -75,7 +75,9 @@ module _ (from : Role) where
 
     -- of those before a place, of the one there, and of the rest
     pub frame_parts : (place : ℕ) (octets : List ℕ) → before ≤ place → place < length frames → Some octets ≡ slice_get frames place
-        → frames_text (drop before frames) ≡ (frames_text (drop before (take place frames)) ++ saying_line (taps (frame_put octets))) ++ frames_text (drop (place + 1) frames)
+        → frames_text (drop before frames) ≡ (frames_text (drop before (take place frames)) ++ saying_line (taps (frame_put octets)))
+        ++ frames_text (drop (place + 1) frames)
     frame_parts place octets behind within is =
-        ap frames_text (put_parts frames before place behind within) ∙ all-append frame_put taps (drop before (take (place + 1) frames)) (drop (place + 1) frames)
+        ap frames_text (put_parts frames before place behind within)
+        ∙ all-append frame_put taps (drop before (take (place + 1) frames)) (drop (place + 1) frames)
         ∙ ap (λ t. t ++ frames_text (drop (place + 1) frames)) (frame_more place octets behind within is)

@@ -7,10 +7,12 @@ use Rattle.x25_script.specs.ScriptLine.{pull}
 use Rattle.x25_console.specs.Commands.{command_asked}
 use Rattle.x25_world.specs.World.{World, Act, Commands, Fires, Event, WorldOutcome, Happened, Declined, happens, after, run}
 use Rattle.x25_world.specs.Healing as schedule
-use Rattle.x25_world.specs.Healing.{next_end, receipt, all_received, arrivals_from, arrivals, deliveries, one_if, if_accepted, firing, pull_round, pull_rounds, fire_and_pull, healing, ArrivesByHealing, HealingBringsAll, RestShowsAll, HealingRestShowsAll}
+use Rattle.x25_world.specs.Healing.{next_end, receipt, all_received, arrivals_from, arrivals, deliveries, one_if, if_accepted, firing, pull_round, pull_rounds}
+use Rattle.x25_world.specs.Healing.{fire_and_pull, healing, ArrivesByHealing, HealingBringsAll, RestShowsAll, HealingRestShowsAll}
 use Rattle.x25_world.specs.laws.SessionClaims.{Throughout}
 use Rattle.x25_world.specs.laws.WaitClaims.{pull_at}
-use Rattle.x25_sim.specs.Stage.{Turn, and_then, turn_of, event_turn, delivered_to, drained, tried_of, tried, both_tried, most_times, fired, pulled, unless_empty, emptied, healed, line_turn}
+use Rattle.x25_sim.specs.Stage.{Turn, and_then, turn_of, event_turn, delivered_to, drained, tried_of, tried, both_tried, most_times, fired, pulled}
+use Rattle.x25_sim.specs.Stage.{unless_empty, emptied, healed, line_turn}
 use Rattle.x25_sim.specs.declared.stage.Shown.{Shown}
 use Rattle.x25_sim.specs.laws.RunLaw.{HealIsTheSchedule, HealRestShowsAll, HealBringsAll}
 
@@ -20,7 +22,8 @@ module _ (cfg : Cfg) (shown : Shown) where
   run_append (x ∷ xs) ys w = run_append xs ys (after w (happens cfg w x))
 
   -- a turn that goes by these events, and then one that goes by more
-  behind_next : (w : World) (t : Turn) (rest : World → Turn) (xs : List Event) (more : World → List Event) → t.next ≡ run cfg xs w → ((v : World) → (rest v).next ≡ run cfg (more v) v)
+  behind_next : (w : World) (t : Turn) (rest : World → Turn) (xs : List Event) (more : World → List Event) → t.next ≡ run cfg xs w
+      → ((v : World) → (rest v).next ≡ run cfg (more v) v)
       → (and_then rest t).next ≡ run cfg (xs ++ more (run cfg xs w)) w
   behind_next w t rest xs more here there = ap (λ (v : World). (rest v).next) here ∙ there (run cfg xs w) ∙ sym (run_append xs (more (run cfg xs w)) w)
 
@@ -32,7 +35,8 @@ module _ (cfg : Cfg) (shown : Shown) where
       by (Happened next) = refl
       by (Declined x) = refl
 
-  delivered_next : (rest : World → Turn) (more : World → List Role) → ((v : World) → (rest v).next ≡ run cfg (all_received (more v)) v) → (w : World) (at : Option Role)
+  delivered_next : (rest : World → Turn) (more : World → List Role) → ((v : World) → (rest v).next ≡ run cfg (all_received (more v)) v)
+      → (w : World) (at : Option Role)
       → (delivered_to cfg shown rest w at).next ≡ run cfg (all_received (arrivals_from cfg more w at)) w
   delivered_next rest more there w None = refl
   delivered_next rest more there w (Some at) = ap (λ (v : World). (rest v).next) (event_next (receipt at) w) ∙ there (after w (happens cfg w (receipt at)))
@@ -50,7 +54,8 @@ module _ (cfg : Cfg) (shown : Shown) where
       by (Happened next) is = sym (ap (after w) is)
       by (Declined x) is = refl
 
-  both_next : (act : Act) (w : World) → (both_tried cfg shown act w).next ≡ run cfg (schedule.both_tried cfg (record { at = Dte; act = act }) (record { at = Dce; act = act }) w) w
+  both_next : (act : Act) (w : World) → (both_tried cfg shown act w).next
+      ≡ run cfg (schedule.both_tried cfg (record { at = Dte; act = act }) (record { at = Dce; act = act }) w) w
   unfolding both_tried
   both_next act w =
       let e : Event = record { at = Dte; act = act } in
@@ -60,7 +65,8 @@ module _ (cfg : Cfg) (shown : Shown) where
   pulled_next : (w : World) → (pulled cfg shown w).next ≡ run cfg (pull_round cfg most_times w) w
   unfolding pulled
   pulled_next w =
-      behind_next w (drained cfg shown most_times w) (both_tried cfg shown (Commands (command_asked pull))) (deliveries cfg most_times w) (schedule.both_tried cfg (pull_at Dte) (pull_at Dce)) (drained_next most_times w)
+      behind_next w (drained cfg shown most_times w) (both_tried cfg shown (Commands (command_asked pull))) (deliveries cfg most_times w)
+      (schedule.both_tried cfg (pull_at Dte) (pull_at Dce)) (drained_next most_times w)
       (both_next (Commands (command_asked pull)))
 
   unless_next : (rest : World → Turn) (more : World → List Event) → ((v : World) → (rest v).next ≡ run cfg (more v) v) → (w : World) (at : Option Role)
@@ -72,7 +78,8 @@ module _ (cfg : Cfg) (shown : Shown) where
   unfolding emptied pull_rounds
   emptied_next zero w = refl
   emptied_next (suc n) w =
-      behind_next w (pulled cfg shown w) (λ v. unless_empty (emptied cfg shown n) v (next_end v.out v.back)) (pull_round cfg most_times w) (λ v. schedule.unless_empty (pull_rounds cfg most_times n) v (next_end v.out v.back)) (pulled_next w)
+      behind_next w (pulled cfg shown w) (λ v. unless_empty (emptied cfg shown n) v (next_end v.out v.back)) (pull_round cfg most_times w)
+      (λ v. schedule.unless_empty (pull_rounds cfg most_times n) v (next_end v.out v.back)) (pulled_next w)
       (λ v. unless_next (emptied cfg shown n) (pull_rounds cfg most_times n) (emptied_next n) v (next_end v.out v.back))
 
   healed_next : (w : World) → (healed cfg shown w).next ≡ run cfg (healing cfg most_times w) w
@@ -81,7 +88,8 @@ module _ (cfg : Cfg) (shown : Shown) where
       let v = run cfg (deliveries cfg most_times w) w in
       let both = schedule.both_tried cfg (firing Dte) (firing Dce) v in
       ap (λ (x : World). (emptied cfg shown most_times (both_tried cfg shown Fires x).next).next) (drained_next most_times w)
-      ∙ behind_next v (both_tried cfg shown Fires v) (emptied cfg shown most_times) both (pull_rounds cfg most_times most_times) (both_next Fires v) (emptied_next most_times)
+      ∙ behind_next v (both_tried cfg shown Fires v) (emptied cfg shown most_times) both (pull_rounds cfg most_times most_times) (both_next Fires v)
+      (emptied_next most_times)
       ∙ sym (run_append (deliveries cfg most_times w) (fire_and_pull cfg most_times v) w)
 
 pub heal_is_the_schedule : HealIsTheSchedule

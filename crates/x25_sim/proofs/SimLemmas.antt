@@ -26,7 +26,8 @@ module _ (cfg : Cfg) (down : Bool) (shown asked : Shown) (same : asked ≡ shown
       (begins_before cfg asked old now stage [] false (turns cfg asked (lines_of script)) (opened cfg down asked) b)
 
   -- the script is still to come
-  leads_script : (s : Stage) → StandsAt cfg shown old now s [] false (opened cfg down shown) → Simulates (record { cfg = cfg; down = down; shown = shown }) s old now (lines_of script) script
+  leads_script : (s : Stage) → StandsAt cfg shown old now s [] false (opened cfg down shown)
+      → Simulates (record { cfg = cfg; down = down; shown = shown }) s old now (lines_of script) script
   unfolding simulated
   leads_script s h = record {
     at = (opened cfg down shown).next;
@@ -39,16 +40,20 @@ module _ (cfg : Cfg) (down : Bool) (shown asked : Shown) (same : asked ≡ shown
   }
 
 -- with `loose` what its lines ask is to come
-pub script_begins : {P : Type 0} (cfg : Cfg) (down : Bool) (shown asked : Shown) (same : asked ≡ shown) (old now : Option (List ℕ)) (stage : Stage) (loose : Bool) (script : List ℕ)
+pub script_begins : {P : Type 0} (cfg : Cfg) (down : Bool) (shown asked : Shown) (same : asked ≡ shown) (old now : Option (List ℕ)) (stage : Stage)
+    (loose : Bool) (script : List ℕ)
     (is_loose : Bool) (s t : Simulator P) (held first : HeldLine) → held ≡ first → is_loose ≡ loose → s ≡ t → t.stage ≡ stage → HoldsLine [] first
     → StandsAt cfg asked old now stage [] false (opened cfg down asked)
-    → LinesLead (λ lines. (is_loose ≡ loose) × Simulates (record { cfg = cfg; down = down; shown = shown }) s.stage old now (asked_lines loose lines) (asked_text loose script)) held script
+    → LinesLead (λ lines. (is_loose ≡ loose)
+    × Simulates (record { cfg = cfg; down = down; shown = shown }) s.stage old now (asked_lines loose lines) (asked_text loose script)) held script
 script_begins {P} cfg down shown asked same old now stage loose script is_loose s t held first is_held is_so is_simulator is_stage empty h =
     let text = asked_text loose script in
-    between (λ (lines : List (List ℕ)). (is_loose ≡ loose) × Simulates (record { cfg = cfg; down = down; shown = shown }) s.stage old now (asked_lines loose lines) text) held script
+    between (λ (lines : List (List ℕ)). (is_loose ≡ loose)
+    × Simulates (record { cfg = cfg; down = down; shown = shown }) s.stage old now (asked_lines loose lines) text) held script
     (subst (HoldsLine []) (sym is_held) empty) (
       is_so,
       subst (λ (lines : List (List ℕ)). Simulates (record { cfg = cfg; down = down; shown = shown }) s.stage old now lines text) (lines_asked loose script)
-          (leads_script cfg down shown asked same old now stage text s.stage (subst (λ u. StandsAt cfg shown old now u [] false (opened cfg down shown)) (sym (ap (λ (s : Simulator P). s.stage) is_simulator ∙ is_stage))
+          (leads_script cfg down shown asked same old now stage text s.stage
+          (subst (λ u. StandsAt cfg shown old now u [] false (opened cfg down shown)) (sym (ap (λ (s : Simulator P). s.stage) is_simulator ∙ is_stage))
           (subst (λ a. StandsAt cfg a old now stage [] false (opened cfg down a)) same h))),
     )

@@ -13,7 +13,8 @@ use Rattle.x25_world.specs.declared.error.WorldError.{WorldError}
 use Rattle.x25_sim.specs.declared.stage.Shown.{Shown}
 use Rattle.x25_sim.specs.declared.stage.Stage.{Stage}
 use Rattle.x25_sim.specs.Telling.{Saying, refuses, reads_nothing, sayings_text, saying_line, mark_line, refusal_number, is_refusal, has_refusal}
-use Rattle.x25_sim.specs.Stage.{Turn, quiet, and_then, frames_if, marked, marks_if, turn_of, tried_of, tried, event_turn, told_between, asked_turn, connecting, set_up, opened}
+use Rattle.x25_sim.specs.Stage.{Turn, quiet, and_then, frames_if, marked, marks_if, turn_of, tried_of, tried, event_turn, told_between, asked_turn, connecting}
+use Rattle.x25_sim.specs.Stage.{set_up, opened}
 use Rattle.x25_sim.specs.code.Stands.{Stands, opening}
 use Rattle.x25_console.specs.Telling.{refusal_line}
 use Rattle.x25_io.proofs.ToldLemmas.{prefix_more}
@@ -66,7 +67,8 @@ module _ (cfg : Cfg) (shown : Shown) (old now next : Option (List ℕ)) (s u : S
 
     pub begins_refused : AppendsPrefix old next (told ++ refusal_line (refusal_number error)) → BeginsAt old next told (turn_of shown w o)
     begins_refused b =
-        subst (BeginsAt old next told) (sym (declined_turn shown w o error refusal)) (subst (λ t. AppendsPrefix old next (told ++ t)) (sym (refusal_told error)) b)
+        subst (BeginsAt old next told) (sym (declined_turn shown w o error refusal))
+        (subst (λ t. AppendsPrefix old next (told ++ t)) (sym (refusal_told error)) b)
 
     -- nothing is said of the refusal
     pub stands_left_out : (event : Event) → FitsWorld cfg u.world w → u.shown ≡ s.shown → u.is_refused ≡ s.is_refused → Tells old next u.output told
@@ -133,9 +135,11 @@ module _ (cfg : Cfg) (shown : Shown) (old now next : Option (List ℕ)) (s u : S
   are_told : s.shown.events ≡ true → shown.events ≡ true
   are_told on = sym (ap (λ (x : Shown). x.events) h.asked) ∙ on
 
-  pub stands_marked : s.shown.events ≡ true → u.world ≡ s.world → u.shown ≡ s.shown → u.is_refused ≡ s.is_refused → Tells old next u.output (told ++ mark_line e)
+  pub stands_marked : s.shown.events ≡ true → u.world ≡ s.world → u.shown ≡ s.shown → u.is_refused ≡ s.is_refused
+      → Tells old next u.output (told ++ mark_line e)
       → StandsAt cfg shown old next u told refused (marked shown e w)
-  stands_marked on world asked status tells = stands_so world asked status (subst (λ t. Tells old next u.output (told ++ t)) (sym (marks_text shown.events e (are_told on))) tells)
+  stands_marked on world asked status tells = stands_so world asked status
+      (subst (λ t. Tells old next u.output (told ++ t)) (sym (marks_text shown.events e (are_told on))) tells)
 
   pub begins_marked : s.shown.events ≡ true → AppendsPrefix old next (told ++ mark_line e) → BeginsAt old next told (marked shown e w)
   begins_marked on b = subst (λ t. AppendsPrefix old next (told ++ t)) (sym (marks_text shown.events e (are_told on))) b
@@ -143,7 +147,8 @@ module _ (cfg : Cfg) (shown : Shown) (old now next : Option (List ℕ)) (s u : S
   pub stands_unmarked : s.shown.events ≡ false → u.world ≡ s.world → u.shown ≡ s.shown → u.is_refused ≡ s.is_refused → Tells old next u.output told
       → StandsAt cfg shown old next u told refused (marked shown e w)
   stands_unmarked off world asked status tells = stands_so world asked status
-      (subst (Tells old next u.output) (sym (append-nil told) ∙ ap (λ t. told ++ t) (sym (no_marks_text shown.events e (sym (ap (λ (x : Shown). x.events) h.asked) ∙ off)))) tells)
+      (subst (Tells old next u.output) (sym (append-nil told)
+      ∙ ap (λ t. told ++ t) (sym (no_marks_text shown.events e (sym (ap (λ (x : Shown). x.events) h.asked) ∙ off)))) tells)
 
 -- ---- one turn behind another
 
@@ -151,21 +156,27 @@ module _ (cfg : Cfg) (shown : Shown) (old now next : Option (List ℕ)) (s u : S
 pub parts_text : (told : List ℕ) (first second : List Saying) → (told ++ sayings_text first) ++ sayings_text second ≡ told ++ sayings_text (first ++ second)
 parts_text told first second = append_assoc told (sayings_text first) (sayings_text second) ∙ ap (λ t. told ++ t) (sym (text-append first second))
 
-pub parts_refused : (refused : Bool) (first second : List Saying) → ((refused || has_refusal first) || has_refusal second) ≡ (refused || has_refusal (first ++ second))
-parts_refused refused first second = or_assoc refused (has_refusal first) (has_refusal second) ∙ ap (λ b. refused || b) (sym (list_any-append is_refusal first second))
+pub parts_refused : (refused : Bool) (first second : List Saying) → ((refused || has_refusal first) || has_refusal second)
+    ≡ (refused || has_refusal (first ++ second))
+parts_refused refused first second = or_assoc refused (has_refusal first) (has_refusal second)
+    ∙ ap (λ b. refused || b) (sym (list_any-append is_refusal first second))
 
 module _ (cfg : Cfg) (shown : Shown) (old next : Option (List ℕ)) (u : Stage) (told : List ℕ) (refused : Bool) (rest : World → Turn) (t : Turn) where
-  pub stands_behind : StandsAt cfg shown old next u (told ++ sayings_text t.sayings) (refused || has_refusal t.sayings) (rest t.next) → StandsAt cfg shown old next u told refused (and_then rest t)
+  pub stands_behind : StandsAt cfg shown old next u (told ++ sayings_text t.sayings) (refused || has_refusal t.sayings) (rest t.next)
+      → StandsAt cfg shown old next u told refused (and_then rest t)
   stands_behind h =
-      subst (λ text. Stands cfg shown old next u (rest t.next).next text (refused || has_refusal (and_then rest t).sayings)) (parts_text told t.sayings (rest t.next).sayings)
-      (subst (Stands cfg shown old next u (rest t.next).next ((told ++ sayings_text t.sayings) ++ sayings_text (rest t.next).sayings)) (parts_refused refused t.sayings (rest t.next).sayings) h)
+      subst (λ text. Stands cfg shown old next u (rest t.next).next text (refused || has_refusal (and_then rest t).sayings))
+      (parts_text told t.sayings (rest t.next).sayings)
+      (subst (Stands cfg shown old next u (rest t.next).next ((told ++ sayings_text t.sayings) ++ sayings_text (rest t.next).sayings))
+      (parts_refused refused t.sayings (rest t.next).sayings) h)
 
   pub begins_behind : BeginsAt old next (told ++ sayings_text t.sayings) (rest t.next) → BeginsAt old next told (and_then rest t)
   begins_behind b = subst (AppendsPrefix old next) (parts_text told t.sayings (rest t.next).sayings) b
 
   pub begins_before : BeginsAt old next told t → BeginsAt old next told (and_then rest t)
   begins_before b =
-      subst (AppendsPrefix old next) (parts_text told t.sayings (rest t.next).sayings) (prefix_more old next (told ++ sayings_text t.sayings) (sayings_text (rest t.next).sayings) b)
+      subst (AppendsPrefix old next) (parts_text told t.sayings (rest t.next).sayings)
+      (prefix_more old next (told ++ sayings_text t.sayings) (sayings_text (rest t.next).sayings) b)
 
 -- ---- before the script
 
@@ -173,8 +184,10 @@ module _ (cfg : Cfg) (shown : Shown) (old next : Option (List ℕ)) (u : Stage) 
 abbrev pub first_turn : Cfg → Bool → Shown → Turn
 first_turn cfg down shown = record { next = opening cfg down; sayings = told_between shown start (opening cfg down) }
 
-pub stands_first : (cfg : Cfg) (down : Bool) (shown : Shown) (old next : Option (List ℕ)) (u : Stage) → FitsWorld cfg u.world (opening cfg down) → u.shown ≡ shown
-    → u.is_refused ≡ false → Tells old next u.output (sayings_text (told_between shown start (opening cfg down))) → StandsAt cfg shown old next u [] false (first_turn cfg down shown)
+pub stands_first : (cfg : Cfg) (down : Bool) (shown : Shown) (old next : Option (List ℕ)) (u : Stage) → FitsWorld cfg u.world (opening cfg down) → u.shown
+    ≡ shown
+    → u.is_refused ≡ false → Tells old next u.output (sayings_text (told_between shown start (opening cfg down)))
+    → StandsAt cfg shown old next u [] false (first_turn cfg down shown)
 stands_first cfg down shown old next u fits asked status tells =
     record { fits = fits; asked = asked; tells = tells; status = status ∙ sym (step_accepts shown start (opening cfg down)) }
 
@@ -205,7 +218,8 @@ no_frames true = refl
 no_frames false = refl
 
 -- SABM and UA are there where the DTE has asked, and nothing is on the line where both links are down
-pub opens : (cfg : Cfg) (down : Bool) (shown : Shown) → AreAccepted cfg (sabm_arrives ∷ ua_arrives ∷ []) (connected cfg) → and_then (deliveries cfg shown) (first_turn cfg down shown) ≡ opened cfg down shown
+pub opens : (cfg : Cfg) (down : Bool) (shown : Shown) → AreAccepted cfg (sabm_arrives ∷ ua_arrives ∷ []) (connected cfg)
+    → and_then (deliveries cfg shown) (first_turn cfg down shown) ≡ opened cfg down shown
 unfolding tried set_up
 opens cfg true shown accepted = ap (λ frames. record { next = start; sayings = frames ++ [] }) (no_frames shown.tap)
 opens cfg false shown accepted =

@@ -36,11 +36,13 @@ told_by shown w next at entries told =
     entries_first shown (drop (length w.transcript) next.transcript) (drop (length w.tap) next.tap)
     ∙ ap (λ es. sayings_text es ++ sayings_text (frames_told shown (drop (length w.tap) next.tap))) (ap (map enters) new ∙ enters_all at entries)
 
-pub told_alone : (shown : Shown) (told : List ℕ) (w next : World) (at : Role) (entries : List StationEntry) → shown.tap ≡ false → next.transcript ≡ w.transcript ++ entered at entries
+pub told_alone : (shown : Shown) (told : List ℕ) (w next : World) (at : Role) (entries : List StationEntry) → shown.tap ≡ false → next.transcript
+    ≡ w.transcript ++ entered at entries
     → told ++ sayings_text (map (enters_at at) entries) ≡ told ++ sayings_text (told_between shown w next)
 told_alone shown told w next at entries off is =
     let text = sayings_text (map (enters_at at) entries) in
-    ap (λ t. told ++ t) (sym (told_by shown w next at entries is ∙ ap (λ b. text ++ sayings_text (frames_if b (drop (length w.tap) next.tap))) off ∙ append-nil text))
+    ap (λ t. told ++ t) (sym (told_by shown w next at entries is ∙ ap (λ b. text ++ sayings_text (frames_if b (drop (length w.tap) next.tap))) off
+    ∙ append-nil text))
 
 pub told_with_frames : (shown : Shown) (told : List ℕ) (w next : World) (at : Role) (entries : List StationEntry) (put : List (List ℕ)) → shown.tap ≡ true
     → next.transcript ≡ w.transcript ++ entered at entries → next.tap ≡ w.tap ++ tapped at put
@@ -69,25 +71,30 @@ first_frames cfg shown down told v on f =
     ap (λ t. told ++ t) (sym (told_by shown start (opening cfg down) Dte [] (first_told cfg down)
     ∙ ap (λ b. sayings_text (frames_if b (opening cfg down).tap)) on ∙ ap (λ fs. sayings_text (map taps fs)) frames))
 
-pub first_alone : (cfg : Cfg) (shown : Shown) (down : Bool) (told : List ℕ) → shown.tap ≡ false → told ≡ told ++ sayings_text (told_between shown start (opening cfg down))
+pub first_alone : (cfg : Cfg) (shown : Shown) (down : Bool) (told : List ℕ) → shown.tap ≡ false → told ≡ told
+    ++ sayings_text (told_between shown start (opening cfg down))
 first_alone cfg shown down told off = sym (append-nil told) ∙ ap (λ t. told ++ t) (sym (told_by shown start (opening cfg down) Dte [] (first_told cfg down)
     ∙ ap (λ b. sayings_text (frames_if b (opening cfg down).tap)) off))
 
 -- ---- how it comes out
 
-pub happened_turn : (shown : Shown) (w : World) (o : WorldOutcome) → refusal_of o ≡ None → turn_of shown w o ≡ record { next = after w o; sayings = told_between shown w (after w o) }
+pub happened_turn : (shown : Shown) (w : World) (o : WorldOutcome) → refusal_of o ≡ None → turn_of shown w o
+    ≡ record { next = after w o; sayings = told_between shown w (after w o) }
 happened_turn shown w (Happened next) e = refl
 happened_turn shown w (Declined error) e = absurd (cc)
 
-pub declined_turn : (shown : Shown) (w : World) (o : WorldOutcome) (error : WorldError) → refusal_of o ≡ Some error → turn_of shown w o ≡ record { next = w; sayings = refuses error ∷ [] }
+pub declined_turn : (shown : Shown) (w : World) (o : WorldOutcome) (error : WorldError) → refusal_of o ≡ Some error → turn_of shown w o
+    ≡ record { next = w; sayings = refuses error ∷ [] }
 declined_turn shown w (Happened next) error e = absurd (cc)
 declined_turn shown w (Declined found) error e = ap (λ x. record { next = w; sayings = refuses x ∷ [] }) (same_Some found error e)
 
-pub happened_tried : (shown : Shown) (event : Event) (w : World) (o : WorldOutcome) → refusal_of o ≡ None → tried_of shown event w o ≡ and_then (marked shown event) (turn_of shown w o)
+pub happened_tried : (shown : Shown) (event : Event) (w : World) (o : WorldOutcome) → refusal_of o ≡ None → tried_of shown event w o
+    ≡ and_then (marked shown event) (turn_of shown w o)
 happened_tried shown event w (Happened next) e = refl
 happened_tried shown event w (Declined error) e = absurd (cc)
 
-pub declined_tried : (shown : Shown) (event : Event) (w : World) (o : WorldOutcome) (error : WorldError) → refusal_of o ≡ Some error → tried_of shown event w o ≡ quiet w
+pub declined_tried : (shown : Shown) (event : Event) (w : World) (o : WorldOutcome) (error : WorldError) → refusal_of o ≡ Some error → tried_of shown event w o
+    ≡ quiet w
 declined_tried shown event w (Happened next) error e = absurd (cc)
 declined_tried shown event w (Declined found) error e = refl
 

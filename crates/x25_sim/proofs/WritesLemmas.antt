@@ -6,14 +6,16 @@ use Rattle.x25_station.specs.Config.{config_refusal}
 use Rattle.x25_world.specs.World.{World}
 use Rattle.x25_io.specs.code.Runs.{OfInput}
 use Rattle.x25_world.specs.laws.Claims.{ArrivesAll, HasNoProcedureError, IsLawful, IsNamed}
-use Rattle.x25_world.specs.laws.SessionClaims.{MeetInStep, AreLawfulWhereMet, AreNamedInSessions, AllArrive, UnmetAreToldNothing, OpenStretchesMeet, SessionsKeepOrder}
+use Rattle.x25_world.specs.laws.SessionClaims.{MeetInStep, AreLawfulWhereMet, AreNamedInSessions, AllArrive, UnmetAreToldNothing, OpenStretchesMeet}
+use Rattle.x25_world.specs.laws.SessionClaims.{SessionsKeepOrder}
 use Rattle.x25_world.specs.laws.SessionWindow.{UpIsInWindow}
 use Rattle.x25_sim.specs.Stage.{simulated, sim_text}
 use Rattle.x25_sim.specs.declared.stage.Shown.{Shown}
 use Rattle.x25_sim.specs.laws.RunLaw.{IsInWindow, OfScripts, OfScriptsSetUp, OfAllScripts, ScriptsAreTold, ScriptsAreTapped}
 use Rattle.x25_sim.specs.laws.WritesRun.{Writes, WritesRun, WritesSetUp}
 
-writes : (Holds : Cfg → World → Type 0) (cfg : Cfg) (down : Bool) (shown : Shown) (script : List ℕ) (old now : Option (List ℕ)) → ScriptsAreTold → ScriptsAreTapped → Appends old now (sim_text cfg down shown script)
+writes : (Holds : Cfg → World → Type 0) (cfg : Cfg) (down : Bool) (shown : Shown) (script : List ℕ) (old now : Option (List ℕ)) → ScriptsAreTold
+    → ScriptsAreTapped → Appends old now (sim_text cfg down shown script)
     → Holds cfg (simulated cfg down shown script).next → Writes Holds cfg down shown script old now
 writes Holds cfg down shown script old now told taps text holds = record {
   sayings = (simulated cfg down shown script).sayings;
@@ -24,7 +26,8 @@ writes Holds cfg down shown script old now told taps text holds = record {
 }
 
 module _ (cfg : Cfg) (fine : config_refusal cfg ≡ None) (shown : Shown) (old now : Option (List ℕ)) (told : ScriptsAreTold) (taps : ScriptsAreTapped) where
-  set_up : (Holds : Cfg → World → Type 0) → OfScriptsSetUp Holds → (down : Bool) (script : List ℕ) → Appends old now (sim_text cfg down shown script) → WritesSetUp Holds cfg down shown script old now
+  set_up : (Holds : Cfg → World → Type 0) → OfScriptsSetUp Holds → (down : Bool) (script : List ℕ) → Appends old now (sim_text cfg down shown script)
+      → WritesSetUp Holds cfg down shown script old now
   set_up Holds law true script text up first = absurd (cc)
   set_up Holds law false script text up first = writes Holds cfg false shown script old now told taps text (law cfg fine shown script first)
 
@@ -41,7 +44,8 @@ module _ (cfg : Cfg) (fine : config_refusal cfg ≡ None) (shown : Shown) (old n
     sessions = writes SessionsKeepOrder cfg down shown (read script) old now told taps (text few) (sessions cfg fine down shown (read script));
   }
 
-pub all_of_scripts : OfAllScripts MeetInStep → OfAllScripts AreLawfulWhereMet → OfAllScripts AreNamedInSessions → OfAllScripts AllArrive → OfAllScripts UnmetAreToldNothing → OfAllScripts OpenStretchesMeet
+pub all_of_scripts : OfAllScripts MeetInStep → OfAllScripts AreLawfulWhereMet → OfAllScripts AreNamedInSessions → OfAllScripts AllArrive
+    → OfAllScripts UnmetAreToldNothing → OfAllScripts OpenStretchesMeet
     → OfAllScripts HasNoProcedureError → OfAllScripts UpIsInWindow → OfAllScripts SessionsKeepOrder
 all_of_scripts step lawful named arrives unmet stand quiet window cfg fine down shown script = record {
   step = step cfg fine down shown script;

@@ -1,5 +1,6 @@
 -- The entry of an accepted command stands under the name that the layer has after the whole call.
-use Rattle.std.proofs.Common.{◌≡◌, ℕ, zero, suc, ◌≤◌, nat_le, ◌&&◌, List, [], ◌∷◌, Option, Some, None, Bool, true, false, ◌==◌, if◌then◌else◌, refl, ap, sym, subst, ◌∙◌, arith}
+use Rattle.std.proofs.Common.{◌≡◌, ℕ, zero, suc, ◌≤◌, nat_le, ◌&&◌, List, [], ◌∷◌, Option, Some, None, Bool, true, false, ◌==◌, if◌then◌else◌, refl, ap, sym}
+use Rattle.std.proofs.Common.{subst, ◌∙◌, arith}
 use Rattle.std.proofs.lemmas.Option.{none-some, same_Some}
 use Rattle.std.proofs.lemmas.Bool.{le-leb}
 use Rattle.x25_circuit.specs.Params.{Proposal, in_brief}
@@ -13,7 +14,8 @@ use Rattle.x25_layer.specs.declared.error.LayerError.TheVariants as layer_error
 use Rattle.x25_layer.specs.Layer.{LayerSettings, Layer, is_channel}
 use Rattle.x25_layer.specs.declared.ranges.Ranges.{Ranges}
 use Rattle.x25_layer.specs.Ranges.{may_call}
-use Rattle.x25_layer.specs.Calls.{LayerRequest, Asks, Dials, Restarts, PullsAll, LayerOutcome, Accepted, Declined, layer_outcome, outcome_in, outcome_on, if_at_once, puts_at_once, first_of, lowest_free, highest_free, first_free, where_callable, free_channel}
+use Rattle.x25_layer.specs.Calls.{LayerRequest, Asks, Dials, Restarts, PullsAll, LayerOutcome, Accepted, Declined, layer_outcome, outcome_in, outcome_on}
+use Rattle.x25_layer.specs.Calls.{if_at_once, puts_at_once, first_of, lowest_free, highest_free, first_free, where_callable, free_channel}
 use Rattle.x25_layer.specs.laws.Rounds.{LinkView, Putting, begin, rounds, Answered, Went, Refuses, went, calls}
 use Rattle.x25_layer.specs.laws.Transcript.{Asked, name_of}
 use Rattle.x25_layer.specs.laws.TwoLayers.{shown, entry_of_dial}
@@ -41,14 +43,16 @@ pub record IsAccepted (view : LinkView) (c : LayerSettings) (l : Layer) (request
   pub outcome : layer_outcome c (view.waits [] == 256) l request ≡ Accepted next packet
   pub step : rounds view c (begin next packet) ≡ p
 
-pub accepted : (view : LinkView) (c : LayerSettings) (l : Layer) (request : LayerRequest) (p : Putting) → calls view c l request ≡ Went p → IsAccepted view c l request p
+pub accepted : (view : LinkView) (c : LayerSettings) (l : Layer) (request : LayerRequest) (p : Putting) → calls view c l request ≡ Went p
+    → IsAccepted view c l request p
 accepted view c l request p is = test view.is_up is
   where
     by : (o : LayerOutcome) → layer_outcome c (view.waits [] == 256) l request ≡ o → went view c o ≡ Went p → IsAccepted view c l request p
     by (Accepted next packet) found same = record { next = next; packet = packet; outcome = found; step = went_is (rounds view c (begin next packet)) p same }
     by (Declined e) found same = absurd (refuses_went e p same)
 
-    test : (b : Bool) → (if b then went view c (layer_outcome c (view.waits [] == 256) l request) else Refuses layer_error.NotUp) ≡ Went p → IsAccepted view c l request p
+    test : (b : Bool) → (if b then went view c (layer_outcome c (view.waits [] == 256) l request) else Refuses layer_error.NotUp) ≡ Went p
+        → IsAccepted view c l request p
     test true same = by (layer_outcome c (view.waits [] == 256) l request) refl same
     test false same = absurd (refuses_went layer_error.NotUp p same)
 
@@ -58,37 +62,45 @@ entries_are : (view : LinkView) (c : LayerSettings) (l : Layer) (request : Layer
     → entries_of_outcome c l request (layer_outcome c (view.waits [] == 256) l request) ≡ station_asked c l a.next request
 entries_are view c l request p a = ap (entries_of_outcome c l request) a.outcome
 
-next_name : (view : LinkView) (c : LayerSettings) (l : Layer) (request : LayerRequest) (p : Putting) (h : ℕ) (a : IsAccepted view c l request p) → name_of a.next h ≡ name_of p.layer h
+next_name : (view : LinkView) (c : LayerSettings) (l : Layer) (request : LayerRequest) (p : Putting) (h : ℕ) (a : IsAccepted view c l request p)
+    → name_of a.next h ≡ name_of p.layer h
 next_name view c l request p h a = sym (rounds_name view c (begin a.next a.packet) h) ∙ ap (λ (s : Putting). name_of s.layer h) a.step
 
-next_params : (view : LinkView) (c : LayerSettings) (l : Layer) (request : LayerRequest) (p : Putting) (h : ℕ) (a : IsAccepted view c l request p) → (a.next.circuits h).params ≡ (p.layer.circuits h).params
+next_params : (view : LinkView) (c : LayerSettings) (l : Layer) (request : LayerRequest) (p : Putting) (h : ℕ) (a : IsAccepted view c l request p)
+    → (a.next.circuits h).params ≡ (p.layer.circuits h).params
 next_params view c l request p h a = sym (rounds_params view c (begin a.next a.packet) h) ∙ ap (λ (s : Putting). (s.layer.circuits h).params) a.step
 
 pub asked_entry : (view : LinkView) (c : LayerSettings) (l : Layer) (h : ℕ) (request : circuit.Request) (p : Putting) → calls view c l (Asks h request) ≡ Went p
-    → entries_of_outcome c l (Asks h request) (layer_outcome c (view.waits [] == 256) l (Asks h request)) ≡ of_channel (record { channel = h; name = name_of p.layer h; said = Asked (shown (p.layer.circuits h) request) }) ∷ []
+    → entries_of_outcome c l (Asks h request) (layer_outcome c (view.waits [] == 256) l (Asks h request))
+    ≡ of_channel (record { channel = h; name = name_of p.layer h; said = Asked (shown (p.layer.circuits h) request) }) ∷ []
 asked_entry view c l h request p is =
     let a = accepted view c l (Asks h request) p is in
     entries_are view c l (Asks h request) p a
     ∙ ap (λ n. of_channel (record { channel = h; name = n; said = Asked (shown (a.next.circuits h) request) }) ∷ []) (next_name view c l (Asks h request) p h a)
-    ∙ ap (λ q. of_channel (record { channel = h; name = name_of p.layer h; said = Asked q }) ∷ []) (same_shown (a.next.circuits h) (p.layer.circuits h) request (next_params view c l (Asks h request) p h a))
+    ∙ ap (λ q. of_channel (record { channel = h; name = name_of p.layer h; said = Asked q }) ∷ [])
+    (same_shown (a.next.circuits h) (p.layer.circuits h) request (next_params view c l (Asks h request) p h a))
 
-pub dialled_entry : (view : LinkView) (c : LayerSettings) (l : Layer) (h : ℕ) (called calling user : List ℕ) (proposal : Proposal) (p : Putting) → calls view c l (Dials called calling user proposal) ≡ Went p → free_channel c.circuit.role l.circuits c.channels ≡ Some h
+pub dialled_entry : (view : LinkView) (c : LayerSettings) (l : Layer) (h : ℕ) (called calling user : List ℕ) (proposal : Proposal) (p : Putting)
+    → calls view c l (Dials called calling user proposal) ≡ Went p → free_channel c.circuit.role l.circuits c.channels ≡ Some h
     → entries_of_outcome c l (Dials called calling user proposal) (layer_outcome c (view.waits [] == 256) l (Dials called calling user proposal))
     ≡ of_channel (record { channel = h; name = name_of p.layer h; said = Asked (circuit.Calls called calling user (in_brief proposal.params)) }) ∷ []
 dialled_entry view c l h called calling user proposal p is free =
     let a = accepted view c l (Dials called calling user proposal) p is in
     entries_are view c l (Dials called calling user proposal) p a
     ∙ ap (λ (o : Option ℕ). of_dial a.next o) free
-    ∙ ap (λ n. of_channel (record { channel = h; name = n; said = Asked (circuit.Calls called calling user (in_brief proposal.params)) }) ∷ []) (next_name view c l (Dials called calling user proposal) p h a)
+    ∙ ap (λ n. of_channel (record { channel = h; name = n; said = Asked (circuit.Calls called calling user (in_brief proposal.params)) }) ∷ [])
+    (next_name view c l (Dials called calling user proposal) p h a)
   where
     of_dial : Layer → Option ℕ → List StationEntry
     of_dial next o = of_channels (entry_of_dial next o (circuit.Calls called calling user proposal))
 
 pub restart_entry : (view : LinkView) (c : LayerSettings) (l : Layer) (cause diagnostic : ℕ) (p : Putting) → calls view c l (Restarts cause diagnostic) ≡ Went p
-    → entries_of_outcome c l (Restarts cause diagnostic) (layer_outcome c (view.waits [] == 256) l (Restarts cause diagnostic)) ≡ restart_asked cause diagnostic ∷ []
+    → entries_of_outcome c l (Restarts cause diagnostic) (layer_outcome c (view.waits [] == 256) l (Restarts cause diagnostic))
+    ≡ restart_asked cause diagnostic ∷ []
 restart_entry view c l cause diagnostic p is = entries_are view c l (Restarts cause diagnostic) p (accepted view c l (Restarts cause diagnostic) p is)
 
-pub pull_entry : (view : LinkView) (c : LayerSettings) (l : Layer) (p : Putting) → calls view c l PullsAll ≡ Went p → entries_of_outcome c l PullsAll (layer_outcome c (view.waits [] == 256) l PullsAll) ≡ []
+pub pull_entry : (view : LinkView) (c : LayerSettings) (l : Layer) (p : Putting) → calls view c l PullsAll ≡ Went p
+    → entries_of_outcome c l PullsAll (layer_outcome c (view.waits [] == 256) l PullsAll) ≡ []
 pull_entry view c l p is = entries_are view c l PullsAll p (accepted view c l PullsAll p is)
 
 -- ---- the channel of an accepted command is configured
@@ -96,8 +108,10 @@ pull_entry view c l p is = entries_are view c l PullsAll p (accepted view c l Pu
 declined_accepted : (e : LayerError) (next : Layer) (packet : Option PlainPacket) → Declined e ≡ Accepted next packet → ⊥
 declined_accepted e next packet is = subst (λ (o : LayerOutcome). elim o as (λ _. Type 0) [ Accepted x y ↦ ⊥ | Declined z ↦ Unit {0} ]) is tt
 
-pub asked_channel : (view : LinkView) (c : LayerSettings) (l : Layer) (h : ℕ) (request : circuit.Request) (p : Putting) → calls view c l (Asks h request) ≡ Went p → is_channel c.channels h ≡ true
-asked_channel view c l h request p is = let a = accepted view c l (Asks h request) p is in at l.restarting (is_channel c.channels h) refl a.next a.packet a.outcome
+pub asked_channel : (view : LinkView) (c : LayerSettings) (l : Layer) (h : ℕ) (request : circuit.Request) (p : Putting) → calls view c l (Asks h request)
+    ≡ Went p → is_channel c.channels h ≡ true
+asked_channel view c l h request p is = let a = accepted view c l (Asks h request) p is in
+    at l.restarting (is_channel c.channels h) refl a.next a.packet a.outcome
   where
     full : Bool
     full = view.waits [] == 256
@@ -105,10 +119,12 @@ asked_channel view c l h request p is = let a = accepted view c l (Asks h reques
     good : LayerOutcome
     good = if_at_once (puts_at_once request) full (outcome_on l.restarts l.circuits h (circuit.outcome c.circuit (l.circuits h) request))
 
-    at : (busy b : Bool) → is_channel c.channels h ≡ b → (next : Layer) (packet : Option PlainPacket) → outcome_in c full busy l.restarts l.circuits (Asks h request) ≡ Accepted next packet → is_channel c.channels h ≡ true
+    at : (busy b : Bool) → is_channel c.channels h ≡ b → (next : Layer) (packet : Option PlainPacket)
+        → outcome_in c full busy l.restarts l.circuits (Asks h request) ≡ Accepted next packet → is_channel c.channels h ≡ true
     at true b same next packet found = absurd (declined_accepted layer_error.Restarting next packet found)
     at false true same next packet found = same
-    at false false same next packet found = absurd (declined_accepted layer_error.NoSuchChannel next packet (sym (ap (λ (x : Bool). if x then good else Declined layer_error.NoSuchChannel) same) ∙ found))
+    at false false same next packet found = absurd
+        (declined_accepted layer_error.NoSuchChannel next packet (sym (ap (λ (x : Bool). if x then good else Declined layer_error.NoSuchChannel) same) ∙ found))
 
 record LiesIn (n h : ℕ) : Type 0 where
   low : 1 ≤ h
@@ -133,7 +149,8 @@ lowest_lies f (suc n) h is = first (lowest_free f n) refl is (lowest_lies f n h)
     test true same = subst (λ (k : ℕ). LiesIn (suc n) k) (same_Some (suc n) h same) (record { low = omega arith; high = omega arith })
     test false same = absurd (none-some h same)
 
-    first : (o : Option ℕ) → lowest_free f n ≡ o → first_of o (is_free (f (suc n))) (suc n) ≡ Some h → (lowest_free f n ≡ Some h → LiesIn n h) → LiesIn (suc n) h
+    first : (o : Option ℕ) → lowest_free f n ≡ o → first_of o (is_free (f (suc n))) (suc n) ≡ Some h → (lowest_free f n ≡ Some h → LiesIn n h)
+        → LiesIn (suc n) h
     first (Some k) found same below = lies_further n h (below (found ∙ same))
     first None found same below = test (is_free (f (suc n))) same
 

@@ -1,36 +1,41 @@
 -- What a step makes of an answer that is awaited on a channel: it is awaited still, or fewer steps are left, and that is
 -- told.
-use Rattle.std.proofs.Common.{◌≡◌, ℕ, zero, suc, ◌<◌, ◌≤◌, ◌==◌, ◌⊎◌, inl, inr, List, [], ◌∷◌, map, Bool, true, false, ◌&&◌, ◌||◌, if◌then◌else◌, nat_lt, Option, Some, None, Result, Ok, Err, refl, sym, ap, subst, ◌∙◌, arith}
+use Rattle.std.proofs.Common.{◌≡◌, ℕ, zero, suc, ◌<◌, ◌≤◌, ◌==◌, ◌⊎◌, inl, inr, List, [], ◌∷◌, map, Bool, true, false, ◌&&◌, ◌||◌, if◌then◌else◌, nat_lt}
+use Rattle.std.proofs.Common.{Option, Some, None, Result, Ok, Err, refl, sym, ap, subst, ◌∙◌, arith}
 use Rattle.std.proofs.lemmas.Bool.{true≢false, eqb-true, eq-eqb}
 use Rattle.std.specs.List.{list_any}
 use Rattle.x25_bits.specs.declared.role.Role.{Role}
 use Rattle.x25_bits.specs.declared.role.Role.TheVariants.{Dte, Dce}
 use Rattle.x25_packet.specs.declared.error.PacketError.{PacketError}
-use Rattle.x25_packet.specs.Packet.{PlainPacket, call, accept, clear, clear_conf, user_data, rr, rnr, interrupt, interrupt_conf, reset, reset_conf, restart, restart_conf}
+use Rattle.x25_packet.specs.Packet.{PlainPacket, call, accept, clear, clear_conf, reset, reset_conf, restart, restart_conf}
 use Rattle.x25_packet.specs.Reading.{channel_in}
 use Rattle.x25_packet.specs.Spelling.{channel_of}
 use Rattle.x25_link.specs.declared.phase.Phase.TheVariants.{Up}
 use Rattle.x25_packet.specs.declared.marks.Marks.{Marks}
 use Rattle.x25_circuit.specs.declared.awaits.Awaits.{Awaits}
-use Rattle.x25_circuit.specs.declared.awaits.Awaits.TheVariants.{Nothing, Acceptance, ResetConfirmation, ClearConfirmation}
+use Rattle.x25_circuit.specs.declared.awaits.Awaits.TheVariants.{Nothing}
 use Rattle.x25_circuit.specs.declared.params.Params.{Params}
 use Rattle.x25_circuit.specs.declared.state.State.{State}
-use Rattle.x25_circuit.specs.declared.state.State.TheVariants.{Free, Calling, Arriving, Collision, Open, Resetting, Clearing}
+use Rattle.x25_circuit.specs.declared.state.State.TheVariants.{Free, Calling, Collision, Open, Resetting, Clearing}
 use Rattle.x25_circuit.specs.declared.error.CircuitError.TheVariants as circuit_error
 use Rattle.x25_circuit.specs.Cause.{may_clear_for, may_restart_for}
 use Rattle.x25_circuit.specs.Awaits.{awaited_in}
 use Rattle.x25_circuit.specs.Circuit.{CircuitSettings, Circuit}
-use Rattle.x25_circuit.specs.Calling.{Outcome as CircuitOutcome, Done, Refused as CircuitRefused, Request, Calls, Accepts, Clears, Sends, Interrupts, Resets, SaysReady, SaysNotReady, call_in, accept_in, clear_in, send_in, interrupt_in, reset_in, ready_in, outcome, Pulled, pull_in, pull_open, pulled}
+use Rattle.x25_circuit.specs.Calling.{Outcome as CircuitOutcome, Done, Refused as CircuitRefused, Request, Calls, Accepts, Clears, Sends, Interrupts, Resets}
+use Rattle.x25_circuit.specs.Calling.{SaysReady, SaysNotReady, call_in, accept_in, clear_in, send_in, interrupt_in, reset_in, ready_in, outcome, Pulled}
+use Rattle.x25_circuit.specs.Calling.{pull_in, pull_open, pulled}
 use Rattle.x25_circuit.specs.Message.{Piece}
 use Rattle.x25_circuit.specs.Notice.{CallRequest, PlainNotice, connected}
 use Rattle.x25_circuit.specs.Params.{Proposal, may_answer, said_in}
 use Rattle.x25_circuit.specs.Hearing as table
 use Rattle.x25_circuit.specs.Hearing.{Answer, answers, undecoded}
 use Rattle.x25_handshakes.specs.laws.Names.{Name}
-use Rattle.x25_layer.specs.Layer.{LayerSettings, Layer, LayerAnswer, is_channel, is_ready, put_at, notices_on, answers_on, drops, restarting_from, answers_ready, answers_restarting, answers_in, undecoded_in}
+use Rattle.x25_layer.specs.Layer.{LayerSettings, Layer, LayerAnswer, is_channel, is_ready, put_at, notices_on, answers_on, drops, restarting_from}
+use Rattle.x25_layer.specs.Layer.{answers_ready, answers_restarting, answers_in, undecoded_in}
 use Rattle.x25_layer.specs.laws.Transcript.{Said, Asked, Told, name_of}
 use Rattle.x25_layer.specs.laws.TwoLayers.{shown}
-use Rattle.x25_layer.specs.Calls.{LayerRequest, Asks, Dials, Restarts, PullsAll, LayerOutcome, Accepted, Declined, where_room, if_at_once, puts_at_once, outcome_on, dialled, restarted_for, outcome_ready, outcome_in, layer_outcome, free_channel, layer_pulled}
+use Rattle.x25_layer.specs.Calls.{LayerRequest, Asks, Dials, Restarts, PullsAll, LayerOutcome, Accepted, Declined, where_room, if_at_once, puts_at_once}
+use Rattle.x25_layer.specs.Calls.{outcome_on, dialled, restarted_for, outcome_ready, outcome_in, layer_outcome, free_channel, layer_pulled}
 use Rattle.x25_layer.specs.Receiving.{undecoded_at, answer_to}
 use Rattle.x25_layer.specs.laws.Rounds.{LinkView, Putting, with_pulled, pull_one, round, rounds_of, rounds, backlog}
 use Rattle.x25_layer.specs.declared.error.LayerError.TheVariants as error
@@ -106,12 +111,15 @@ module _ (c : CircuitSettings) (x : Circuit) where
   call_next in_reset is request = unexpected_next in_reset
   call_next in_clear is request = stays in_clear is
 
-  connects_next : (s : State) (answered : Params) → AnswerNext s (table.goes x Open answered true None (connected answered ∷ [])) → AnswerNext s (table.clears_for c x 3 66) → AnswerNext s (table.connects c x answered)
-  connects_next s answered p q = by_if s (may_answer x.params answered) (table.goes x Open answered true None (connected answered ∷ [])) (table.clears_for c x 3 66) p q
+  connects_next : (s : State) (answered : Params) → AnswerNext s (table.goes x Open answered true None (connected answered ∷ []))
+      → AnswerNext s (table.clears_for c x 3 66) → AnswerNext s (table.connects c x answered)
+  connects_next s answered p q = by_if s (may_answer x.params answered) (table.goes x Open answered true None (connected answered ∷ []))
+      (table.clears_for c x 3 66) p q
 
   accept_next : (k : Kind) → x.state ≡ state_of k → (facilities : List ℕ) → AnswerNext (state_of k) (table.row_accept c x (state_of k) facilities)
   accept_next in_call is facilities = connects_next Calling (said_in x.params facilities) (inr (omega arith, inr refl)) (inr (omega arith, inl (refl, refl)))
-  accept_next in_collision is facilities = connects_next Collision (said_in x.params facilities) (inr (omega arith, inr refl)) (inr (omega arith, inl (refl, refl)))
+  accept_next in_collision is facilities = connects_next Collision (said_in x.params facilities) (inr (omega arith, inr refl))
+      (inr (omega arith, inl (refl, refl)))
   accept_next in_reset is facilities = unexpected_next in_reset
   accept_next in_clear is facilities = stays in_clear is
 
@@ -156,7 +164,8 @@ module _ (c : CircuitSettings) (x : Circuit) where
   by_row row k is next = subst (λ (s : State). AnswerNext s (row s)) (sym is) next
 
   hears_next : IsKind x.state → (packet : PlainPacket) → AnswerNext x.state (answers c x packet)
-  hears_next k (call channel called calling facilities user) = by_row (λ s. table.row_call c x s (table.request_in called calling facilities user)) k.kind k.is (call_next k.kind k.is _)
+  hears_next k (call channel called calling facilities user) =
+      by_row (λ s. table.row_call c x s (table.request_in called calling facilities user)) k.kind k.is (call_next k.kind k.is _)
   hears_next k (accept channel facilities) = by_row (λ s. table.row_accept c x s facilities) k.kind k.is (accept_next k.kind k.is facilities)
   hears_next k (clear channel cause diagnostic) = by_row (λ s. table.row_clear x s cause diagnostic) k.kind k.is (clear_next k.kind cause diagnostic)
   hears_next k (clear_conf channel) = by_row (λ s. table.row_clear_conf c x s) k.kind k.is (clear_conf_next k.kind)
@@ -176,7 +185,8 @@ OutcomeNext s said (Done next packet) = Next s next.state said
 OutcomeNext s said (CircuitRefused e) = Unit {0}
 
 module _ (c : CircuitSettings) (x : Circuit) (said : List Said) where
-  no_call : (called calling user : List ℕ) (proposal : Proposal) (k : Kind) → OutcomeNext (state_of k) said (call_in c x (state_of k) called calling user proposal)
+  no_call : (called calling user : List ℕ) (proposal : Proposal) (k : Kind)
+      → OutcomeNext (state_of k) said (call_in c x (state_of k) called calling user proposal)
   no_call called calling user proposal in_call = tt
   no_call called calling user proposal in_collision = tt
   no_call called calling user proposal in_reset = tt
@@ -222,10 +232,12 @@ module _ (c : CircuitSettings) (x : Circuit) (said : List Said) where
   no_ready ready in_reset = tt
   no_ready ready in_clear = tt
 
-  asked : (row : State → CircuitOutcome) → ((k : Kind) → OutcomeNext (state_of k) said (row (state_of k))) → IsKind x.state → OutcomeNext x.state said (row x.state)
+  asked : (row : State → CircuitOutcome) → ((k : Kind) → OutcomeNext (state_of k) said (row (state_of k))) → IsKind x.state
+      → OutcomeNext x.state said (row x.state)
   asked row next k = subst (λ (s : State). OutcomeNext s said (row s)) (sym k.is) (next k.kind)
 
-  calls_next : IsKind x.state → (called calling user : List ℕ) (proposal : Proposal) → OutcomeNext x.state said (outcome c x (Calls called calling user proposal))
+  calls_next : IsKind x.state → (called calling user : List ℕ) (proposal : Proposal)
+      → OutcomeNext x.state said (outcome c x (Calls called calling user proposal))
   calls_next k called calling user proposal = asked (λ s. call_in c x s called calling user proposal) (no_call called calling user proposal) k
 
 -- as it is shown beside a circuit
@@ -235,10 +247,12 @@ says y request = Asked (shown y request) ∷ []
 asks_next : (c : CircuitSettings) (x y : Circuit) → IsKind x.state → (request : Request) → OutcomeNext x.state (says y request) (outcome c x request)
 asks_next c x y k (Calls called calling user proposal) = calls_next c x (says y (Calls called calling user proposal)) k called calling user proposal
 asks_next c x y k (Accepts answer) = let said = says y (Accepts answer) in asked c x said (λ s. accept_in x s answer) (no_acceptance c x said answer) k
-asks_next c x y k (Clears cause diagnostic) = let said = says y (Clears cause diagnostic) in asked c x said (λ s. clear_in c x s cause diagnostic) (cleared c x said cause diagnostic refl) k
+asks_next c x y k (Clears cause diagnostic) = let said = says y (Clears cause diagnostic) in
+    asked c x said (λ s. clear_in c x s cause diagnostic) (cleared c x said cause diagnostic refl) k
 asks_next c x y k (Sends q user) = let said = says y (Sends q user) in asked c x said (λ s. send_in c x s q user) (no_message c x said q user) k
 asks_next c x y k (Interrupts user) = let said = says y (Interrupts user) in asked c x said (λ s. interrupt_in x s user) (no_interrupt c x said user) k
-asks_next c x y k (Resets cause diagnostic) = let said = says y (Resets cause diagnostic) in asked c x said (λ s. reset_in c x s cause diagnostic) (no_reset c x said cause diagnostic) k
+asks_next c x y k (Resets cause diagnostic) = let said = says y (Resets cause diagnostic) in
+    asked c x said (λ s. reset_in c x s cause diagnostic) (no_reset c x said cause diagnostic) k
 asks_next c x y k SaysReady = let said = says y SaysReady in asked c x said (λ s. ready_in x s true) (no_ready c x said true) k
 asks_next c x y k SaysNotReady = let said = says y SaysNotReady in asked c x said (λ s. ready_in x s false) (no_ready c x said false) k
 
@@ -248,13 +262,15 @@ record AreSaid (h : ℕ) (said : List Said) (entries : List StationEntry) : Type
   clears : list_any clears_in said ≡ true → list_any (is_left_on h) entries ≡ true
   answers : (awaits : Awaits) → list_any (is_answer_in awaits) said ≡ true → list_any (is_answered_on h awaits) entries ≡ true
 
-left_told : (l : Layer) (h : ℕ) (notices : List PlainNotice) → list_any (is_left_on h) (station_told l (notices_on h notices)) ≡ list_any clears_in (told notices)
+left_told : (l : Layer) (h : ℕ) (notices : List PlainNotice) → list_any (is_left_on h) (station_told l (notices_on h notices))
+    ≡ list_any clears_in (told notices)
 left_told l h [] = refl
 left_told l h (notice ∷ notices) =
     ap (λ (b : Bool). (b && clears_in (Told notice)) || list_any (is_left_on h) (station_told l (notices_on h notices))) (eq-eqb h h refl)
     ∙ ap (λ (b : Bool). clears_in (Told notice) || b) (left_told l h notices)
 
-answered_told : (l : Layer) (h : ℕ) (awaits : Awaits) (notices : List PlainNotice) → list_any (is_answered_on h awaits) (station_told l (notices_on h notices)) ≡ list_any (is_answer_in awaits) (told notices)
+answered_told : (l : Layer) (h : ℕ) (awaits : Awaits) (notices : List PlainNotice) → list_any (is_answered_on h awaits) (station_told l (notices_on h notices))
+    ≡ list_any (is_answer_in awaits) (told notices)
 answered_told l h awaits [] = refl
 answered_told l h awaits (notice ∷ notices) =
     ap (λ (b : Bool). (b && is_answer awaits notice) || list_any (is_answered_on h awaits) (station_told l (notices_on h notices))) (eq-eqb h h refl)
@@ -263,8 +279,12 @@ answered_told l h awaits (notice ∷ notices) =
 all_told : (l : Layer) (h : ℕ) (notices : List PlainNotice) → AreSaid h (told notices) (station_told l (notices_on h notices))
 all_told l h notices = record { clears = λ is. left_told l h notices ∙ is; answers = λ awaits is. answered_told l h awaits notices ∙ is }
 
-one_asked : (h : ℕ) (name : Name) (request : Request) → AreSaid h (Asked request ∷ []) (of_channel (record { channel = h; name = name; said = Asked request }) ∷ [])
-one_asked h name request = record { clears = λ is. ap (λ (b : Bool). (b && clears_in (Asked request)) || false) (eq-eqb h h refl) ∙ is; answers = λ awaits is. absurd (true≢false (sym is)) }
+one_asked : (h : ℕ) (name : Name) (request : Request)
+    → AreSaid h (Asked request ∷ []) (of_channel (record { channel = h; name = name; said = Asked request }) ∷ [])
+one_asked h name request = record {
+  clears = λ is. ap (λ (b : Bool). (b && clears_in (Asked request)) || false) (eq-eqb h h refl) ∙ is;
+  answers = λ awaits is. absurd (true≢false (sym is));
+}
 
 none_said : (h : ℕ) (entries : List StationEntry) → AreSaid h [] entries
 none_said h entries = record { clears = λ is. absurd (true≢false (sym is)); answers = λ awaits is. absurd (true≢false (sym is)) }
@@ -285,7 +305,8 @@ Moves h b r s r' s' entries = ((r' ≡ r) × (awaits_in b s' ≡ awaits_in b s))
 abbrev pub LayerMoves : LayerSettings → ℕ → Layer → Layer → List StationEntry → Type 0
 LayerMoves c h l m entries = Moves h (is_channel c.channels h) l.restarting (l.circuits h).state m.restarting (m.circuits h).state entries
 
-circuit_moves : (h : ℕ) (b : Bool) (s t : State) (said : List Said) (entries : List StationEntry) → 2 ≤ rank_of Up false (awaits_in b s) → AreSaid h said entries → (IsKind s → Next s t said) → Moves h b false s false t entries
+circuit_moves : (h : ℕ) (b : Bool) (s t : State) (said : List Said) (entries : List StationEntry) → 2 ≤ rank_of Up false (awaits_in b s)
+    → AreSaid h said entries → (IsKind s → Next s t said) → Moves h b false s false t entries
 circuit_moves h false s t said entries high are next = inl (refl, refl)
 circuit_moves h true s t said entries high are next = from (next (kind_of s 1 high))
   where
@@ -298,7 +319,8 @@ circuit_moves h true s t said entries high are next = from (next (kind_of s 1 hi
     from (inr x) = ended x.0 x.1
 
 -- a restart is done, or begins
-restarted_moves : (h : ℕ) (b r : Bool) (s : State) (entries : List StationEntry) → 2 ≤ rank_of Up r (awaits_in b s) → list_any (is_answered_on h (awaits_in b s)) entries ≡ true → Moves h b r s false Free entries
+restarted_moves : (h : ℕ) (b r : Bool) (s : State) (entries : List StationEntry) → 2 ≤ rank_of Up r (awaits_in b s)
+    → list_any (is_answered_on h (awaits_in b s)) entries ≡ true → Moves h b r s false Free entries
 restarted_moves h false r s entries high is = inr (omega (arith, high), inr is)
 restarted_moves h true r s entries high is = inr (omega (arith, high), inr is)
 
@@ -306,7 +328,8 @@ above : (a : Awaits) → 2 ≤ rank_in a → 2 < rank_in a
 above Nothing high = absurd (none_low 1 high)
 above a high = omega arith
 
-restarting_moves : (h : ℕ) (b : Bool) (s t : State) (entries : List StationEntry) → 2 ≤ rank_of Up false (awaits_in b s) → list_any (is_left_on h) entries ≡ true → Moves h b false s true t entries
+restarting_moves : (h : ℕ) (b : Bool) (s t : State) (entries : List StationEntry) → 2 ≤ rank_of Up false (awaits_in b s) → list_any (is_left_on h) entries
+    ≡ true → Moves h b false s true t entries
 restarting_moves h b s t entries high is = inr (above (awaits_in b s) high, inl (omega arith, is))
 
 module _ (c : LayerSettings) (h : ℕ) where
@@ -317,7 +340,8 @@ module _ (c : LayerSettings) (h : ℕ) where
   IsHigh r circuits = 2 ≤ rank_of Up r (awaits_in configured (circuits h).state)
 
   -- the circuit of a channel becomes another
-  put_moves : (circuits : ℕ → Circuit) (k : ℕ) (next : Circuit) (said : List Said) (entries : List StationEntry) → IsHigh false circuits → AreSaid k said entries → (IsKind (circuits k).state → Next (circuits k).state next.state said)
+  put_moves : (circuits : ℕ → Circuit) (k : ℕ) (next : Circuit) (said : List Said) (entries : List StationEntry) → IsHigh false circuits
+      → AreSaid k said entries → (IsKind (circuits k).state → Next (circuits k).state next.state said)
       → Moves h configured false (circuits h).state false (put_at circuits k next h).state entries
   put_moves circuits k next said entries high are moved = test (h == k) refl
     where
@@ -333,7 +357,8 @@ module _ (c : LayerSettings) (h : ℕ) where
   abbrev AnswerMoves : Bool → (ℕ → Circuit) → LayerAnswer → Type 0
   AnswerMoves r circuits a = Moves h configured r (circuits h).state a.next.restarting (a.next.circuits h).state (station_told a.next a.notices)
 
-  on_moves : (restarts : ℕ) (circuits : ℕ → Circuit) (k : ℕ) (a : Answer) (b : Bool) → IsHigh false circuits → (IsKind (circuits k).state → AnswerNext (circuits k).state a)
+  on_moves : (restarts : ℕ) (circuits : ℕ → Circuit) (k : ℕ) (a : Answer) (b : Bool) → IsHigh false circuits
+      → (IsKind (circuits k).state → AnswerNext (circuits k).state a)
       → (let x : LayerAnswer = if b then answers_on restarts circuits k a else drops false restarts circuits in AnswerMoves false circuits x)
   on_moves restarts circuits k a true high moved =
       let next : Layer = is_ready restarts (put_at circuits k a.next) in
@@ -341,27 +366,34 @@ module _ (c : LayerSettings) (h : ℕ) where
   on_moves restarts circuits k a false high moved = inl (refl, refl)
 
   channel_moves : (restarts : ℕ) (circuits : ℕ → Circuit) (packet : PlainPacket) → IsHigh false circuits
-      → (let k : ℕ = channel_of packet in let x : LayerAnswer = if is_channel c.channels k then answers_on restarts circuits k (answers c.circuit (circuits k) packet) else drops false restarts circuits in
+      → (let k : ℕ = channel_of packet in let x : LayerAnswer = if is_channel c.channels k
+      then answers_on restarts circuits k (answers c.circuit (circuits k) packet) else drops false restarts circuits in
       AnswerMoves false circuits x)
   channel_moves restarts circuits packet high =
       let k : ℕ = channel_of packet in
       on_moves restarts circuits k (answers c.circuit (circuits k) packet) (is_channel c.channels k) high (λ is. hears_next c.circuit (circuits k) is packet)
 
-  ready_moves : (restarts : ℕ) (circuits : ℕ → Circuit) (packet : PlainPacket) → IsHigh false circuits → AnswerMoves false circuits (answers_ready c restarts circuits packet)
-  ready_moves restarts circuits (restart cause diagnostic) high = restarted_moves h configured false (circuits h).state (was_restarted cause diagnostic ∷ []) high refl
+  ready_moves : (restarts : ℕ) (circuits : ℕ → Circuit) (packet : PlainPacket) → IsHigh false circuits
+      → AnswerMoves false circuits (answers_ready c restarts circuits packet)
+  ready_moves restarts circuits (restart cause diagnostic) high =
+      restarted_moves h configured false (circuits h).state (was_restarted cause diagnostic ∷ []) high refl
   ready_moves restarts circuits restart_conf high = restarting_moves h configured (circuits h).state Free (at_fault 17 ∷ []) high refl
   ready_moves restarts circuits packet high = channel_moves restarts circuits packet high
 
-  held_moves : (restarts : ℕ) (circuits : ℕ → Circuit) (packet : PlainPacket) → IsHigh true circuits → AnswerMoves true circuits (answers_restarting restarts circuits packet)
-  held_moves restarts circuits (restart cause diagnostic) high = restarted_moves h configured true (circuits h).state (was_restarted cause diagnostic ∷ []) high refl
+  held_moves : (restarts : ℕ) (circuits : ℕ → Circuit) (packet : PlainPacket) → IsHigh true circuits
+      → AnswerMoves true circuits (answers_restarting restarts circuits packet)
+  held_moves restarts circuits (restart cause diagnostic) high =
+      restarted_moves h configured true (circuits h).state (was_restarted cause diagnostic ∷ []) high refl
   held_moves restarts circuits restart_conf high = restarted_moves h configured true (circuits h).state (restart_confirmed ∷ []) high refl
   held_moves restarts circuits packet high = inl (refl, refl)
 
-  packet_moves : (r : Bool) (restarts : ℕ) (circuits : ℕ → Circuit) (packet : PlainPacket) → IsHigh r circuits → AnswerMoves r circuits (answers_in c r restarts circuits packet)
+  packet_moves : (r : Bool) (restarts : ℕ) (circuits : ℕ → Circuit) (packet : PlainPacket) → IsHigh r circuits
+      → AnswerMoves r circuits (answers_in c r restarts circuits packet)
   packet_moves true restarts circuits packet high = held_moves restarts circuits packet high
   packet_moves false restarts circuits packet high = ready_moves restarts circuits packet high
 
-  undecoded_moves : (r : Bool) (restarts : ℕ) (circuits : ℕ → Circuit) (k : ℕ) (e : PacketError) → IsHigh r circuits → AnswerMoves r circuits (undecoded_in c r restarts circuits k e)
+  undecoded_moves : (r : Bool) (restarts : ℕ) (circuits : ℕ → Circuit) (k : ℕ) (e : PacketError) → IsHigh r circuits
+      → AnswerMoves r circuits (undecoded_in c r restarts circuits k e)
   undecoded_moves true restarts circuits k e high = inl (refl, refl)
   undecoded_moves false restarts circuits k e high =
       on_moves restarts circuits k (undecoded c.circuit (circuits k) e) (is_channel c.channels k) high (λ is. cannot_read c.circuit (circuits k) is e)
@@ -378,7 +410,8 @@ module _ (c : LayerSettings) (h : ℕ) where
   -- ---- what the user asks
 
   abbrev pub OutcomeMoves : Bool → Layer → LayerRequest → LayerOutcome → Type 0
-  OutcomeMoves r l request (Accepted next packet) = Moves h configured r (l.circuits h).state next.restarting (next.circuits h).state (station_asked c l next request)
+  OutcomeMoves r l request (Accepted next packet) = Moves h configured r (l.circuits h).state next.restarting (next.circuits h).state
+      (station_asked c l next request)
   OutcomeMoves r l request (Declined e) = Unit {0}
 
   module _ (l : Layer) (request : LayerRequest) where
@@ -390,24 +423,29 @@ module _ (c : LayerSettings) (h : ℕ) where
     at_once_moves true full o moved = room_moves full o moved
     at_once_moves false full o moved = moved
 
-    if_moves : (b : Bool) (u v : LayerOutcome) → OutcomeMoves false l request u → OutcomeMoves false l request v → OutcomeMoves false l request (if b then u else v)
+    if_moves : (b : Bool) (u v : LayerOutcome) → OutcomeMoves false l request u → OutcomeMoves false l request v
+        → OutcomeMoves false l request (if b then u else v)
     if_moves true u v p q = p
     if_moves false u v p q = q
 
     -- the circuit of a channel does what is asked, and this is said there
-    on_asked : (k : ℕ) (said : Layer → List Said) (o : CircuitOutcome) → IsHigh false l.circuits → ((next : Layer) → AreSaid k (said next) (station_asked c l next request))
-        → (IsKind (l.circuits k).state → (next : Layer) → OutcomeNext (l.circuits k).state (said next) o) → OutcomeMoves false l request (outcome_on l.restarts l.circuits k o)
+    on_asked : (k : ℕ) (said : Layer → List Said) (o : CircuitOutcome) → IsHigh false l.circuits
+        → ((next : Layer) → AreSaid k (said next) (station_asked c l next request))
+        → (IsKind (l.circuits k).state → (next : Layer) → OutcomeNext (l.circuits k).state (said next) o)
+        → OutcomeMoves false l request (outcome_on l.restarts l.circuits k o)
     on_asked k said (Done next packet) high are moved =
         let m : Layer = is_ready l.restarts (put_at l.circuits k next) in
         put_moves l.circuits k next (said m) (station_asked c l m request) high (are m) (λ is. moved is m)
     on_asked k said (CircuitRefused e) high are moved = tt
 
-  ready_asked : (full : Bool) (l : Layer) (request : LayerRequest) → IsHigh false l.circuits → OutcomeMoves false l request (outcome_ready c full l.restarts l.circuits request)
+  ready_asked : (full : Bool) (l : Layer) (request : LayerRequest) → IsHigh false l.circuits
+      → OutcomeMoves false l request (outcome_ready c full l.restarts l.circuits request)
   ready_asked full l (Asks k request) high =
       let asks : LayerRequest = Asks k request in
       if_moves l asks (is_channel c.channels k) _ (Declined error.NoSuchChannel)
       (at_once_moves l asks (puts_at_once request) full _
-      (on_asked l asks k (λ next. says (next.circuits k) request) (outcome c.circuit (l.circuits k) request) high (λ next. one_asked k (name_of next k) (shown (next.circuits k) request))
+      (on_asked l asks k (λ next. says (next.circuits k) request) (outcome c.circuit (l.circuits k) request) high
+      (λ next. one_asked k (name_of next k) (shown (next.circuits k) request))
       (λ is next. asks_next c.circuit (l.circuits k) (next.circuits k) is request))) tt
   ready_asked full l (Dials called calling user proposal) high = on (free_channel c.circuit.role l.circuits c.channels)
     where
@@ -419,19 +457,23 @@ module _ (c : LayerSettings) (h : ℕ) where
       on (Some k) =
           let o : CircuitOutcome = outcome c.circuit (l.circuits k) (Calls called calling user proposal) in
           room_moves l dials full (outcome_on l.restarts l.circuits k o)
-          (on_asked l dials k (λ next. []) o high (λ next. none_said k (station_asked c l next dials)) (λ is next. calls_next c.circuit (l.circuits k) [] is called calling user proposal))
+          (on_asked l dials k (λ next. []) o high (λ next. none_said k (station_asked c l next dials))
+          (λ is next. calls_next c.circuit (l.circuits k) [] is called calling user proposal))
   ready_asked full l (Restarts cause diagnostic) high =
       let restarts : LayerRequest = Restarts cause diagnostic in
       room_moves l restarts full (restarted_for c.circuit.role l.restarts l.circuits cause diagnostic)
-      (if_moves l restarts (may_restart_for c.circuit.role cause) (Accepted (restarting_from l.restarts l.circuits) (Some (restart cause diagnostic))) (Declined (error.Circuit circuit_error.BadParameter))
+      (if_moves l restarts (may_restart_for c.circuit.role cause) (Accepted (restarting_from l.restarts l.circuits) (Some (restart cause diagnostic)))
+      (Declined (error.Circuit circuit_error.BadParameter))
       (restarting_moves h configured (l.circuits h).state Free (restart_asked cause diagnostic ∷ []) high refl) tt)
   ready_asked full l PullsAll high = inl (refl, refl)
 
-  in_asked : (full r : Bool) (l : Layer) (request : LayerRequest) → IsHigh r l.circuits → OutcomeMoves r l request (outcome_in c full r l.restarts l.circuits request)
+  in_asked : (full r : Bool) (l : Layer) (request : LayerRequest) → IsHigh r l.circuits
+      → OutcomeMoves r l request (outcome_in c full r l.restarts l.circuits request)
   in_asked full true l request high = tt
   in_asked full false l request high = ready_asked full l request high
 
-  pub asked_moves : (full : Bool) (l : Layer) (request : LayerRequest) → IsHigh l.restarting l.circuits → OutcomeMoves l.restarting l request (layer_outcome c full l request)
+  pub asked_moves : (full : Bool) (l : Layer) (request : LayerRequest) → IsHigh l.restarting l.circuits
+      → OutcomeMoves l.restarting l request (layer_outcome c full l request)
   asked_moves full l request high = in_asked full l.restarting l request high
 
 -- ---- pulls change no state
@@ -457,7 +499,8 @@ pulled_state c x = at x.state
 pulled_same : (c : LayerSettings) (l : Layer) (h : ℕ) → SameStates l (layer_pulled c l h).next
 pulled_same c l h = (refl, λ k. test k (k == h) refl)
   where
-    test : (k : ℕ) (b : Bool) → (k == h) ≡ b → (let x : Circuit = if b then (pulled c.circuit (l.circuits h)).next else l.circuits k in x.state) ≡ (l.circuits k).state
+    test : (k : ℕ) (b : Bool) → (k == h) ≡ b → (let x : Circuit = if b then (pulled c.circuit (l.circuits h)).next else l.circuits k in x.state)
+        ≡ (l.circuits k).state
     test k true is = pulled_state c.circuit (l.circuits h) ∙ ap (λ (n : ℕ). (l.circuits n).state) (sym (eqb-true k h is))
     test k false is = refl
 
@@ -471,23 +514,27 @@ one_same link c h s = test (nat_lt (link.waits s.put) 8)
     given None = (refl, λ k. refl)
     given (Some packet) = pulled_same c s.layer h
 
-    test : (b : Bool) → (let n : Putting = if b then with_pulled s (layer_pulled c s.layer h) (layer_pulled c s.layer h).packet else s in SameStates s.layer n.layer)
+    test : (b : Bool) → (let n : Putting = if b then with_pulled s (layer_pulled c s.layer h) (layer_pulled c s.layer h).packet else s in
+        SameStates s.layer n.layer)
     test true = given (layer_pulled c s.layer h).packet
     test false = (refl, λ k. refl)
 
 round_same : (link : LinkView) (c : LayerSettings) (n : ℕ) (s : Putting) → SameStates s.layer (round link c n s).layer
 round_same link c zero s = (refl, λ k. refl)
-round_same link c (suc n) s = same_trans s.layer (round link c n s).layer (pull_one link c (suc n) (round link c n s)).layer (round_same link c n s) (one_same link c (suc n) (round link c n s))
+round_same link c (suc n) s = same_trans s.layer (round link c n s).layer (pull_one link c (suc n) (round link c n s)).layer (round_same link c n s)
+    (one_same link c (suc n) (round link c n s))
 
 rounds_of_same : (n : ℕ) (link : LinkView) (c : LayerSettings) (s : Putting) → SameStates s.layer (rounds_of n link c s).layer
 rounds_of_same zero link c s = (refl, λ k. refl)
 rounds_of_same (suc n) link c s =
-    same_trans s.layer (round link c c.channels.count s).layer (rounds_of n link c (round link c c.channels.count s)).layer (round_same link c c.channels.count s) (rounds_of_same n link c (round link c c.channels.count s))
+    same_trans s.layer (round link c c.channels.count s).layer (rounds_of n link c (round link c c.channels.count s)).layer
+    (round_same link c c.channels.count s) (rounds_of_same n link c (round link c c.channels.count s))
 
 pub rounds_same : (link : LinkView) (c : LayerSettings) (s : Putting) → SameStates s.layer (rounds link c s).layer
 rounds_same link c s = rounds_of_same (backlog s.layer.circuits c.channels.count) link c s
 
-pub moves_on : (c : LayerSettings) (h : ℕ) (l m n : Layer) (entries : List StationEntry) → LayerMoves c h l m entries → SameStates m n → LayerMoves c h l n entries
+pub moves_on : (c : LayerSettings) (h : ℕ) (l m n : Layer) (entries : List StationEntry) → LayerMoves c h l m entries → SameStates m n
+    → LayerMoves c h l n entries
 moves_on c h l m n entries moved same =
     subst (λ (r : Bool). Moves h (is_channel c.channels h) l.restarting (l.circuits h).state r (n.circuits h).state entries) (sym same.0)
     (subst (λ (s : State). Moves h (is_channel c.channels h) l.restarting (l.circuits h).state m.restarting s entries) (sym (same.1 h)) moved)

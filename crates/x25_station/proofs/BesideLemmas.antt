@@ -5,13 +5,13 @@ use Rattle.x25_packet.specs.Packet.{PlainPacket}
 use Rattle.x25_packet.specs.Reading.{packet_of}
 use Rattle.x25_packet.specs.Grammar.{form_in}
 use Rattle.x25_packet.specs.Block.{PlainBlock, PlainFields}
-use Rattle.x25_packet.specs.Form.{PlainKind, PlainForm, call, accept, clear, extended_clear, clear_conf, user_data, rr, rnr, rej, interrupt, interrupt_conf, reset, reset_conf, restart, restart_conf, diagnostic, registration, registration_conf}
+use Rattle.x25_packet.specs.Form.{PlainKind, PlainForm, call, accept, extended_clear, clear_conf, diagnostic}
 use Rattle.x25_packet.specs.Form.Spelling.{type_of}
 use Rattle.x25_packet.specs.declared.error.PacketError.{PacketError}
 use Rattle.x25_packet.specs.declared.form.Forms.TheVariants.{Any}
 use Rattle.x25_packet.specs.laws.ReadingLaw.{ReadsFormsThatAreSpelled}
-use Rattle.x25_station.specs.Beside.{PlainBeside, nothing, fields, of_fields, of_block, without_user, beside_kind, beside_or_none, unless_written, beside_in, may_diagnose}
-use Rattle.x25_station.specs.Entry.{StationEntry, entries_beside}
+use Rattle.x25_station.specs.Beside.{nothing, fields, of_fields, of_block, without_user, beside_kind, beside_or_none, unless_written, beside_in, may_diagnose}
+use Rattle.x25_station.specs.Entry.{entries_beside}
 
 fields_untold : (f : Option PlainFields) → entries_beside (of_fields f) None ≡ []
 fields_untold None = refl
@@ -36,15 +36,18 @@ kind_untold (clear_conf block) other = block_untold block
 kind_untold (diagnostic number explanation) other = absurd (differ other)
 kind_untold k other = refl
 
-untold : ReadsFormsThatAreSpelled → (octets : List ℕ) → All (λ octet. octet < 256) octets → may_diagnose octets ≡ false → entries_beside (beside_in true octets) None ≡ []
+untold : ReadsFormsThatAreSpelled → (octets : List ℕ) → All (λ octet. octet < 256) octets → may_diagnose octets ≡ false
+    → entries_beside (beside_in true octets) None ≡ []
 untold reads octets small other = by (packet_of 128 octets) (form_in 128 octets) refl
   where
-    by : (p : Result PlainPacket PacketError) (r : Result PlainForm PacketError) → form_in 128 octets ≡ r → entries_beside (unless_written p (beside_or_none r)) None ≡ []
+    by : (p : Result PlainPacket PacketError) (r : Result PlainForm PacketError) → form_in 128 octets ≡ r
+        → entries_beside (unless_written p (beside_or_none r)) None ≡ []
     by (Ok v) r is = refl
     by (Err e) (Err x) is = refl
     by (Err e) (Ok w) is = kind_untold w.kind (subst (λ (o : List ℕ). may_diagnose o ≡ false) ((reads Any 128 w octets small).0 is).spelling other)
 
-pub untold_on : ReadsFormsThatAreSpelled → (octets : List ℕ) (channel : Option ℕ) → All (λ octet. octet < 256) octets → is_some channel ≡ false → may_diagnose octets ≡ false
+pub untold_on : ReadsFormsThatAreSpelled → (octets : List ℕ) (channel : Option ℕ) → All (λ octet. octet < 256) octets → is_some channel ≡ false
+    → may_diagnose octets ≡ false
     → [] ≡ entries_beside (beside_in true octets) channel
 untold_on reads octets None small none other = sym (untold reads octets small other)
 untold_on reads octets (Some h) small none other = absurd (differ none)

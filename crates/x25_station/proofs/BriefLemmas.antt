@@ -1,5 +1,6 @@
 -- Of what a circuit accepts, the memory of a step has room for a copy.
-use Rattle.std.proofs.Common.{◌≡◌, ℕ, ◌≤◌, nat_le, nat_lt, List, [], length, Bool, true, false, ◌&&◌, ◌==◌, Option, Some, None, if◌then◌else◌, refl, subst, arith}
+use Rattle.std.proofs.Common.{◌≡◌, ℕ, ◌≤◌, nat_le, nat_lt, List, [], length, Bool, true, false, ◌&&◌, ◌==◌, Option, Some, None, if◌then◌else◌, refl, subst}
+use Rattle.std.proofs.Common.{arith}
 use Rattle.std.specs.List.{list_all}
 use Rattle.std.proofs.lemmas.Bool.{and_parts, leb-true}
 use Rattle.x25_packet.specs.Digits.{is_figure}
@@ -8,14 +9,16 @@ use Rattle.x25_packet.specs.declared.marks.Marks.{Marks}
 use Rattle.x25_circuit.specs.declared.error.CircuitError.{CircuitError}
 use Rattle.x25_circuit.specs.declared.error.CircuitError.TheVariants.{BadParameter, Full, TooLong, InterruptOutstanding}
 use Rattle.x25_circuit.specs.declared.state.State.{State}
-use Rattle.x25_circuit.specs.declared.state.State.TheVariants.{Free, Calling, Arriving, Collision, Open, Resetting, Clearing}
+use Rattle.x25_circuit.specs.declared.state.State.TheVariants.{Free, Open}
 use Rattle.x25_circuit.specs.Params.{Proposal}
 use Rattle.x25_circuit.specs.Circuit.{CircuitSettings, Circuit, waits}
 use Rattle.x25_circuit.specs.Calling as circuit
-use Rattle.x25_circuit.specs.Calling.{Request, Calls, Accepts, Clears, Sends, Interrupts, Resets, SaysReady, SaysNotReady, Outcome, Done, Refused, outcome, call_in, may_call, is_address_text, send_in, interrupt_in}
+use Rattle.x25_circuit.specs.Calling.{Request, Calls, Sends, Interrupts, Outcome, Done, Refused, outcome, call_in, may_call, is_address_text, send_in}
+use Rattle.x25_circuit.specs.Calling.{interrupt_in}
 use Rattle.x25_layer.specs.declared.error.LayerError.TheVariants.{NoSuchChannel}
 use Rattle.x25_layer.specs.Layer.{LayerSettings, Layer, is_channel}
-use Rattle.x25_layer.specs.Calls.{Asks, Dials, LayerOutcome, Accepted, Declined, outcome_in, outcome_on, where_room, if_at_once, puts_at_once, dialled, free_channel}
+use Rattle.x25_layer.specs.Calls.{Asks, Dials, LayerOutcome, Accepted, Declined, outcome_in, outcome_on, where_room, if_at_once, puts_at_once, dialled}
+use Rattle.x25_layer.specs.Calls.{free_channel}
 use Rattle.x25_layer.specs.laws.Rounds.{LinkView, Putting, Went, calls}
 use Rattle.x25_station.specs.code.Memory.{IsBrief}
 use Rattle.x25_station.proofs.AskedEntryLemmas.{accepted}
@@ -45,7 +48,8 @@ longest_few : (long : Bool) → longest_user long ≤ 128
 longest_few true = omega arith
 longest_few false = omega arith
 
-call_brief : (long : Bool) (called calling user : List ℕ) (proposal : Proposal) → may_call long called calling user proposal.params ≡ true → IsBrief (Calls called calling user proposal)
+call_brief : (long : Bool) (called calling user : List ℕ) (proposal : Proposal) → may_call long called calling user proposal.params ≡ true
+    → IsBrief (Calls called calling user proposal)
 call_brief long called calling user proposal may =
     let first = and_parts (is_address_text called) _ may in
     let second = and_parts (is_address_text calling) _ first.1 in
@@ -54,11 +58,14 @@ call_brief long called calling user proposal may =
     let most = longest_few long in
     (address_brief called first.0, (address_brief calling second.0, omega (arith, few, most)))
 
-call_done : (c : CircuitSettings) (x : Circuit) (s : State) (called calling user : List ℕ) (proposal : Proposal) → WhereDone (call_in c x s called calling user proposal) (IsBrief (Calls called calling user proposal))
-call_done c x Free called calling user proposal = where_tested _ (may_call c.long_data called calling user proposal.params) _ BadParameter (λ may. call_brief c.long_data called calling user proposal may)
+call_done : (c : CircuitSettings) (x : Circuit) (s : State) (called calling user : List ℕ) (proposal : Proposal)
+    → WhereDone (call_in c x s called calling user proposal) (IsBrief (Calls called calling user proposal))
+call_done c x Free called calling user proposal = where_tested _ (may_call c.long_data called calling user proposal.params) _ BadParameter
+    (λ may. call_brief c.long_data called calling user proposal may)
 call_done c x s called calling user proposal = tt
 
-send_done : (c : CircuitSettings) → c.longest ≤ 65535 → (x : Circuit) (s : State) (q : Marks) (user : List ℕ) → WhereDone (send_in c x s q user) (length user ≤ 65535)
+send_done : (c : CircuitSettings) → c.longest ≤ 65535 → (x : Circuit) (s : State) (q : Marks) (user : List ℕ)
+    → WhereDone (send_in c x s q user) (length user ≤ 65535)
 send_done c most x Open q user =
     where_tested _ (nat_le (length user) c.longest) _ TooLong
     (λ short. where_tested _ (nat_lt (waits x) 8) _ Full (λ few. (let low = leb-true (length user) c.longest short in omega (arith, low, most))))
@@ -68,7 +75,8 @@ interrupt_brief : (user : List ℕ) → (nat_le 1 (length user) && nat_le (lengt
 interrupt_brief user is = let n = leb-true (length user) 32 (and_parts (nat_le 1 (length user)) (nat_le (length user) 32) is).1 in omega (arith, n)
 
 interrupt_done : (x : Circuit) (s : State) (user : List ℕ) → WhereDone (interrupt_in x s user) (length user ≤ 128)
-interrupt_done x Open user = where_tested _ (nat_le 1 (length user) && nat_le (length user) 32) _ BadParameter (λ few. unless_out x.talk.int_out _ InterruptOutstanding _ (interrupt_brief user few))
+interrupt_done x Open user = where_tested _ (nat_le 1 (length user) && nat_le (length user) 32) _ BadParameter
+    (λ few. unless_out x.talk.int_out _ InterruptOutstanding _ (interrupt_brief user few))
 interrupt_done x s user = tt
 
 done_brief : (c : CircuitSettings) → c.longest ≤ 65535 → (x : Circuit) (request : Request) → WhereDone (outcome c x request) (IsBrief request)
@@ -95,7 +103,8 @@ at_once : (P : Type 0) (b full : Bool) (o : LayerOutcome) → WhereAccepted o P 
 at_once P true full o p = in_room P full o p
 at_once P false full o p = p
 
-asks_brief : (c : LayerSettings) → c.circuit.longest ≤ 65535 → (full busy : Bool) (l : Layer) (h : ℕ) (request : Request) → WhereAccepted (outcome_in c full busy l.restarts l.circuits (Asks h request)) (IsBrief request)
+asks_brief : (c : LayerSettings) → c.circuit.longest ≤ 65535 → (full busy : Bool) (l : Layer) (h : ℕ) (request : Request)
+    → WhereAccepted (outcome_in c full busy l.restarts l.circuits (Asks h request)) (IsBrief request)
 asks_brief c most full true l h request = tt
 asks_brief c most full false l h request = test (is_channel c.channels h)
   where
@@ -103,10 +112,12 @@ asks_brief c most full false l h request = test (is_channel c.channels h)
     good = if_at_once (puts_at_once request) full (outcome_on l.restarts l.circuits h (outcome c.circuit (l.circuits h) request))
 
     test : (b : Bool) → WhereAccepted (if b then good else Declined NoSuchChannel) (IsBrief request)
-    test true = at_once (IsBrief request) (puts_at_once request) full _ (on_circuit (IsBrief request) l.restarts l.circuits h _ (done_brief c.circuit most (l.circuits h) request))
+    test true = at_once (IsBrief request) (puts_at_once request) full
+        _ (on_circuit (IsBrief request) l.restarts l.circuits h _ (done_brief c.circuit most (l.circuits h) request))
     test false = tt
 
-dials_brief : (c : LayerSettings) → c.circuit.longest ≤ 65535 → (full busy : Bool) (l : Layer) (called calling user : List ℕ) (proposal : Proposal) → WhereAccepted (outcome_in c full busy l.restarts l.circuits (Dials called calling user proposal)) (IsBrief (Calls called calling user proposal))
+dials_brief : (c : LayerSettings) → c.circuit.longest ≤ 65535 → (full busy : Bool) (l : Layer) (called calling user : List ℕ) (proposal : Proposal)
+    → WhereAccepted (outcome_in c full busy l.restarts l.circuits (Dials called calling user proposal)) (IsBrief (Calls called calling user proposal))
 dials_brief c most full true l called calling user proposal = tt
 dials_brief c most full false l called calling user proposal = at (free_channel c.circuit.role l.circuits c.channels)
   where
@@ -117,10 +128,16 @@ dials_brief c most full false l called calling user proposal = at (free_channel 
     at None = tt
     at (Some h) = in_room (IsBrief request) full _ (on_circuit (IsBrief request) l.restarts l.circuits h _ (done_brief c.circuit most (l.circuits h) request))
 
-pub asked_brief : (view : LinkView) (c : LayerSettings) → c.circuit.longest ≤ 65535 → (l : Layer) (h : ℕ) (request : Request) (p : Putting) → calls view c l (Asks h request) ≡ Went p → IsBrief request
+pub asked_brief : (view : LinkView) (c : LayerSettings) → c.circuit.longest ≤ 65535 → (l : Layer) (h : ℕ) (request : Request) (p : Putting)
+    → calls view c l (Asks h request) ≡ Went p → IsBrief request
 asked_brief view c most l h request p is =
-    subst (λ (o : LayerOutcome). WhereAccepted o (IsBrief request)) (accepted view c l (Asks h request) p is).outcome (asks_brief c most (view.waits [] == 256) l.restarting l h request)
+    subst (λ (o : LayerOutcome). WhereAccepted o (IsBrief request)) (accepted view c l (Asks h request) p is).outcome
+    (asks_brief c most (view.waits [] == 256) l.restarting l h request)
 
-pub dialled_brief : (view : LinkView) (c : LayerSettings) → c.circuit.longest ≤ 65535 → (l : Layer) (called calling user : List ℕ) (proposal : Proposal) (p : Putting) → calls view c l (Dials called calling user proposal) ≡ Went p → IsBrief (Calls called calling user proposal)
+pub dialled_brief : (view : LinkView) (c : LayerSettings) → c.circuit.longest ≤ 65535
+    → (l : Layer) (called calling user : List ℕ) (proposal : Proposal) (p : Putting) → calls view c l (Dials called calling user proposal) ≡ Went p
+    → IsBrief (Calls called calling user proposal)
 dialled_brief view c most l called calling user proposal p is =
-    subst (λ (o : LayerOutcome). WhereAccepted o (IsBrief (Calls called calling user proposal))) (accepted view c l (Dials called calling user proposal) p is).outcome (dials_brief c most (view.waits [] == 256) l.restarting l called calling user proposal)
+    subst (λ (o : LayerOutcome). WhereAccepted o (IsBrief (Calls called calling user proposal)))
+    (accepted view c l (Dials called calling user proposal) p is).outcome
+    (dials_brief c most (view.waits [] == 256) l.restarting l called calling user proposal)

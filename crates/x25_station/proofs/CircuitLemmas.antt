@@ -1,5 +1,6 @@
 -- What a circuit gives fits, and what waits in it is cut into packets that fit.
-use Rattle.std.proofs.Common.{◌≡◌, ℕ, zero, suc, ◌+◌, ◌-◌, ◌%◌, ◌<◌, ◌≤◌, List, [], ◌∷◌, ◌++◌, length, take, drop, Option, Some, None, Bool, true, false, nat_lt, nat_le, ◌==◌, if◌then◌else◌, refl, sym, subst, arith, length-drop}
+use Rattle.std.proofs.Common.{◌≡◌, ℕ, zero, suc, ◌+◌, ◌-◌, ◌%◌, ◌<◌, ◌≤◌, List, [], ◌∷◌, ◌++◌, length, take, drop, Option, Some, None, Bool, true, false}
+use Rattle.std.proofs.Common.{nat_lt, nat_le, ◌==◌, if◌then◌else◌, refl, sym, subst, arith, length-drop}
 use Rattle.std.specs.List.{list_all}
 use Rattle.std.specs.Prelude.{◌&&◌}
 use Rattle.std.proofs.lemmas.Bool.{and_parts, leb-true, and_from, le-leb, leb-false}
@@ -8,7 +9,8 @@ use Rattle.std.proofs.lemmas.List.Elements.{All-take, All-drop}
 use Rattle.x25_bits.specs.declared.role.Role.{Role}
 use Rattle.x25_bits.specs.declared.role.Role.TheVariants.{Dte, Dce}
 use Rattle.x25_packet.specs.Digits.{is_digit, is_figure, digits_of_text, IsAddress}
-use Rattle.x25_packet.specs.Packet.{PlainPacket, call, accept, clear, clear_conf, user_data, rr, rnr, interrupt, interrupt_conf, reset, reset_conf, restart, restart_conf}
+use Rattle.x25_packet.specs.Packet.{PlainPacket, call, accept, clear, clear_conf, user_data, rr, rnr, interrupt, interrupt_conf, reset, reset_conf, restart}
+use Rattle.x25_packet.specs.Packet.{restart_conf}
 use Rattle.x25_packet.specs.Spelling.{HasChannel, longest_user}
 use Rattle.x25_packet.specs.declared.marks.Marks.{Marks}
 use Rattle.x25_packet.specs.Marks.{with_q}
@@ -25,7 +27,9 @@ use Rattle.x25_circuit.specs.Circuit.{CircuitSettings, Talk, Circuit, talking, o
 use Rattle.x25_circuit.specs.Notice.{CallRequest, connected}
 use Rattle.x25_circuit.specs.Hearing as table
 use Rattle.x25_circuit.specs.Cause.{may_clear_for, may_reset_for}
-use Rattle.x25_circuit.specs.Calling.{Outcome, Done, Refused, Request, Calls, Accepts, Clears, Sends, Interrupts, Resets, SaysReady, SaysNotReady, does, is_address_text, call_sent, may_call, call_in, accept_with, accept_in, clear_with, clear_in, send_in, interrupt_in, reset_in, ready_in, outcome, Pulled, pulls_nothing, data_packet, pull_open, pull_in, pulled}
+use Rattle.x25_circuit.specs.Calling.{Outcome, Done, Refused, Request, Calls, Accepts, Clears, Sends, Interrupts, Resets, SaysReady, SaysNotReady, does}
+use Rattle.x25_circuit.specs.Calling.{is_address_text, call_sent, may_call, call_in, accept_with, accept_in, clear_with, clear_in, send_in, interrupt_in}
+use Rattle.x25_circuit.specs.Calling.{reset_in, ready_in, outcome, Pulled, pulls_nothing, data_packet, pull_open, pull_in, pulled}
 use Rattle.x25_layer.specs.Calls.{Asks}
 use Rattle.x25_station.specs.Command.{may_ask, may_mark}
 use Rattle.x25_station.specs.laws.ReadLaw.{AreOctets, AsksOctets}
@@ -63,11 +67,14 @@ module _ (wide long_data : Bool) where
   cut_append [] b f g = g
   cut_append (p ∷ a) b f g = (f.0, cut_append a b f.1 g)
 
-  cut_from_fits : (size n : ℕ) (q : Marks) (user : List ℕ) → 1 ≤ size → size ≤ 4096 → length user ≤ n → AreOctets user → may_mark wide q ≡ true → AreCut wide (cut_from n size q user)
+  cut_from_fits : (size n : ℕ) (q : Marks) (user : List ℕ) → 1 ≤ size → size ≤ 4096 → length user ≤ n → AreOctets user → may_mark wide q ≡ true
+      → AreCut wide (cut_from n size q user)
   cut_from_fits size zero q user least most short octets may = ((omega (arith, short), octets, may), tt)
-  cut_from_fits size (suc n) q user least most short octets may = test (λ low. cut_from_fits size n q (drop size user) least most low (All-drop (λ (o : ℕ). o < 256) size user octets) may) (nat_le (length user) size) refl
+  cut_from_fits size (suc n) q user least most short octets may =
+      test (λ low. cut_from_fits size n q (drop size user) least most low (All-drop (λ (o : ℕ). o < 256) size user octets) may) (nat_le (length user) size) refl
     where
-      test : (length (drop size user) ≤ n → AreCut wide (cut_from n size q (drop size user))) → (b : Bool) → nat_le (length user) size ≡ b → AreCut wide (if b then Last q user ∷ [] else More (with_q q.q) (take size user) ∷ cut_from n size q (drop size user))
+      test : (length (drop size user) ≤ n → AreCut wide (cut_from n size q (drop size user))) → (b : Bool) → nat_le (length user) size ≡ b
+          → AreCut wide (if b then Last q user ∷ [] else More (with_q q.q) (take size user) ∷ cut_from n size q (drop size user))
       test rest true is =
           let high : length user ≤ size = leb-true _ _ is in
           ((omega (arith, high, most), octets, may), tt)
@@ -96,7 +103,8 @@ module _ (wide long_data : Bool) where
   diagnostic_low r Arriving = by_role_low r 22 21 (omega arith) (omega arith)
   diagnostic_low r s = omega arith
 
-  clears_for_fits : (c : CircuitSettings) (x : Circuit) (cause diagnostic : ℕ) → cause < 256 → diagnostic < 256 → AnswerFits (table.clears_for c x cause diagnostic)
+  clears_for_fits : (c : CircuitSettings) (x : Circuit) (cause diagnostic : ℕ) → cause < 256 → diagnostic < 256
+      → AnswerFits (table.clears_for c x cause diagnostic)
   clears_for_fits c x cause diagnostic p q = record { next = (tt, refl); owed = (tt, (cause_low c.role cause p, q)) }
 
   resets_for_fits : (c : CircuitSettings) (x : Circuit) (diagnostic : ℕ) → diagnostic < 256 → CircuitFits wide x → AnswerFits (table.resets_for c x diagnostic)
@@ -108,11 +116,13 @@ module _ (wide long_data : Bool) where
   ignores_fits : (x : Circuit) → CircuitFits wide x → AnswerFits (table.ignores x)
   ignores_fits x f = record { next = f; owed = tt }
 
-  collides_fits : (r : Role) (x : Circuit) (request : CallRequest) → CircuitFits wide x → may_propose request.params ≡ true → AnswerFits (table.collides r x request)
+  collides_fits : (r : Role) (x : Circuit) (request : CallRequest) → CircuitFits wide x → may_propose request.params ≡ true
+      → AnswerFits (table.collides r x request)
   collides_fits Dte x request f may = record { next = (tt, f.1); owed = tt }
   collides_fits Dce x request f may = record { next = (tt, may); owed = tt }
 
-  call_fits : (c : CircuitSettings) (x : Circuit) (s : State) (request : CallRequest) → CircuitFits wide x → may_propose request.params ≡ true → AnswerFits (table.row_call c x s request)
+  call_fits : (c : CircuitSettings) (x : Circuit) (s : State) (request : CallRequest) → CircuitFits wide x → may_propose request.params ≡ true
+      → AnswerFits (table.row_call c x s request)
   call_fits c x Free request f may = record { next = (tt, may); owed = tt }
   call_fits c x Calling request f may = collides_fits c.role x request f may
   call_fits c x Clearing request f may = ignores_fits x f
@@ -124,10 +134,12 @@ module _ (wide long_data : Bool) where
 
   connects_fits : (c : CircuitSettings) (x : Circuit) (answered : Params) → may_propose answered ≡ true → AnswerFits (table.connects c x answered)
   connects_fits c x answered may =
-      answer_if (may_answer x.params answered) (table.goes x Open answered true None (connected answered ∷ [])) (table.clears_for c x 3 66) (record { next = (tt, may); owed = tt })
+      answer_if (may_answer x.params answered) (table.goes x Open answered true None (connected answered ∷ [])) (table.clears_for c x 3 66)
+      (record { next = (tt, may); owed = tt })
       (clears_for_fits c x 3 66 (omega arith) (omega arith))
 
-  accept_fits : Agreed → (c : CircuitSettings) (x : Circuit) (s : State) (facilities : List ℕ) → CircuitFits wide x → AnswerFits (table.row_accept c x s facilities)
+  accept_fits : Agreed → (c : CircuitSettings) (x : Circuit) (s : State) (facilities : List ℕ) → CircuitFits wide x
+      → AnswerFits (table.row_accept c x s facilities)
   accept_fits laws c x Calling facilities f = connects_fits c x (said_in x.params facilities) (laws.said x.params facilities f.1)
   accept_fits laws c x Collision facilities f = connects_fits c x (said_in x.params facilities) (laws.said x.params facilities f.1)
   accept_fits laws c x Clearing facilities f = ignores_fits x f
@@ -163,7 +175,8 @@ module _ (wide long_data : Bool) where
   ground_if true u v p q = p
   ground_if false u v p q = q
 
-  unless_fits : (c : CircuitSettings) (x : Circuit) (o : Option ℕ) (a : table.Answer) → LowGround o → CircuitFits wide x → AnswerFits a → AnswerFits (table.unless c x o a)
+  unless_fits : (c : CircuitSettings) (x : Circuit) (o : Option ℕ) (a : table.Answer) → LowGround o → CircuitFits wide x → AnswerFits a
+      → AnswerFits (table.unless c x o a)
   unless_fits c x None a low g f = f
   unless_fits c x (Some n) a low g f = resets_for_fits c x n low g
 
@@ -184,21 +197,27 @@ module _ (wide long_data : Bool) where
   ground_low : (longest size : ℕ) (j : Partial) (n : ℕ) (q : Bool) → LowGround (ground_of longest size j n q)
   ground_low longest size j n q =
       ground_if (nat_le n size) (if nat_le (length j.user + n) longest then (if may_have_q j.begun q then None else Some 83) else Some 39) (Some 39)
-      (ground_if (nat_le (length j.user + n) longest) (if may_have_q j.begun q then None else Some 83) (Some 39) (ground_if (may_have_q j.begun q) None (Some 83) tt (omega arith)) (omega arith))
+      (ground_if (nat_le (length j.user + n) longest) (if may_have_q j.begun q then None else Some 83) (Some 39)
+      (ground_if (may_have_q j.begun q) None (Some 83) tt (omega arith)) (omega arith))
       (omega arith)
 
   data_low : (longest size : ℕ) (t : Talk) (ps pr : ℕ) (piece : Piece) → LowGround (table.data_ground longest size t ps pr piece)
   data_low longest size t ps pr piece =
-      ground_if (nat_le (resolved t.acked pr) (length t.sent)) (if ps == length t.taken % 8 then piece_ground longest size (joining no_part t.taken) piece else Some 1) (Some 2)
-      (ground_if (ps == length t.taken % 8) (piece_ground longest size (joining no_part t.taken) piece) (Some 1) (ground_low longest size (joining no_part t.taken) (length (user_of piece)) (q_of piece)) (omega arith))
+      ground_if (nat_le (resolved t.acked pr) (length t.sent))
+      (if ps == length t.taken % 8 then piece_ground longest size (joining no_part t.taken) piece else Some 1) (Some 2)
+      (ground_if (ps == length t.taken % 8) (piece_ground longest size (joining no_part t.taken) piece) (Some 1)
+      (ground_low longest size (joining no_part t.taken) (length (user_of piece)) (q_of piece)) (omega arith))
       (omega arith)
 
   open_fits : (c : CircuitSettings) (x : Circuit) (p : PlainPacket) → CircuitFits wide x → AnswerFits (table.row_open c x x.talk p)
   open_fits c x (user_data h q m ps pr user) f =
-      unless_fits c x (table.data_ground c.longest (incoming x).size x.talk ps pr (piece_of q m user)) (table.takes x x.talk pr (piece_of q m user)) (data_low c.longest (incoming x).size x.talk ps pr (piece_of q m user)) f
+      unless_fits c x (table.data_ground c.longest (incoming x).size x.talk ps pr (piece_of q m user)) (table.takes x x.talk pr (piece_of q m user))
+      (data_low c.longest (incoming x).size x.talk ps pr (piece_of q m user)) f
       (record { next = f; owed = status_gives x.talk.own_ready (length x.talk.taken + 1) })
-  open_fits c x (rr h pr) f = unless_fits c x (table.number_ground x.talk pr) (table.hears_status x x.talk true pr) (number_low x.talk pr) f (record { next = f; owed = tt })
-  open_fits c x (rnr h pr) f = unless_fits c x (table.number_ground x.talk pr) (table.hears_status x x.talk false pr) (number_low x.talk pr) f (record { next = f; owed = tt })
+  open_fits c x (rr h pr) f = unless_fits c x (table.number_ground x.talk pr) (table.hears_status x x.talk true pr) (number_low x.talk pr) f
+      (record { next = f; owed = tt })
+  open_fits c x (rnr h pr) f = unless_fits c x (table.number_ground x.talk pr) (table.hears_status x x.talk false pr) (number_low x.talk pr) f
+      (record { next = f; owed = tt })
   open_fits c x (interrupt h user) f = record { next = f; owed = (tt, tt) }
   open_fits c x (interrupt_conf h) f = confirms_fits c x x.talk.int_out f
   open_fits c x p f = ignores_fits x f
@@ -210,7 +229,8 @@ module _ (wide long_data : Bool) where
   data_fits c x s p f = unexpected_fits c x s
 
   pub answers_fit : Agreed → (c : CircuitSettings) (x : Circuit) (p : PlainPacket) → CircuitFits wide x → AnswerFits (table.answers c x p)
-  answers_fit laws c x (call h called calling facilities user) f = call_fits c x x.state (table.request_in called calling facilities user) f (laws.said default_params facilities refl)
+  answers_fit laws c x (call h called calling facilities user) f =
+      call_fits c x x.state (table.request_in called calling facilities user) f (laws.said default_params facilities refl)
   answers_fit laws c x (accept h facilities) f = accept_fits laws c x x.state facilities f
   answers_fit laws c x (clear h cause diagnostic) f = clear_fits x x.state cause diagnostic
   answers_fit laws c x (clear_conf h) f = clear_conf_fits c x x.state
@@ -244,15 +264,30 @@ module _ (wide long_data : Bool) where
       let short : length text ≤ 15 = leb-true (length text) 15 parts.0 in
       record { short = subst (λ (n : ℕ). n ≤ 15) (sym (length-map text (λ c. c - 48))) short; decimal = digits_low text parts.1 }
 
-  call_in_fits : Agreed → (c : CircuitSettings) → c.long_data ≡ long_data → (x : Circuit) (s : State) (called calling user : List ℕ) (proposal : Proposal) → AreOctets user → OutcomeFits (call_in c x s called calling user proposal)
-  call_in_fits laws c same x Free called calling user proposal octets = outcome_if (may_call c.long_data called calling user proposal.params) (does x Calling proposal.params true (call_sent called calling user proposal)) (Refused error.BadParameter) fits tt
+  call_in_fits : Agreed → (c : CircuitSettings) → c.long_data ≡ long_data → (x : Circuit) (s : State) (called calling user : List ℕ) (proposal : Proposal)
+      → AreOctets user → OutcomeFits (call_in c x s called calling user proposal)
+  call_in_fits laws c same x Free called calling user proposal octets = outcome_if (may_call c.long_data called calling user proposal.params)
+      (does x Calling proposal.params true (call_sent called calling user proposal)) (Refused error.BadParameter) fits tt
     where
-      fits : may_call c.long_data called calling user proposal.params ≡ true → OutcomeFits (does x Calling proposal.params true (call_sent called calling user proposal))
+      fits : may_call c.long_data called calling user proposal.params ≡ true
+          → OutcomeFits (does x Calling proposal.params true (call_sent called calling user proposal))
       fits is =
-          let parts = and_parts (is_address_text called) (is_address_text calling && (nat_le (length user) (longest_user c.long_data) && may_propose proposal.params)) is in
+          let parts = and_parts (is_address_text called)
+          (is_address_text calling && (nat_le (length user) (longest_user c.long_data) && may_propose proposal.params)) is in
           let more = and_parts (is_address_text calling) (nat_le (length user) (longest_user c.long_data) && may_propose proposal.params) parts.1 in
-          let last = and_parts (nat_le (length user) (longest_user c.long_data)) (may_propose proposal.params) more.1 in
-          ((tt, last.1), (tt, (address_fits called parts.0, address_fits calling more.0, laws.field default_params proposal last.1, subst (λ (b : Bool). length user ≤ longest_user b) same (leb-true (length user) (longest_user c.long_data) last.0), octets)))
+          let last = and_parts (nat_le (length user) (longest_user c.long_data)) (may_propose proposal.params) more.1 in (
+            (tt, last.1),
+            (
+              tt,
+              (
+                address_fits called parts.0,
+                address_fits calling more.0,
+                laws.field default_params proposal last.1,
+                subst (λ (b : Bool). length user ≤ longest_user b) same (leb-true (length user) (longest_user c.long_data) last.0),
+                octets,
+              ),
+            ),
+          )
   call_in_fits laws c same x Calling called calling user proposal octets = tt
   call_in_fits laws c same x Arriving called calling user proposal octets = tt
   call_in_fits laws c same x Collision called calling user proposal octets = tt
@@ -265,7 +300,8 @@ module _ (wide long_data : Bool) where
 
   accept_with_fits : Agreed → (x : Circuit) (answer : Option Proposal) → CircuitFits wide x → OutcomeFits (accept_with x answer)
   accept_with_fits laws x None f = ((tt, f.1), (tt, no_field))
-  accept_with_fits laws x (Some answer) f = outcome_if (may_answer x.params answer.params) (does x Open answer.params false (accept 1 (field_for x.params answer))) (Refused error.BadParameter) fits tt
+  accept_with_fits laws x (Some answer) f = outcome_if (may_answer x.params answer.params)
+      (does x Open answer.params false (accept 1 (field_for x.params answer))) (Refused error.BadParameter) fits tt
     where
       fits : may_answer x.params answer.params ≡ true → OutcomeFits (does x Open answer.params false (accept 1 (field_for x.params answer)))
       fits is =
@@ -276,10 +312,13 @@ module _ (wide long_data : Bool) where
   accept_in_fits laws x Arriving answer f = accept_with_fits laws x answer f
   accept_in_fits laws x s answer f = tt
 
-  clear_with_fits : (c : CircuitSettings) (x : Circuit) (cause diagnostic : ℕ) → (cause < 256) × (diagnostic < 256) → OutcomeFits (clear_with c x cause diagnostic)
-  clear_with_fits c x cause diagnostic octets = outcome_if (may_clear_for c.role cause) (does x Clearing default_params false (clear 1 cause diagnostic)) (Refused error.BadParameter) (λ may. ((tt, refl), (tt, octets))) tt
+  clear_with_fits : (c : CircuitSettings) (x : Circuit) (cause diagnostic : ℕ) → (cause < 256) × (diagnostic < 256)
+      → OutcomeFits (clear_with c x cause diagnostic)
+  clear_with_fits c x cause diagnostic octets = outcome_if (may_clear_for c.role cause) (does x Clearing default_params false (clear 1 cause diagnostic))
+      (Refused error.BadParameter) (λ may. ((tt, refl), (tt, octets))) tt
 
-  clear_in_fits : (c : CircuitSettings) (x : Circuit) (s : State) (cause diagnostic : ℕ) → (cause < 256) × (diagnostic < 256) → OutcomeFits (clear_in c x s cause diagnostic)
+  clear_in_fits : (c : CircuitSettings) (x : Circuit) (s : State) (cause diagnostic : ℕ) → (cause < 256) × (diagnostic < 256)
+      → OutcomeFits (clear_in c x s cause diagnostic)
   clear_in_fits c x Free cause diagnostic octets = tt
   clear_in_fits c x Clearing cause diagnostic octets = tt
   clear_in_fits c x s cause diagnostic octets = clear_with_fits c x cause diagnostic octets
@@ -292,9 +331,12 @@ module _ (wide long_data : Bool) where
       test true = both.1
       test false = both.0
 
-  send_in_fits : Agreed → (c : CircuitSettings) (x : Circuit) (s : State) (q : Marks) (user : List ℕ) → CircuitFits wide x → AreOctets user → may_mark wide q ≡ true → OutcomeFits (send_in c x s q user)
+  send_in_fits : Agreed → (c : CircuitSettings) (x : Circuit) (s : State) (q : Marks) (user : List ℕ) → CircuitFits wide x → AreOctets user → may_mark wide q
+      ≡ true → OutcomeFits (send_in c x s q user)
   send_in_fits laws c x Open q user f octets may =
-      outcome_if (nat_le (length user) c.longest) _ (Refused error.TooLong) (λ _. outcome_if (nat_lt (waits x) 8) _ (Refused error.Full) (λ _. ((cut_append x.talk.rest (cut (outgoing x).size q user) f.0 cut_fits, f.1), tt)) tt) tt
+      outcome_if (nat_le (length user) c.longest) _ (Refused error.TooLong)
+      (λ _. outcome_if (nat_lt (waits x) 8) _ (Refused error.Full) (λ _. ((cut_append x.talk.rest (cut (outgoing x).size q user) f.0 cut_fits, f.1), tt))
+      tt) tt
     where
       cut_fits : AreCut wide (cut (outgoing x).size q user)
       cut_fits =
@@ -312,7 +354,8 @@ module _ (wide long_data : Bool) where
   int_if false u f = f
 
   interrupt_in_fits : (x : Circuit) (s : State) (user : List ℕ) → CircuitFits wide x → AreOctets user → OutcomeFits (interrupt_in x s user)
-  interrupt_in_fits x Open user f octets = outcome_if (nat_le 1 (length user) && nat_le (length user) 32) _ (Refused error.BadParameter) (λ is. int_if x.talk.int_out _ (fits is)) tt
+  interrupt_in_fits x Open user f octets = outcome_if (nat_le 1 (length user) && nat_le (length user) 32) _ (Refused error.BadParameter)
+      (λ is. int_if x.talk.int_out _ (fits is)) tt
     where
       fits : (nat_le 1 (length user) && nat_le (length user) 32) ≡ true → CircuitFits wide x × MayGive (Some (interrupt 1 user))
       fits is =
@@ -325,15 +368,18 @@ module _ (wide long_data : Bool) where
   interrupt_in_fits x Resetting user f octets = tt
   interrupt_in_fits x Clearing user f octets = tt
 
-  reset_in_fits : (c : CircuitSettings) (x : Circuit) (s : State) (cause diagnostic : ℕ) → CircuitFits wide x → (cause < 256) × (diagnostic < 256) → OutcomeFits (reset_in c x s cause diagnostic)
-  reset_in_fits c x Open cause diagnostic f octets = outcome_if (may_reset_for c.role cause) (does x Resetting x.params x.calls (reset 1 cause diagnostic)) (Refused error.BadParameter) (λ may. ((tt, f.1), (tt, octets))) tt
+  reset_in_fits : (c : CircuitSettings) (x : Circuit) (s : State) (cause diagnostic : ℕ) → CircuitFits wide x → (cause < 256) × (diagnostic < 256)
+      → OutcomeFits (reset_in c x s cause diagnostic)
+  reset_in_fits c x Open cause diagnostic f octets = outcome_if (may_reset_for c.role cause) (does x Resetting x.params x.calls (reset 1 cause diagnostic))
+      (Refused error.BadParameter) (λ may. ((tt, f.1), (tt, octets))) tt
   reset_in_fits c x s cause diagnostic f octets = tt
 
   ready_in_fits : (x : Circuit) (s : State) (b : Bool) → CircuitFits wide x → OutcomeFits (ready_in x s b)
   ready_in_fits x Open b f = (f, status_gives b (length x.talk.taken))
   ready_in_fits x s b f = tt
 
-  pub outcome_fits : Agreed → (c : CircuitSettings) → c.long_data ≡ long_data → (x : Circuit) (h : ℕ) (request : Request) → CircuitFits wide x → AsksOctets request → may_ask wide (Asks h request) ≡ true → OutcomeFits (outcome c x request)
+  pub outcome_fits : Agreed → (c : CircuitSettings) → c.long_data ≡ long_data → (x : Circuit) (h : ℕ) (request : Request) → CircuitFits wide x
+      → AsksOctets request → may_ask wide (Asks h request) ≡ true → OutcomeFits (outcome c x request)
   outcome_fits laws c same x h (Calls called calling user proposal) f octets may = call_in_fits laws c same x x.state called calling user proposal octets
   outcome_fits laws c same x h (Accepts answer) f octets may = accept_in_fits laws x x.state answer f
   outcome_fits laws c same x h (Clears cause diagnostic) f octets may = clear_in_fits c x x.state cause diagnostic octets
@@ -360,13 +406,23 @@ module _ (wide long_data : Bool) where
   nothing_fits : (x : Circuit) → CircuitFits wide x → PulledFits (pulls_nothing x)
   nothing_fits x f = record { next = f; packet = tt }
 
-  pull_open_fits : (c : CircuitSettings) (x : Circuit) (t : Talk) (rest : List Piece) → CircuitFits wide x → AreCut wide rest → PulledFits (pull_open c x t rest)
+  pull_open_fits : (c : CircuitSettings) (x : Circuit) (t : Talk) (rest : List Piece) → CircuitFits wide x → AreCut wide rest
+      → PulledFits (pull_open c x t rest)
   pull_open_fits c x t [] f g = nothing_fits x f
-  pull_open_fits c x t (piece ∷ rest) f g = pulled_if (t.peer_ready && nat_lt (length t.sent) (t.acked + (outgoing x).window)) sent (pulls_nothing x) (record { next = (g.1, f.1); packet = data_gives (length t.sent) (length t.taken) piece g.0 }) (nothing_fits x f)
+  pull_open_fits c x t (piece ∷ rest) f g = pulled_if (t.peer_ready && nat_lt (length t.sent) (t.acked + (outgoing x).window)) sent (pulls_nothing x)
+      (record { next = (g.1, f.1); packet = data_gives (length t.sent) (length t.taken) piece g.0 }) (nothing_fits x f)
     where
       sent : Pulled
       sent = record {
-        next = talking x (record { sent = t.sent ++ piece ∷ []; taken = t.taken; acked = t.acked; rest = rest; int_out = t.int_out; peer_ready = t.peer_ready; own_ready = t.own_ready });
+        next = talking x (record {
+          sent = t.sent ++ piece ∷ [];
+          taken = t.taken;
+          acked = t.acked;
+          rest = rest;
+          int_out = t.int_out;
+          peer_ready = t.peer_ready;
+          own_ready = t.own_ready;
+        });
         packet = Some (data_packet (length t.sent % 8) (length t.taken % 8) piece);
       }
 

@@ -1,5 +1,6 @@
 -- What timer T1 does behind a step.
-use Rattle.std.proofs.Common.{◌≡◌, ◌∙◌, ◌+◌, ◌<◌, ◌≤◌, ℕ, Bool, true, false, List, [], length, drop, map, get_or, Result, Ok, Err, OnOk, OnErr, ap, sym, refl, arith}
+use Rattle.std.proofs.Common.{◌≡◌, ◌∙◌, ◌+◌, ◌<◌, ◌≤◌, ℕ, Bool, true, false, List, [], length, drop, map, get_or, Result, Ok, Err, OnOk, OnErr, ap, sym, refl}
+use Rattle.std.proofs.Common.{arith}
 use Rattle.std.specs.Prelude.{not, ◌||◌}
 use Rattle.std.specs.Result.{is_ok}
 use Rattle.std.proofs.lemmas.Bool.{le-ltb}
@@ -23,7 +24,8 @@ use Rattle.x25_station.specs.Timer.{is_of_link, is_acknowledged, tells_link, run
 abbrev pub up : List Entry → Bool
 up entries = tells_link (map plain_entry entries)
 
-module _ (entries : List Entry) (i : ℕ) (entry : Entry) (inside : i < length entries) (is : entry ≡ get_or entries i entry) (same : up (drop i entries) ≡ up entries) where
+module _ (entries : List Entry) (i : ℕ) (entry : Entry) (inside : i < length entries) (is : entry ≡ get_or entries i entry)
+    (same : up (drop i entries) ≡ up entries) where
   next : (b : Bool) → is_of_link (plain_entry entry) ≡ b → (b || up (drop (i + 1) entries)) ≡ up entries
   next b e = ap (λ b. b || up (drop (i + 1) entries)) (sym e ∙ ap (λ x. is_of_link (plain_entry x)) is) ∙ sym (at_drop_more up entries i entry inside) ∙ same
 
@@ -54,17 +56,22 @@ stands s = unmoved (runs s) _ (same_acked s.link)
 
 module _ (c : Settings) (s : Station) (mid new : code.Station) (out : code_step.Step) (t : Timer) (fits : FitsStation c mid s) where
   accepted : (has_fired : Bool) (o : Outcome) → HearsNone s o
-      → ((step : Step) → FitsStation c new step.near → map plain_entry out.entries.items ≡ step.entries → false ≡ is_acknowledged s.link step.near.link → t ≡ timer_at s has_fired (Did step))
+      → ((step : Step) → FitsStation c new step.near → map plain_entry out.entries.items ≡ step.entries → false ≡ is_acknowledged s.link step.near.link → t
+      ≡ timer_at s has_fired (Did step))
       → Leaves {T = Unit} c new (Ok tt) o → Enters {T = Unit} out (Ok tt) o → Refuses {T = Unit} (Ok tt) o → t ≡ timer_at s has_fired o
   accepted has_fired (Did step) quiet h leaves enters none = h step leaves enters (sym quiet)
   accepted has_fired (Refused e) quiet h leaves enters none = absurd none
 
-  pub timed : (result : Result Unit StationError) (said : Settings → Station → Outcome) (fired has_fired : Bool) → Does mid new out result said → OnOk result (fired ≡ has_fired) → OnErr result (fired ≡ false) → HearsNone s (said c s)
-      → ((step : Step) → FitsStation c new step.near → map plain_entry out.entries.items ≡ step.entries → false ≡ is_acknowledged s.link step.near.link → t ≡ timer_at s fired (Did step)) → IsTimer s has_fired t result (said c s)
+  pub timed : (result : Result Unit StationError) (said : Settings → Station → Outcome) (fired has_fired : Bool) → Does mid new out result said
+      → OnOk result (fired ≡ has_fired) → OnErr result (fired ≡ false) → HearsNone s (said c s)
+      → ((step : Step) → FitsStation c new step.near → map plain_entry out.entries.items ≡ step.entries → false ≡ is_acknowledged s.link step.near.link → t
+      ≡ timer_at s fired (Did step)) → IsTimer s has_fired t result (said c s)
   timed (Ok u) said fired has_fired d is not_fired quiet h =
-      accepted has_fired (said c s) quiet (λ step near entries more. h step near entries more ∙ ap (λ b. timer_at s b (Did step)) is) (d.state c s fits) (d.entries c s fits) (d.refused c s fits)
+      accepted has_fired (said c s) quiet (λ step near entries more. h step near entries more ∙ ap (λ b. timer_at s b (Did step)) is) (d.state c s fits)
+      (d.entries c s fits) (d.refused c s fits)
   timed (Err e) said fired has_fired d is not_fired quiet h =
-      h (none s) (d.stays c s fits) (ap (map plain_entry) d.empty.entries) (sym (same_acked s.link)) ∙ ap (λ b. timer_at s b (Did (none s))) not_fired ∙ stands s
+      h (none s) (d.stays c s fits) (ap (map plain_entry) d.empty.entries) (sym (same_acked s.link)) ∙ ap (λ b. timer_at s b (Did (none s))) not_fired
+      ∙ stands s
 
 -- ---- whether T1 fired
 

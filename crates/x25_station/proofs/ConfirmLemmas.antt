@@ -1,5 +1,6 @@
 -- What is confirmed from one layer to another, by what these tell.
-use Rattle.std.proofs.Common.{◌≡◌, ℕ, zero, suc, ◌-◌, List, [], ◌∷◌, ◌++◌, Some, None, Bool, true, false, ◌&&◌, ◌==◌, not, if◌then◌else◌, refl, ap, sym, ◌∙◌, eq-eqb, arith}
+use Rattle.std.proofs.Common.{◌≡◌, ℕ, zero, suc, ◌-◌, List, [], ◌∷◌, ◌++◌, Some, None, Bool, true, false, ◌&&◌, ◌==◌, not, if◌then◌else◌, refl, ap, sym, ◌∙◌}
+use Rattle.std.proofs.Common.{eq-eqb, arith}
 use Rattle.std.proofs.lemmas.Bool.{eqb-true}
 use Rattle.std.proofs.lemmas.Option.{none-some, same_Some}
 use Rattle.x25_circuit.specs.Circuit.{is_open, unconfirmed}
@@ -59,7 +60,8 @@ pub closed_behind : (c : LayerSettings) (l next : Layer) (h : ℕ) → is_open_a
 closed_behind c l next h is = ended c l next h (and_false (is_open_at c l h) _ (ap (λ (b : Bool). b && same_name (name_of l h) (name_of next h)) is))
 
 pub renamed : (c : LayerSettings) (l next : Layer) (h : ℕ) → (name_of l h ≡ name_of next h → ⊥) → confirmed c l next h ≡ 0
-renamed c l next h differs = ended c l next h (and_false (is_open_at c l h) _ (and_false (is_open_at c next h) _ (by (same_name (name_of l h) (name_of next h)) refl)))
+renamed c l next h differs = ended c l next h
+    (and_false (is_open_at c l h) _ (and_false (is_open_at c next h) _ (by (same_name (name_of l h) (name_of next h)) refl)))
   where
     by : (b : Bool) → same_name (name_of l h) (name_of next h) ≡ b → same_name (name_of l h) (name_of next h) ≡ false
     by true is = absurd (differs (same_name-is (name_of l h) (name_of next h) is))
@@ -87,7 +89,8 @@ none_before c l next h count told none = by (is_channel c.channels h) refl
     by : (b : Bool) → is_channel c.channels h ≡ b → confirmed c l next h ≡ 0
     by true is =
         let nothing : unconfirmed (l.circuits h) ≡ 0 = sym (ap (λ (a : Bool). if a then unconfirmed (l.circuits h) else 0) is) ∙ sym told ∙ none in
-        ap (λ (n : ℕ). if goes_on c l next h then n - unconfirmed (next.circuits h) else 0) nothing ∙ less_nothing (goes_on c l next h) (unconfirmed (next.circuits h))
+        ap (λ (n : ℕ). if goes_on c l next h then n - unconfirmed (next.circuits h) else 0) nothing
+        ∙ less_nothing (goes_on c l next h) (unconfirmed (next.circuits h))
     by false is = closed_before c l next h (not_channel c l h is)
 
 open_channel : (c : LayerSettings) (l : Layer) (h : ℕ) → is_open_at c l h ≡ true → is_channel c.channels h ≡ true
@@ -108,19 +111,23 @@ open_count c l h count is told = told ∙ ap (λ (b : Bool). if b then unconfirm
 and_true : (a b d : Bool) → a ≡ true → b ≡ true → d ≡ true → (a && (b && d)) ≡ true
 and_true a b d e₁ e₂ e₃ = rw e₁ (rw e₂ e₃)
 
-pub goes : (c : LayerSettings) (l next : Layer) (h : ℕ) → is_open_at c l h ≡ true → is_open_at c next h ≡ true → name_of l h ≡ name_of next h → goes_on c l next h ≡ true
+pub goes : (c : LayerSettings) (l next : Layer) (h : ℕ) → is_open_at c l h ≡ true → is_open_at c next h ≡ true → name_of l h ≡ name_of next h
+    → goes_on c l next h ≡ true
 goes c l next h before behind same =
     and_true (is_open_at c l h) (is_open_at c next h) _ before behind (ap (λ (n : Name). same_name n (name_of next h)) same ∙ same_name-refl (name_of next h))
 
-pub confirmed_are : (c : LayerSettings) (l next : Layer) (h : ℕ) → goes_on c l next h ≡ true → confirmed c l next h ≡ unconfirmed (l.circuits h) - unconfirmed (next.circuits h)
+pub confirmed_are : (c : LayerSettings) (l next : Layer) (h : ℕ) → goes_on c l next h ≡ true → confirmed c l next h
+    ≡ unconfirmed (l.circuits h) - unconfirmed (next.circuits h)
 confirmed_are c l next h is = ap (λ (b : Bool). if b then unconfirmed (l.circuits h) - unconfirmed (next.circuits h) else 0) is
 
 -- so many are told
-pub told_behind : (next : Layer) (h channel told count : ℕ) (name : Name) (beside : List StationEntry) → (told ≡ 0 → ⊥) → told ≡ count → channel ≡ h → name ≡ name_of next h
+pub told_behind : (next : Layer) (h channel told count : ℕ) (name : Name) (beside : List StationEntry) → (told ≡ 0 → ⊥) → told ≡ count → channel ≡ h → name
+    ≡ name_of next h
     → entries_behind next h count beside ≡ was_confirmed channel name told ∷ []
 told_behind next h channel told zero name beside some is at under = absurd (some is)
 told_behind next h channel told (suc n) name beside some is at under =
-    sym (ap (λ (k : ℕ). was_confirmed k name told ∷ []) at ∙ ap (λ (m : Name). was_confirmed h m told ∷ []) under ∙ ap (λ (k : ℕ). was_confirmed h (name_of next h) k ∷ []) is)
+    sym (ap (λ (k : ℕ). was_confirmed k name told ∷ []) at ∙ ap (λ (m : Name). was_confirmed h m told ∷ []) under
+    ∙ ap (λ (k : ℕ). was_confirmed h (name_of next h) k ∷ []) is)
 
 -- ---- names, as the code compares them
 
@@ -142,58 +149,72 @@ pub names_differ : (m n : Name) → not ((m.restarts == n.restarts) && ((m.clear
 names_differ m n is same = true_false (sym is ∙ ap (λ (b : Bool). not b) agree)
   where
     agree : ((m.restarts == n.restarts) && ((m.clears == n.clears) && (m.resets == n.resets))) ≡ true
-    agree = rw same (and_true (n.restarts == n.restarts) (n.clears == n.clears) (n.resets == n.resets) (eq-eqb n.restarts n.restarts refl) (eq-eqb n.clears n.clears refl) (eq-eqb n.resets n.resets refl))
+    agree = rw same (and_true (n.restarts == n.restarts) (n.clears == n.clears) (n.resets == n.resets) (eq-eqb n.restarts n.restarts refl)
+        (eq-eqb n.clears n.clears refl) (eq-eqb n.resets n.resets refl))
 
 -- ---- by what a station keeps of the layer before
 
-pub unnamed_behind : (c : LayerSettings) (l next : Layer) (h : ℕ) (before : Unconfirmed) → StandsFor c l h before → None ≡ name_at c next before.channel → confirmed c l next h ≡ 0
+pub unnamed_behind : (c : LayerSettings) (l next : Layer) (h : ℕ) (before : Unconfirmed) → StandsFor c l h before → None ≡ name_at c next before.channel
+    → confirmed c l next h ≡ 0
 unnamed_behind c l next h before stands none = closed_behind c l next h (unnamed_closed c next h (none ∙ ap (λ (k : ℕ). name_at c next k) stands.channel))
 
-pub ended_behind : (c : LayerSettings) (l next : Layer) (h : ℕ) (before : Unconfirmed) → StandsFor c l h before → is_open_at c next before.channel ≡ false → confirmed c l next h ≡ 0
+pub ended_behind : (c : LayerSettings) (l next : Layer) (h : ℕ) (before : Unconfirmed) → StandsFor c l h before → is_open_at c next before.channel ≡ false
+    → confirmed c l next h ≡ 0
 ended_behind c l next h before stands is = closed_behind c l next h (sym (ap (λ (k : ℕ). is_open_at c next k) stands.channel) ∙ is)
 
-pub other_behind : (c : LayerSettings) (l next : Layer) (h : ℕ) (before : Unconfirmed) (n : Name) → StandsFor c l h before → Some n ≡ name_at c next before.channel → (n ≡ plain_name before.name → ⊥) → confirmed c l next h ≡ 0
+pub other_behind : (c : LayerSettings) (l next : Layer) (h : ℕ) (before : Unconfirmed) (n : Name) → StandsFor c l h before → Some n
+    ≡ name_at c next before.channel → (n ≡ plain_name before.name → ⊥) → confirmed c l next h ≡ 0
 other_behind c l next h before n stands told differs = by (is_open_at c next h) refl
   where
     by : (b : Bool) → is_open_at c next h ≡ b → confirmed c l next h ≡ 0
-    by true is = renamed c l next h (λ same. differs (open_name c next h n is (told ∙ ap (λ (k : ℕ). name_at c next k) stands.channel) ∙ sym same ∙ sym stands.name))
+    by true is = renamed c l next h (λ same. differs
+        (open_name c next h n is (told ∙ ap (λ (k : ℕ). name_at c next k) stands.channel) ∙ sym same ∙ sym stands.name))
     by false is = closed_behind c l next h is
 
 -- the same stretch is open
-pub less_behind : (c : LayerSettings) (l next : Layer) (h : ℕ) (before : Unconfirmed) (n : Name) (left : ℕ) → StandsFor c l h before → Some n ≡ name_at c next before.channel → n ≡ plain_name before.name → is_open_at c next before.channel ≡ true
+pub less_behind : (c : LayerSettings) (l next : Layer) (h : ℕ) (before : Unconfirmed) (n : Name) (left : ℕ) → StandsFor c l h before → Some n
+    ≡ name_at c next before.channel → n ≡ plain_name before.name → is_open_at c next before.channel ≡ true
     → left ≡ unconfirmed_at c next before.channel → before.count - left ≡ confirmed c l next h
 less_behind c l next h before n left stands told same is counted =
     let opened : is_open_at c next h ≡ true = sym (ap (λ (k : ℕ). is_open_at c next k) stands.channel) ∙ is in
     let under : n ≡ name_of next h = open_name c next h n opened (told ∙ ap (λ (k : ℕ). name_at c next k) stands.channel) in
     let fewer : left ≡ unconfirmed (next.circuits h) = open_count c next h left opened (counted ∙ ap (λ (k : ℕ). unconfirmed_at c next k) stands.channel) in
-    ap (λ (m : ℕ). m - left) stands.count ∙ ap (λ (m : ℕ). unconfirmed (l.circuits h) - m) fewer ∙ sym (confirmed_are c l next h (goes c l next h stands.is_open opened (sym stands.name ∙ sym same ∙ under)))
+    ap (λ (m : ℕ). m - left) stands.count ∙ ap (λ (m : ℕ). unconfirmed (l.circuits h) - m) fewer
+    ∙ sym (confirmed_are c l next h (goes c l next h stands.is_open opened (sym stands.name ∙ sym same ∙ under)))
 
-pub name_behind : (c : LayerSettings) (l next : Layer) (h : ℕ) (before : Unconfirmed) (n : Name) → StandsFor c l h before → Some n ≡ name_at c next before.channel → is_open_at c next before.channel ≡ true → n ≡ name_of next h
+pub name_behind : (c : LayerSettings) (l next : Layer) (h : ℕ) (before : Unconfirmed) (n : Name) → StandsFor c l h before → Some n
+    ≡ name_at c next before.channel → is_open_at c next before.channel ≡ true → n ≡ name_of next h
 name_behind c l next h before n stands told is =
     open_name c next h n (sym (ap (λ (k : ℕ). is_open_at c next k) stands.channel) ∙ is) (told ∙ ap (λ (k : ℕ). name_at c next k) stands.channel)
 
 -- ---- what waits is pulled behind a packet: that leaves what is confirmed
 
-pub pulled_confirmed : (link : LinkView) (c : LayerSettings) (l : Layer) (s : Putting) (h : ℕ) → confirmed c l (rounds link c s).layer h ≡ confirmed c l s.layer h
+pub pulled_confirmed : (link : LinkView) (c : LayerSettings) (l : Layer) (s : Putting) (h : ℕ) → confirmed c l (rounds link c s).layer h
+    ≡ confirmed c l s.layer h
 pulled_confirmed link c l s h =
-    ap (λ (b : Bool). if is_open_at c l h && (b && same_name (name_of l h) (name_of (rounds link c s).layer h)) then unconfirmed (l.circuits h) - unconfirmed ((rounds link c s).layer.circuits h) else 0) (rounds_open link c s h)
-    ∙ ap (λ (n : Name). if is_open_at c l h && (is_open_at c s.layer h && same_name (name_of l h) n) then unconfirmed (l.circuits h) - unconfirmed ((rounds link c s).layer.circuits h) else 0) (rounds_name link c s h)
+    ap (λ (b : Bool). if is_open_at c l h && (b && same_name (name_of l h) (name_of (rounds link c s).layer h))
+    then unconfirmed (l.circuits h) - unconfirmed ((rounds link c s).layer.circuits h) else 0) (rounds_open link c s h)
+    ∙ ap (λ (n : Name). if is_open_at c l h && (is_open_at c s.layer h && same_name (name_of l h) n)
+    then unconfirmed (l.circuits h) - unconfirmed ((rounds link c s).layer.circuits h) else 0) (rounds_name link c s h)
     ∙ ap (λ (n : ℕ). if goes_on c l s.layer h then unconfirmed (l.circuits h) - n else 0) (rounds_unconfirmed link c s h)
 
-behind_named : (l next : Layer) (h count : ℕ) (beside : List StationEntry) → name_of l h ≡ name_of next h → entries_behind l h count beside ≡ entries_behind next h count beside
+behind_named : (l next : Layer) (h count : ℕ) (beside : List StationEntry) → name_of l h ≡ name_of next h → entries_behind l h count beside
+    ≡ entries_behind next h count beside
 behind_named l next h zero beside same = refl
 behind_named l next h (suc n) beside same = ap (λ (m : Name). was_confirmed h m (suc n) ∷ []) same
 
 pub pulled_behind : (link : LinkView) (c : LayerSettings) (l : Layer) (s : Putting) (h : ℕ) (beside : List StationEntry)
     → entries_behind (rounds link c s).layer h (confirmed c l (rounds link c s).layer h) beside ≡ entries_behind s.layer h (confirmed c l s.layer h) beside
 pulled_behind link c l s h beside =
-    ap (λ (n : ℕ). entries_behind (rounds link c s).layer h n beside) (pulled_confirmed link c l s h) ∙ behind_named (rounds link c s).layer s.layer h (confirmed c l s.layer h) beside (rounds_name link c s h)
+    ap (λ (n : ℕ). entries_behind (rounds link c s).layer h n beside) (pulled_confirmed link c l s h)
+    ∙ behind_named (rounds link c s).layer s.layer h (confirmed c l s.layer h) beside (rounds_name link c s h)
 
 pub nothing_behind : (next : Layer) (h count : ℕ) (beside : List StationEntry) → count ≡ 0 → entries_behind next h count beside ≡ beside
 nothing_behind next h count beside none = ap (λ (n : ℕ). entries_behind next h n beside) none
 
 -- what is entered of a packet, and then what it confirms or brings beside
-pub heard_all : (link : LinkView) (c : LayerSettings) (l : Layer) (octets : List ℕ) (mid after others : List StationEntry) → mid ≡ entries_of_answer (layer_answer c true l octets) → after ≡ mid ++ others
+pub heard_all : (link : LinkView) (c : LayerSettings) (l : Layer) (octets : List ℕ) (mid after others : List StationEntry) → mid
+    ≡ entries_of_answer (layer_answer c true l octets) → after ≡ mid ++ others
     → (let a : LayerAnswer = layer_answer c true l octets in
     let next : Layer = (rounds link c (begin a.next a.owed)).layer in
     let h : ℕ = named_by octets in
@@ -202,4 +223,5 @@ pub heard_all : (link : LinkView) (c : LayerSettings) (l : Layer) (octets : List
 heard_all link c l octets mid after others told is behind =
     let a : LayerAnswer = layer_answer c true l octets in
     is ∙ ap (λ (es : List StationEntry). es ++ others) told
-    ∙ ap (λ (es : List StationEntry). entries_of_answer a ++ es) (sym behind ∙ pulled_behind link c l (begin a.next a.owed) (named_by octets) (entries_beside (beside_in true octets) (bringing a.notices)))
+    ∙ ap (λ (es : List StationEntry). entries_of_answer a ++ es)
+    (sym behind ∙ pulled_behind link c l (begin a.next a.owed) (named_by octets) (entries_beside (beside_in true octets) (bringing a.notices)))

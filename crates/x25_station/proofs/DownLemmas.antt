@@ -26,7 +26,8 @@ use Rattle.x25_station.proofs.KeepLemmas.{timer_none}
 abbrev pub downs : Layer → Side → Option Reason → Step
 downs l t down = record { near = record { link = t.near; layer = layer_down l down }; out = t.out; entries = entries_down down }
 
-noted_down : (c : Settings) (l : Layer) (t : Side) (down : Option Reason) → follows c l (record { side = t; packet = None; notes = record { down = down; up = false } }) ≡ downs l t down
+noted_down : (c : Settings) (l : Layer) (t : Side) (down : Option Reason)
+    → follows c l (record { side = t; packet = None; notes = record { down = down; up = false } }) ≡ downs l t down
 noted_down c l t None = refl
 noted_down c l t (Some reason) = refl
 
@@ -41,23 +42,30 @@ follows_down c l k none not_up =
 pub timer_stays : (c : LinkSettings) (s : LinkStation) → (timer_step c s).notes.up ≡ false
 timer_stays c s = test (nat_lt s.tries c.retries)
   where
-    test : (b : Bool) → (let k : LinkStep = if b then quiet (asks_again s.phase (with_near (alone s) (record s { tries = s.tries + 1 }))) else leaves Retries (alone s) in k.notes.up) ≡ false
+    test : (b : Bool) → (let k : LinkStep = if b then quiet (asks_again s.phase (with_near (alone s) (record s { tries = s.tries + 1 })))
+        else leaves Retries (alone s) in k.notes.up) ≡ false
     test true = refl
     test false = refl
 
-pub timer_down : (c : Settings) (l : Layer) (s : LinkStation) → (let k : LinkStep = timer_step (link_settings c) s in follows c l k ≡ downs l k.side k.notes.down)
+pub timer_down : (c : Settings) (l : Layer) (s : LinkStation)
+    → (let k : LinkStep = timer_step (link_settings c) s in follows c l k ≡ downs l k.side k.notes.down)
 timer_down c l s = follows_down c l (timer_step (link_settings c) s) (timer_none (link_settings c) s) (timer_stays (link_settings c) s)
 
-pub disconnect_down : (c : Settings) (l : Layer) (s : LinkStation) → (let k : LinkStep = disconnect_step (link_settings c) s in follows c l k ≡ downs l k.side k.notes.down)
+pub disconnect_down : (c : Settings) (l : Layer) (s : LinkStation)
+    → (let k : LinkStep = disconnect_step (link_settings c) s in follows c l k ≡ downs l k.side k.notes.down)
 disconnect_down c l s = follows_down c l (disconnect_step (link_settings c) s) refl refl
 
-pub relink_down : (c : Settings) (l : Layer) (s : LinkStation) → (let k : LinkStep = relink_step (link_settings c) s in follows c l k ≡ downs l k.side k.notes.down)
+pub relink_down : (c : Settings) (l : Layer) (s : LinkStation)
+    → (let k : LinkStep = relink_step (link_settings c) s in follows c l k ≡ downs l k.side k.notes.down)
 relink_down c l s = follows_down c l (relink_step (link_settings c) s) refl refl
 
 -- ---- the station after it
 
-pub fits_down : {manner : Manner} (c : Settings) → manner ≡ manner_of c → (v : ShownLink) (y : layer_code.Layer) (l : Layer) (k : LinkStep) (step : Step) (down : Option Reason) → step.near ≡ (downs l k.side k.notes.down).near → down ≡ k.notes.down
-    → FitsLink (link_settings c) v k.side.near → FitsLayer (layer_settings c) y (layer_down l down) → v.frames ≡ [] → IsKept step.near → FitsParts c manner v y step.near
+pub fits_down : {manner : Manner} (c : Settings) → manner ≡ manner_of c
+    → (v : ShownLink) (y : layer_code.Layer) (l : Layer) (k : LinkStep) (step : Step) (down : Option Reason) → step.near ≡ (downs l k.side k.notes.down).near
+    → down ≡ k.notes.down
+    → FitsLink (link_settings c) v k.side.near → FitsLayer (layer_settings c) y (layer_down l down) → v.frames ≡ [] → IsKept step.near
+    → FitsParts c manner v y step.near
 fits_down c as_set v y l k step down near is link layer sent kept =
     let moved : layer_down l down ≡ step.near.layer = ap (layer_down l) is ∙ sym (ap (λ (x : Station). x.layer) near) in
     record {
@@ -68,16 +76,22 @@ fits_down c as_set v y l k step down near is link layer sent kept =
       same = as_set;
     }
 
-pub leaves_down : {manner : Manner} (c : Settings) → manner ≡ manner_of c → (v : ShownLink) (y : layer_code.Layer) (o : Option LinkError) (l : Layer) (k : LinkStep) (step : Step) (down : Option Reason) → step.near ≡ (downs l k.side k.notes.down).near
-    → down ≡ k.notes.down → FitsLink (link_settings c) v k.side.near → FitsLayer (layer_settings c) y (layer_down l down) → v.frames ≡ [] → KeptBy (unless o step) → LeavesParts {T = Unit} c manner v y (Ok tt) (unless o step)
-leaves_down c as_set v y o l k step down near is link layer sent kept = leaves_unless c v y o step kept (λ now. fits_down c as_set v y l k step down near is link layer sent now)
+pub leaves_down : {manner : Manner} (c : Settings) → manner ≡ manner_of c
+    → (v : ShownLink) (y : layer_code.Layer) (o : Option LinkError) (l : Layer) (k : LinkStep) (step : Step) (down : Option Reason) → step.near
+    ≡ (downs l k.side k.notes.down).near
+    → down ≡ k.notes.down → FitsLink (link_settings c) v k.side.near → FitsLayer (layer_settings c) y (layer_down l down) → v.frames ≡ []
+    → KeptBy (unless o step) → LeavesParts {T = Unit} c manner v y (Ok tt) (unless o step)
+leaves_down c as_set v y o l k step down near is link layer sent kept =
+    leaves_unless c v y o step kept (λ now. fits_down c as_set v y l k step down near is link layer sent now)
 
 -- ---- what it answers
 
-pub frames_down : (c : Settings) (l : Layer) (k : LinkStep) (frames : List (List ℕ)) (step : Step) → step ≡ downs l k.side k.notes.down → frames ≡ map (spelling_of c.role) k.side.out → frames ≡ map (spelling_of c.role) step.out
+pub frames_down : (c : Settings) (l : Layer) (k : LinkStep) (frames : List (List ℕ)) (step : Step) → step ≡ downs l k.side k.notes.down → frames
+    ≡ map (spelling_of c.role) k.side.out → frames ≡ map (spelling_of c.role) step.out
 frames_down c l k frames step is made = made ∙ ap (λ (x : Step). map (spelling_of c.role) x.out) (sym is)
 
-pub entries_noted_down : (l : Layer) (k : LinkStep) (before after : List StationEntry) (down : Option Reason) (step : Step) → step ≡ downs l k.side k.notes.down → down ≡ k.notes.down → after ≡ before ++ entries_down down
+pub entries_noted_down : (l : Layer) (k : LinkStep) (before after : List StationEntry) (down : Option Reason) (step : Step) → step
+    ≡ downs l k.side k.notes.down → down ≡ k.notes.down → after ≡ before ++ entries_down down
     → after ≡ before ++ step.entries
 entries_noted_down l k before after down step is same noted =
     noted ∙ ap (λ (o : Option Reason). before ++ entries_down o) same ∙ ap (λ (x : Step). before ++ x.entries) (sym is)

@@ -1,5 +1,6 @@
 -- A call of the layer over the link: what it has to put is put, and then what waits is pulled.
-use Rattle.std.proofs.Common.{◌≡◌, ◌≢◌, ◌⊎◌, inl, inr, ℕ, zero, suc, ◌<◌, List, [], ◌∷◌, length, nat_lt, Option, Some, None, Result, Ok, Err, OnErr, IsErrAnd, Bool, true, false, ◌==◌, if◌then◌else◌, refl, sym, ap, subst, ◌∙◌, arith}
+use Rattle.std.proofs.Common.{◌≡◌, ◌≢◌, ◌⊎◌, inl, inr, ℕ, zero, suc, ◌<◌, List, [], ◌∷◌, length, nat_lt, Option, Some, None, Result, Ok, Err, OnErr, IsErrAnd}
+use Rattle.std.proofs.Common.{Bool, true, false, ◌==◌, if◌then◌else◌, refl, sym, ap, subst, ◌∙◌, arith}
 use Rattle.std.proofs.lemmas.Bool.{eqb-true}
 use Rattle.x25_packet.specs.Packet.{PlainPacket}
 use Rattle.x25_packet.specs.Spelling.{spelling_of}
@@ -10,8 +11,10 @@ use Rattle.x25_layer.specs.declared.error.LayerError.TheVariants as error
 use Rattle.x25_layer.specs.declared.layer.Layer as layer_code
 use Rattle.x25_layer.specs.declared.link_state.LinkState as code
 use Rattle.x25_layer.specs.Layer.{LayerSettings, Layer}
-use Rattle.x25_layer.specs.Calls.{LayerRequest, LayerOutcome, Accepted, Declined, PullsAll, layer_outcome, asked_where, declined_for, asks_memory, outcome_in, layer_pulled}
-use Rattle.x25_layer.specs.laws.Rounds.{LinkView, Putting, Answered, Went, Refuses, begin, with_pulled, pull_one, round, rounds_of, backlog, rounds, went, calls, refusal_of}
+use Rattle.x25_layer.specs.Calls.{LayerRequest, LayerOutcome, Accepted, Declined, PullsAll, layer_outcome, asked_where, declined_for, asks_memory, outcome_in}
+use Rattle.x25_layer.specs.Calls.{layer_pulled}
+use Rattle.x25_layer.specs.laws.Rounds.{LinkView, Putting, Answered, Went, Refuses, begin, with_pulled, pull_one, round, rounds_of, backlog, rounds, went}
+use Rattle.x25_layer.specs.laws.Rounds.{calls, refusal_of}
 use Rattle.x25_layer.specs.code.FitsLayer.{FitsLayer}
 use Rattle.x25_layer.specs.code.Answering.{spelled, Gives, Does, Answers}
 use Rattle.x25_station.proofs.RoundLemmas.{spelled_some, not_empty}
@@ -19,7 +22,8 @@ use Rattle.x25_station.specs.code.OverLink.{after_all, seen_at, LayerGives, Link
 
 -- ---- the call, by what the layer is told of the link
 
-calls_go : (view : LinkView) (c : LayerSettings) (l : Layer) (request : LayerRequest) → calls view c l request ≡ went view c (asked_where c view.is_up (view.waits [] == 256) l request)
+calls_go : (view : LinkView) (c : LayerSettings) (l : Layer) (request : LayerRequest) → calls view c l request
+    ≡ went view c (asked_where c view.is_up (view.waits [] == 256) l request)
 calls_go view c l request = test view.is_up
   where
     o : LayerOutcome
@@ -34,37 +38,47 @@ pub record IsTold (s : code.LinkState) (v : ShownLink) : Type 0 where
   pub up : s.is_up ≡ up_of v
   pub full : s.is_full ≡ (waiting_of v == 256)
 
-pub told_in : (s : code.LinkState) (v : ShownLink) (x : LinkState) (view : LinkView) → IsTold s v → FitsWhole v x → view.is_up ≡ up_at x → view.waits [] ≡ waits_of x → (c : LayerSettings) (l : Layer) (request : LayerRequest)
+pub told_in : (s : code.LinkState) (v : ShownLink) (x : LinkState) (view : LinkView) → IsTold s v → FitsWhole v x → view.is_up ≡ up_at x → view.waits []
+    ≡ waits_of x → (c : LayerSettings) (l : Layer) (request : LayerRequest)
     → calls view c l request ≡ went view c (asked_where c s.is_up s.is_full l request)
 told_in s v x view told fits up waits c l request =
     calls_go view c l request
     ∙ ap (λ (b : Bool). went view c (asked_where c b (view.waits [] == 256) l request)) (up ∙ sym (told.up ∙ link_up v x fits))
-    ∙ ap (λ (b : Bool). went view c (asked_where c s.is_up b l request)) (ap (λ (n : ℕ). n == 256) waits ∙ sym (told.full ∙ ap (λ (n : ℕ). n == 256) (link_waits v x fits)))
+    ∙ ap (λ (b : Bool). went view c (asked_where c s.is_up b l request))
+    (ap (λ (n : ℕ). n == 256) waits ∙ sym (told.full ∙ ap (λ (n : ℕ). n == 256) (link_waits v x fits)))
 
-pub told_goes : (s : code.LinkState) (v : ShownLink) (x : LinkState) → IsTold s v → FitsWhole v x → (c : LayerSettings) (l : Layer) (request : LayerRequest) → calls (seen_at x) c l request ≡ went (seen_at x) c (asked_where c s.is_up s.is_full l request)
+pub told_goes : (s : code.LinkState) (v : ShownLink) (x : LinkState) → IsTold s v → FitsWhole v x → (c : LayerSettings) (l : Layer) (request : LayerRequest)
+    → calls (seen_at x) c l request ≡ went (seen_at x) c (asked_where c s.is_up s.is_full l request)
 told_goes s v x told fits c l request = told_in s v x (seen_at x) told fits refl refl c l request
 
 -- ---- it is accepted
 
 abbrev pub DrivesLayer : layer_code.Layer → ShownLink → layer_code.Layer → Type 0
-DrivesLayer mid below new = (c : LayerSettings) (l : Layer) (packet : Option PlainPacket) (x : LinkState) → FitsLayer c mid l → mid.sheet ≡ spelled packet → FitsWhole below x → FitsLayer c new (rounds (seen_at x) c (begin l packet)).layer
+DrivesLayer mid below new = (c : LayerSettings) (l : Layer) (packet : Option PlainPacket) (x : LinkState) → FitsLayer c mid l → mid.sheet ≡ spelled packet
+    → FitsWhole below x → FitsLayer c new (rounds (seen_at x) c (begin l packet)).layer
 
 abbrev pub DrivesLink : layer_code.Layer → ShownLink → ShownLink → Type 0
-DrivesLink mid below below₂ = (c : LayerSettings) (l : Layer) (packet : Option PlainPacket) (x : LinkState) → FitsLayer c mid l → mid.sheet ≡ spelled packet → FitsWhole below x → FitsWhole below₂ (after_all x (rounds (seen_at x) c (begin l packet)).put)
+DrivesLink mid below below₂ = (c : LayerSettings) (l : Layer) (packet : Option PlainPacket) (x : LinkState) → FitsLayer c mid l → mid.sheet ≡ spelled packet
+    → FitsWhole below x → FitsWhole below₂ (after_all x (rounds (seen_at x) c (begin l packet)).put)
 
-layer_went : {T : Type 0} (u : T) (c : LayerSettings) (mid new : layer_code.Layer) (below : ShownLink) (x : LinkState) (o : LayerOutcome) → FitsWhole below x → Gives c mid (Ok u) o → DrivesLayer mid below new → LayerGives c new (Ok u) (went (seen_at x) c o)
+layer_went : {T : Type 0} (u : T) (c : LayerSettings) (mid new : layer_code.Layer) (below : ShownLink) (x : LinkState) (o : LayerOutcome) → FitsWhole below x
+    → Gives c mid (Ok u) o → DrivesLayer mid below new → LayerGives c new (Ok u) (went (seen_at x) c o)
 layer_went u c mid new below x (Accepted next packet) fits g drives = drives c next packet x g.0 g.1 fits
 layer_went u c mid new below x (Declined e) fits g drives = cc
 
-link_went : {T : Type 0} (u : T) (c : LayerSettings) (mid : layer_code.Layer) (below below₂ : ShownLink) (x : LinkState) (o : LayerOutcome) → FitsWhole below x → Gives c mid (Ok u) o → DrivesLink mid below below₂ → LinkGives below₂ x (Ok u) (went (seen_at x) c o)
+link_went : {T : Type 0} (u : T) (c : LayerSettings) (mid : layer_code.Layer) (below below₂ : ShownLink) (x : LinkState) (o : LayerOutcome) → FitsWhole below x
+    → Gives c mid (Ok u) o → DrivesLink mid below below₂ → LinkGives below₂ x (Ok u) (went (seen_at x) c o)
 link_went u c mid below below₂ x (Accepted next packet) fits g drives = drives c next packet x g.0 g.1 fits
 link_went u c mid below below₂ x (Declined e) fits g drives = cc
 
-pub drove : {T : Type 0} (u : T) (s : code.LinkState) (old mid new : layer_code.Layer) (below below₂ : ShownLink) (request : LayerRequest) → IsTold s below → (let r : Result T LayerError = Ok u in Answers old mid r s request) → DrivesLayer mid below new → DrivesLink mid below below₂
+pub drove : {T : Type 0} (u : T) (s : code.LinkState) (old mid new : layer_code.Layer) (below below₂ : ShownLink) (request : LayerRequest) → IsTold s below
+    → (let r : Result T LayerError = Ok u in Answers old mid r s request) → DrivesLayer mid below new → DrivesLink mid below below₂
     → (let r : Result T LayerError = Ok u in Drives old below new below₂ r request)
 drove {T = T} u s old mid new below below₂ request told a layers links = record {
-  layer = λ c l x fits link. subst (λ (n : Answered). let r : Result T LayerError = Ok u in LayerGives c new r n) (sym (told_goes s below x told link c l request)) (layer_went u c mid new below x _ link (a.does.gives c l fits) layers);
-  link = λ c l x fits link. subst (λ (n : Answered). let r : Result T LayerError = Ok u in LinkGives below₂ x r n) (sym (told_goes s below x told link c l request)) (link_went u c mid below below₂ x _ link (a.does.gives c l fits) links);
+  layer = λ c l x fits link. subst (λ (n : Answered). let r : Result T LayerError = Ok u in LayerGives c new r n)
+      (sym (told_goes s below x told link c l request)) (layer_went u c mid new below x _ link (a.does.gives c l fits) layers);
+  link = λ c l x fits link. subst (λ (n : Answered). let r : Result T LayerError = Ok u in LinkGives below₂ x r n)
+      (sym (told_goes s below x told link c l request)) (link_went u c mid below below₂ x _ link (a.does.gives c l fits) links);
   layer_stays = λ c l fits. tt;
   link_stays = λ x fits. tt;
   missing = λ none. cc;
@@ -72,12 +86,15 @@ drove {T = T} u s old mid new below below₂ request told a layers links = recor
 
 -- ---- it is refused
 
-pub layer_not : (T : Type 0) {U : Type 0} (r : Result U LayerError) (e : LayerError) (c : LayerSettings) (mid : layer_code.Layer) (view : LinkView) (o : LayerOutcome) → IsErrAnd r (λ f. f ≡ e) → (let x : Result T LayerError = Err e in Gives c mid x o) → LayerGives c mid r (went view c o)
+pub layer_not : (T : Type 0) {U : Type 0} (r : Result U LayerError) (e : LayerError) (c : LayerSettings) (mid : layer_code.Layer) (view : LinkView)
+    (o : LayerOutcome) → IsErrAnd r (λ f. f ≡ e) → (let x : Result T LayerError = Err e in Gives c mid x o) → LayerGives c mid r (went view c o)
 layer_not T (Ok u) e c mid view o is g = absurd is
 layer_not T (Err f) e c mid view (Accepted next packet) is g = is ∙ g
 layer_not T (Err f) e c mid view (Declined d) is g = cc
 
-link_not : (T : Type 0) {U : Type 0} (r : Result U LayerError) (e : LayerError) (c : LayerSettings) (mid : layer_code.Layer) (below₂ : ShownLink) (x : LinkState) (view : LinkView) (o : LayerOutcome) → IsErrAnd r (λ f. f ≡ e) → (let y : Result T LayerError = Err e in Gives c mid y o) → LinkGives below₂ x r (went view c o)
+link_not : (T : Type 0) {U : Type 0} (r : Result U LayerError) (e : LayerError) (c : LayerSettings) (mid : layer_code.Layer) (below₂ : ShownLink)
+    (x : LinkState) (view : LinkView) (o : LayerOutcome) → IsErrAnd r (λ f. f ≡ e) → (let y : Result T LayerError = Err e in Gives c mid y o)
+    → LinkGives below₂ x r (went view c o)
 link_not T (Ok u) e c mid below₂ x view o is g = absurd is
 link_not T (Err f) e c mid below₂ x view (Accepted next packet) is g = tt
 link_not T (Err f) e c mid below₂ x view (Declined d) is g = cc
@@ -90,11 +107,14 @@ same_err : {T : Type 0} (r : Result T LayerError) (e f : LayerError) → IsErrAn
 same_err (Ok x) e f is same = absurd is
 same_err (Err g) e f is same = cc
 
-pub drove_not : {U : Type 0} (T : Type 0) (r : Result U LayerError) (e : LayerError) (s : code.LinkState) (old mid : layer_code.Layer) (below : ShownLink) (request : LayerRequest) → IsTold s below → IsErrAnd r (λ f. f ≡ e) → (let x : Result T LayerError = Err e in Answers old mid x s request)
+pub drove_not : {U : Type 0} (T : Type 0) (r : Result U LayerError) (e : LayerError) (s : code.LinkState) (old mid : layer_code.Layer) (below : ShownLink)
+    (request : LayerRequest) → IsTold s below → IsErrAnd r (λ f. f ≡ e) → (let x : Result T LayerError = Err e in Answers old mid x s request)
     → Drives old below mid below r request
 drove_not T r e s old mid below request told is a = record {
-  layer = λ c l x fits link. subst (λ (n : Answered). LayerGives c mid r n) (sym (told_goes s below x told link c l request)) (layer_not T r e c mid (seen_at x) _ is (a.does.gives c l fits));
-  link = λ c l x fits link. subst (λ (n : Answered). LinkGives below x r n) (sym (told_goes s below x told link c l request)) (link_not T r e c mid below x (seen_at x) _ is (a.does.gives c l fits));
+  layer = λ c l x fits link. subst (λ (n : Answered). LayerGives c mid r n) (sym (told_goes s below x told link c l request))
+      (layer_not T r e c mid (seen_at x) _ is (a.does.gives c l fits));
+  link = λ c l x fits link. subst (λ (n : Answered). LinkGives below x r n) (sym (told_goes s below x told link c l request))
+      (link_not T r e c mid below x (seen_at x) _ is (a.does.gives c l fits));
   layer_stays = λ c l fits. on_err r (a.does.stays c l fits);
   link_stays = λ x fits. on_err r fits;
   missing = λ none. a.does.missing (ap (λ (f : LayerError). let x : Result T LayerError = Err f in x) (same_err r e error.NoMemory is none));
@@ -102,29 +122,36 @@ drove_not T r e s old mid below request told is a = record {
 
 -- ---- what waits is pulled, and nothing else
 
-pulls_go : (c : LayerSettings) (s : code.LinkState) (l : Layer) → s.is_up ≡ true → l.restarting ≡ false → asked_where c s.is_up s.is_full l PullsAll ≡ Accepted l None
+pulls_go : (c : LayerSettings) (s : code.LinkState) (l : Layer) → s.is_up ≡ true → l.restarting ≡ false → asked_where c s.is_up s.is_full l PullsAll
+    ≡ Accepted l None
 pulls_go c s l up ready =
     ap (λ (b : Bool). if b then layer_outcome c s.is_full l PullsAll else Declined error.NotUp) up
     ∙ ap (λ (b : Bool). outcome_in c s.is_full b l.restarts l.circuits PullsAll) ready
     ∙ ap (λ (b : Bool). Accepted (record { restarting = b; restarts = l.restarts; circuits = l.circuits }) None) (sym ready)
 
 pub pulled : (s : code.LinkState) (old new : layer_code.Layer) (below below₂ : ShownLink) → IsTold s below → s.is_up ≡ true → old.restarting ≡ false
-    → ((c : LayerSettings) (p : Putting) (x : LinkState) → FitsLayer c old p.layer → FitsWhole below (after_all x p.put) → FitsLayer c new (rounds (seen_at x) c p).layer)
-    → ((c : LayerSettings) (p : Putting) (x : LinkState) → FitsLayer c old p.layer → FitsWhole below (after_all x p.put) → FitsWhole below₂ (after_all x (rounds (seen_at x) c p).put))
+    → ((c : LayerSettings) (p : Putting) (x : LinkState) → FitsLayer c old p.layer → FitsWhole below (after_all x p.put)
+    → FitsLayer c new (rounds (seen_at x) c p).layer)
+    → ((c : LayerSettings) (p : Putting) (x : LinkState) → FitsLayer c old p.layer → FitsWhole below (after_all x p.put)
+    → FitsWhole below₂ (after_all x (rounds (seen_at x) c p).put))
     → (let r : Result Unit LayerError = Ok tt in Drives old below new below₂ r PullsAll)
 pulled s old new below below₂ told up ready layers links = record {
-  layer = λ c l x fits link. subst (λ (n : Answered). let r : Result Unit LayerError = Ok tt in LayerGives c new r n) (sym (goes c l x fits link)) (layers c (begin l None) x fits link);
-  link = λ c l x fits link. subst (λ (n : Answered). let r : Result Unit LayerError = Ok tt in LinkGives below₂ x r n) (sym (goes c l x fits link)) (links c (begin l None) x fits link);
+  layer = λ c l x fits link. subst (λ (n : Answered). let r : Result Unit LayerError = Ok tt in LayerGives c new r n) (sym (goes c l x fits link))
+      (layers c (begin l None) x fits link);
+  link = λ c l x fits link. subst (λ (n : Answered). let r : Result Unit LayerError = Ok tt in LinkGives below₂ x r n) (sym (goes c l x fits link))
+      (links c (begin l None) x fits link);
   layer_stays = λ c l fits. tt;
   link_stays = λ x fits. tt;
   missing = λ none. cc;
 }
   where
-    goes : (c : LayerSettings) (l : Layer) (x : LinkState) → FitsLayer c old l → FitsWhole below x → calls (seen_at x) c l PullsAll ≡ Went (rounds (seen_at x) c (begin l None))
+    goes : (c : LayerSettings) (l : Layer) (x : LinkState) → FitsLayer c old l → FitsWhole below x → calls (seen_at x) c l PullsAll
+        ≡ Went (rounds (seen_at x) c (begin l None))
     goes c l x fits link = told_goes s below x told link c l PullsAll ∙ ap (went (seen_at x) c) (pulls_go c s l up (sym fits.restarting ∙ ready))
 
 pub pulled_not : (s : code.LinkState) (v : layer_code.Layer) (below : ShownLink) (e : LayerError) → IsTold s below → e ≢ error.NoMemory
-    → ((c : LayerSettings) (l : Layer) (request : LayerRequest) → FitsLayer c v l → asked_where c s.is_up s.is_full l request ≡ Declined e) → (let r : Result Unit LayerError = Err e in Drives v below v below r PullsAll)
+    → ((c : LayerSettings) (l : Layer) (request : LayerRequest) → FitsLayer c v l → asked_where c s.is_up s.is_full l request ≡ Declined e)
+    → (let r : Result Unit LayerError = Err e in Drives v below v below r PullsAll)
 pulled_not s v below e told named refused = record {
   layer = λ c l x fits link. subst (λ (n : Answered). let r : Result Unit LayerError = Err e in LayerGives c v r n) (sym (goes c l x fits link)) refl;
   link = λ c l x fits link. subst (λ (n : Answered). let r : Result Unit LayerError = Err e in LinkGives below x r n) (sym (goes c l x fits link)) refl;
@@ -151,7 +178,8 @@ refusal_went : (view : LinkView) (c : LayerSettings) (o : LayerOutcome) → decl
 refusal_went view c (Accepted next packet) = refl
 refusal_went view c (Declined e) = refl
 
-pub judged_for : (s : code.LinkState) (v : ShownLink) (y : layer_code.Layer) (request : LayerRequest) (o : Option LayerError) → IsTold s v → ((c : LayerSettings) (l : Layer) → FitsLayer c y l → o ≡ declined_for (asked_where c s.is_up s.is_full l request))
+pub judged_for : (s : code.LinkState) (v : ShownLink) (y : layer_code.Layer) (request : LayerRequest) (o : Option LayerError) → IsTold s v
+    → ((c : LayerSettings) (l : Layer) → FitsLayer c y l → o ≡ declined_for (asked_where c s.is_up s.is_full l request))
     → (c : LayerSettings) (l : Layer) (x : LinkState) → FitsLayer c y l → FitsWhole v x → o ≡ refusal_of (calls (seen_at x) c l request)
 judged_for s v y request o told is c l x fits link =
     is c l fits ∙ refusal_went (seen_at x) c (asked_where c s.is_up s.is_full l request) ∙ ap refusal_of (sym (told_goes s v x told link c l request))
@@ -167,7 +195,8 @@ module _ (v w : LinkView) (c : LayerSettings) (p : PlainPacket) (same : (put : L
       ap (λ (n : ℕ). if nat_lt n 8 then with_pulled (behind p s) (layer_pulled c s.layer h) (layer_pulled c s.layer h).packet else behind p s) (same s.put)
       ∙ by (nat_lt (w.waits s.put) 8) (layer_pulled c s.layer h).packet
     where
-      by : (b : Bool) (o : Option PlainPacket) → (if b then with_pulled (behind p s) (layer_pulled c s.layer h) o else behind p s) ≡ behind p (if b then with_pulled s (layer_pulled c s.layer h) o else s)
+      by : (b : Bool) (o : Option PlainPacket) → (if b then with_pulled (behind p s) (layer_pulled c s.layer h) o else behind p s)
+          ≡ behind p (if b then with_pulled s (layer_pulled c s.layer h) o else s)
       by true None = refl
       by true (Some q) = refl
       by false o = refl

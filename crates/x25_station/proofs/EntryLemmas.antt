@@ -29,25 +29,31 @@ pub behind_notices : (l : Layer) (h count : ℕ) (b : PlainBeside) (o : Option �
 behind_notices l h zero b o = beside_notices b o
 behind_notices l h (suc count) b o = refl
 
-pub told_entries : (l : Layer) (notices : List LayerNotice) (others : List StationEntry) → layer_entries others ≡ [] → layer_entries (station_told l notices ++ others) ≡ entries_told l notices
+pub told_entries : (l : Layer) (notices : List LayerNotice) (others : List StationEntry) → layer_entries others ≡ []
+    → layer_entries (station_told l notices ++ others) ≡ entries_told l notices
 told_entries l [] others none = none
-told_entries l (on_channel h notice ∷ notices) others none = ap (λ (es : List Entry). record { channel = h; name = name_of l h; said = Told notice } ∷ es) (told_entries l notices others none)
+told_entries l (on_channel h notice ∷ notices) others none =
+    ap (λ (es : List Entry). record { channel = h; name = name_of l h; said = Told notice } ∷ es) (told_entries l notices others none)
 told_entries l (restarted cause diagnostic ∷ notices) others none = told_entries l notices others none
 told_entries l (restart_done ∷ notices) others none = told_entries l notices others none
 told_entries l (layer_fault diagnostic ∷ notices) others none = told_entries l notices others none
 
-pub told_notices : (l : Layer) (notices : List LayerNotice) (others : List StationEntry) → layer_notices others ≡ [] → layer_notices (station_told l notices ++ others) ≡ notices
+pub told_notices : (l : Layer) (notices : List LayerNotice) (others : List StationEntry) → layer_notices others ≡ []
+    → layer_notices (station_told l notices ++ others) ≡ notices
 told_notices l [] others none = none
 told_notices l (on_channel h notice ∷ notices) others none = ap (λ (ns : List LayerNotice). on_channel h notice ∷ ns) (told_notices l notices others none)
-told_notices l (restarted cause diagnostic ∷ notices) others none = ap (λ (ns : List LayerNotice). restarted cause diagnostic ∷ ns) (told_notices l notices others none)
+told_notices l (restarted cause diagnostic ∷ notices) others none =
+    ap (λ (ns : List LayerNotice). restarted cause diagnostic ∷ ns) (told_notices l notices others none)
 told_notices l (restart_done ∷ notices) others none = ap (λ (ns : List LayerNotice). restart_done ∷ ns) (told_notices l notices others none)
 told_notices l (layer_fault diagnostic ∷ notices) others none = ap (λ (ns : List LayerNotice). layer_fault diagnostic ∷ ns) (told_notices l notices others none)
 
-pub asked_entries : (c : LayerSettings) (l next : Layer) (request : LayerRequest) → layer_entries (station_asked c l next request) ≡ entries_asked c l next request
+pub asked_entries : (c : LayerSettings) (l next : Layer) (request : LayerRequest) → layer_entries (station_asked c l next request)
+    ≡ entries_asked c l next request
 asked_entries c l next (Asks h request) = refl
 asked_entries c l next (Dials called calling user proposal) = by (free_channel c.circuit.role l.circuits c.channels)
   where
-    by : (o : Option ℕ) → layer_entries (of_channels (entry_of_dial next o (Calls called calling user proposal))) ≡ entry_of_dial next o (Calls called calling user proposal)
+    by : (o : Option ℕ) → layer_entries (of_channels (entry_of_dial next o (Calls called calling user proposal)))
+        ≡ entry_of_dial next o (Calls called calling user proposal)
     by None = refl
     by (Some h) = refl
 asked_entries c l next (Restarts cause diagnostic) = refl

@@ -1,5 +1,6 @@
 -- A packet whose fields fit is read again from its octets.
-use Rattle.std.proofs.Common.{◌≡◌, ℕ, ◌+◌, ◌*◌, ◌/◌, ◌%◌, ◌<◌, ◌≤◌, List, [], ◌∷◌, ◌++◌, length, Option, Some, None, Ok, Bool, true, false, not, ◌||◌, refl, sym, ap, subst, ◌∙◌, arith, length-append}
+use Rattle.std.proofs.Common.{◌≡◌, ℕ, ◌+◌, ◌*◌, ◌/◌, ◌%◌, ◌<◌, ◌≤◌, List, [], ◌∷◌, ◌++◌, length, Option, Some, None, Ok, Bool, true, false, not, ◌||◌, refl}
+use Rattle.std.proofs.Common.{sym, ap, subst, ◌∙◌, arith, length-append}
 use Rattle.std.specs.List.{list_all}
 use Rattle.std.specs.Prelude.{◌&&◌}
 use Rattle.std.proofs.lemmas.Bool.{and_parts, leb-true}
@@ -7,8 +8,10 @@ use Rattle.std.proofs.lemmas.List.Elements.{All-nil, All-cons, All-append}
 use Rattle.std.proofs.lemmas.List.Folds.{list_all-append}
 use Rattle.x25_bits.specs.Bits.{bit}
 use Rattle.x25_packet.specs.Digits.{packed, is_digit, IsAddress}
-use Rattle.x25_packet.specs.Packet.{PlainPacket, call, accept, clear, clear_conf, user_data, rr, rnr, interrupt, interrupt_conf, reset, reset_conf, restart, restart_conf}
-use Rattle.x25_packet.specs.Spelling.{channel_of, HasChannel, moved_to, format_of, type_of, call_body, accept_body, body_of, header_of, spelling_of, IsInRange, IsWithoutD, longest_user}
+use Rattle.x25_packet.specs.Packet.{PlainPacket, call, accept, clear, clear_conf, user_data, rr, rnr, interrupt, interrupt_conf, reset, reset_conf, restart}
+use Rattle.x25_packet.specs.Packet.{restart_conf}
+use Rattle.x25_packet.specs.Spelling.{channel_of, HasChannel, moved_to, format_of, type_of, call_body, accept_body, body_of, header_of, spelling_of, IsInRange}
+use Rattle.x25_packet.specs.Spelling.{IsWithoutD, longest_user}
 use Rattle.x25_packet.specs.declared.facilities.Directions.{Directions}
 use Rattle.x25_packet.specs.Facilities.{facility, field_of, AreWithin, IfGiven, IsFacilityField}
 use Rattle.x25_packet.specs.laws.ReadingLaw.{ReadsWhatIsSpelled}
@@ -22,7 +25,8 @@ IsOctet octet = octet < 256
 
 -- with as much user data of a CALL as it may have
 abbrev pub Fits : Bool → Bool → PlainPacket → Type 0
-Fits wide long_data (call h called calling facilities user) = IsAddress called × IsAddress calling × IsFacilityField facilities × (length user ≤ longest_user long_data) × AreOctets user
+Fits wide long_data (call h called calling facilities user) =
+    IsAddress called × IsAddress calling × IsFacilityField facilities × (length user ≤ longest_user long_data) × AreOctets user
 Fits wide long_data (accept h facilities) = IsFacilityField facilities
 Fits wide long_data (clear h cause diagnostic) = (cause < 256) × (diagnostic < 256)
 Fits wide long_data (clear_conf h) = Unit {0}
@@ -97,10 +101,12 @@ length_packed (high ∷ []) = refl
 length_packed (high ∷ low ∷ digits) = let rest = length_packed digits in omega arith
 
 -- a facility is three octets or none, and each is low
-facility_octets : (code least most : ℕ) (values : Option Directions) → code < 256 → most < 256 → IfGiven values (AreWithin least most) → AreOctets (facility code values)
+facility_octets : (code least most : ℕ) (values : Option Directions) → code < 256 → most < 256 → IfGiven values (AreWithin least most)
+    → AreOctets (facility code values)
 facility_octets code least most None low high within = no_octets
 facility_octets code least most (Some values) low high within =
-    octets_more code (values.called ∷ values.calling ∷ []) low (two values.called values.calling (omega (arith, within.called_most, high)) (omega (arith, within.calling_most, high)))
+    octets_more code (values.called ∷ values.calling ∷ []) low
+    (two values.called values.calling (omega (arith, within.called_most, high)) (omega (arith, within.calling_most, high)))
 
 facility_short : (code : ℕ) (values : Option Directions) → length (facility code values) ≤ 3
 facility_short code None = omega arith
@@ -110,20 +116,24 @@ pub field_octets : (field : List ℕ) → IsFacilityField field → AreOctets fi
 field_octets field is =
     subst AreOctets (sym is.2)
     (All-append IsOctet (facility 66 is.0.packet_size) (facility 67 is.0.window_size)
-    (facility_octets 66 4 12 is.0.packet_size (omega arith) (omega arith) is.1.sizes) (facility_octets 67 1 7 is.0.window_size (omega arith) (omega arith) is.1.windows))
+    (facility_octets 66 4 12 is.0.packet_size (omega arith) (omega arith) is.1.sizes)
+    (facility_octets 67 1 7 is.0.window_size (omega arith) (omega arith) is.1.windows))
 
 pub field_short : (field : List ℕ) → IsFacilityField field → length field ≤ 6
 field_short field is =
     subst (λ (x : List ℕ). length x ≤ 6) (sym is.2)
-    (let a : length (field_of is.0) ≡ length (facility 66 is.0.packet_size) + length (facility 67 is.0.window_size) = length-append (facility 66 is.0.packet_size) (facility 67 is.0.window_size) in
+    (let a : length (field_of is.0) ≡ length (facility 66 is.0.packet_size)
+    + length (facility 67 is.0.window_size) = length-append (facility 66 is.0.packet_size) (facility 67 is.0.window_size) in
     let b : length (facility 66 is.0.packet_size) ≤ 3 = facility_short 66 is.0.packet_size in
     let d : length (facility 67 is.0.window_size) ≤ 3 = facility_short 67 is.0.window_size in
     omega (arith, a, b, d))
 
-call_octets : (called calling facilities user : List ℕ) → IsAddress called → IsAddress calling → IsFacilityField facilities → AreOctets user → AreOctets (call_body called calling facilities user)
+call_octets : (called calling facilities user : List ℕ) → IsAddress called → IsAddress calling → IsFacilityField facilities → AreOctets user
+    → AreOctets (call_body called calling facilities user)
 call_octets called calling facilities user a b field octets =
     let few : length facilities ≤ 6 = field_short facilities field in
-    let both : list_all is_digit (called ++ calling) ≡ true = list_all-append is_digit called calling ∙ ap (λ (x : Bool). x && list_all is_digit calling) a.decimal ∙ b.decimal in
+    let both : list_all is_digit (called ++ calling) ≡ true =
+    list_all-append is_digit called calling ∙ ap (λ (x : Bool). x && list_all is_digit calling) a.decimal ∙ b.decimal in
     octets_more (16 * length calling + length called) (packed (called ++ calling) ++ (length facilities ∷ facilities ++ user)) (omega (arith, a.short, b.short))
     (All-append IsOctet (packed (called ++ calling)) (length facilities ∷ facilities ++ user) (packed_octets (called ++ calling) both)
     (octets_more (length facilities) (facilities ++ user) (omega (arith, few)) (All-append IsOctet facilities user (field_octets facilities field) octets)))
@@ -166,8 +176,10 @@ header_octets : (wide long_data : Bool) (p : PlainPacket) → Fits wide long_dat
 header_octets wide long_data p f on =
     let h : channel_of p ≤ 4095 = channel_low p on in
     let first : format_of p ≤ 13 = format_low p in
-    octets_more (16 * format_of p + channel_of p / 256) (channel_of p % 256 ∷ type_of p ∷ []) (let e : 16 * format_of p + channel_of p / 256 < 256 = omega (arith, h, first) in e)
-    (octets_more (channel_of p % 256) (type_of p ∷ []) (let e : channel_of p % 256 < 256 = omega (arith, h) in e) (octets_more (type_of p) [] (type_low wide long_data p f) no_octets))
+    octets_more (16 * format_of p + channel_of p / 256) (channel_of p % 256 ∷ type_of p ∷ [])
+    (let e : 16 * format_of p + channel_of p / 256 < 256 = omega (arith, h, first) in e)
+    (octets_more (channel_of p % 256) (type_of p ∷ []) (let e : channel_of p % 256 < 256 = omega (arith, h) in e)
+    (octets_more (type_of p) [] (type_low wide long_data p f) no_octets))
 
 -- ---- length
 
@@ -183,7 +195,8 @@ body_short : (wide long_data : Bool) (p : PlainPacket) → Fits wide long_data p
 body_short wide long_data (call h called calling facilities user) f =
     let a : length (packed (called ++ calling)) ≡ (length (called ++ calling) + 1) / 2 = length_packed (called ++ calling) in
     let b : length (called ++ calling) ≡ length called + length calling = length-append called calling in
-    let d : length (packed (called ++ calling) ++ (length facilities ∷ facilities ++ user)) ≡ length (packed (called ++ calling)) + length (length facilities ∷ facilities ++ user) =
+    let d : length (packed (called ++ calling) ++ (length facilities ∷ facilities ++ user)) ≡ length (packed (called ++ calling))
+    + length (length facilities ∷ facilities ++ user) =
     length-append (packed (called ++ calling)) (length facilities ∷ facilities ++ user) in
     let e : length (facilities ++ user) ≡ length facilities + length user = length-append facilities user in
     let few : length facilities ≤ 6 = field_short facilities f.2 in
@@ -215,7 +228,8 @@ without_d long_data (reset_conf h) f = tt
 without_d long_data (restart cause diagnostic) f = tt
 without_d long_data restart_conf f = tt
 
-pub readable : ReadsWhatIsSpelled → TakesWhatIsSpelled → (wide long_data : Bool) (p : PlainPacket) → Fits wide long_data p → IsOn p → IsReadable wide long_data p
+pub readable : ReadsWhatIsSpelled → TakesWhatIsSpelled → (wide long_data : Bool) (p : PlainPacket) → Fits wide long_data p → IsOn p
+    → IsReadable wide long_data p
 readable reads spelled wide long_data p f on =
     let short : length (body_of p) ≤ 4096 = body_short wide long_data p f in
     record {

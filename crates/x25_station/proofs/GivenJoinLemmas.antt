@@ -59,7 +59,8 @@ given_joined runs tells c g link w request step up few is = at (is_up link.phase
     Goal : Step → Type 0
     Goal k = (pulled : List ℕ) × AreChannels c.channels pulled × IsGivenJoined c g w (moves_all lc w (move ∷ pulls_of pulled)) (alone link) w.back k
 
-    owed : (next : Layer) (put : Option PlainPacket) → is_up link.phase ≡ true → layer_outcome lc full w.near.layer request ≡ Accepted next put → AreTaken lk g (option_to_list put) (alone link)
+    owed : (next : Layer) (put : Option PlainPacket) → is_up link.phase ≡ true → layer_outcome lc full w.near.layer request ≡ Accepted next put
+        → AreTaken lk g (option_to_list put) (alone link)
     owed next None up_link found = tt
     owed next (Some p) up_link found = (accepts link up_link (below (waits link.outgoing) few (has_room lc full w.near.layer request next p found)), tt)
 
@@ -67,22 +68,31 @@ given_joined runs tells c g link w request step up few is = at (is_up link.phase
         → Goal (with_given c g (alone link) (rounds view lc (begin next put)) (station_asked lc w.near.layer next request))
     went_with next put up_link found =
         let s : Putting = rounds view lc (begin next put) in
-        let all : moves lc w move ≡ requested lc w request (Accepted next put) = ap (λ (o : Bool). moves_in lc w o move) up ∙ ap (λ (o : LayerOutcome). requested lc w request o) found in
+        let all : moves lc w move ≡ requested lc w request (Accepted next put) =
+        ap (λ (o : Bool). moves_in lc w o move) up ∙ ap (λ (o : LayerOutcome). requested lc w request o) found in
         let called : calls view lc w.near.layer request ≡ Went s =
-        ap (λ (b : Bool). if b then went view lc (layer_outcome lc full w.near.layer request) else Refuses layer_error.NotUp) up_link ∙ ap (λ (o : LayerOutcome). went view lc o) found in
+        ap (λ (b : Bool). if b then went view lc (layer_outcome lc full w.near.layer request) else Refuses layer_error.NotUp) up_link
+        ∙ ap (λ (o : LayerOutcome). went view lc o) found in
         let r = runs view lc w request s up called in
         let run = r.2 in (
           r.0,
           r.1,
           record {
             packets = s.put;
-            link = record { accepted = rounds_given tells (backlog next.circuits lc.channels.count) lk g link lc (begin next put) up_link (owed next put up_link found); link = refl; out = refl };
+            link = record {
+              accepted = rounds_given tells (backlog next.circuits lc.channels.count) lk g link lc (begin next put) up_link
+                  (owed next put up_link found);
+              link = refl;
+              out = refl;
+            };
             layer = record {
               layer = run.layer;
               given = run.given;
               out = run.out;
-              entries = run.entries ∙ (ap (λ (x : TwoLayers). x.near.entries) all ∙ ap (λ (es : List Entry). w.near.entries ++ es) (sym (asked_entries lc w.near.layer next request)));
-              told = run.told ∙ (ap (λ (x : TwoLayers). x.near.told) all ∙ sym (append-nil w.near.told) ∙ ap (λ (ns : List LayerNotice). w.near.told ++ ns) (sym (asked_notices lc w.near.layer next request)));
+              entries = run.entries ∙ (ap (λ (x : TwoLayers). x.near.entries) all
+                  ∙ ap (λ (es : List Entry). w.near.entries ++ es) (sym (asked_entries lc w.near.layer next request)));
+              told = run.told ∙ (ap (λ (x : TwoLayers). x.near.told) all ∙ sym (append-nil w.near.told)
+                  ∙ ap (λ (ns : List LayerNotice). w.near.told ++ ns) (sym (asked_notices lc w.near.layer next request)));
               up = run.up;
               far = run.far;
             };
@@ -91,8 +101,10 @@ given_joined runs tells c g link w request step up few is = at (is_up link.phase
         )
 
     at : (b : Bool) → is_up link.phase ≡ b → (o : LayerOutcome) → layer_outcome lc full w.near.layer request ≡ o
-        → gave c g taken (alone link) (entries_of_outcome lc w.near.layer request o) (if b then went view lc o else Refuses layer_error.NotUp) ≡ Did step → Goal step
+        → gave c g taken (alone link) (entries_of_outcome lc w.near.layer request o) (if b then went view lc o else Refuses layer_error.NotUp) ≡ Did step
+        → Goal step
     at false up_link o found answer = absurd (refused_did (error.Layer layer_error.NotUp) step answer)
     at true up_link (Declined e) found answer = absurd (refused_did (error.Layer e) step answer)
     at true up_link (Accepted next put) found answer =
-        subst (λ (k : Step). Goal k) (did_is taken (with_given c g (alone link) (rounds view lc (begin next put)) (station_asked lc w.near.layer next request)) step answer) (went_with next put up_link found)
+        subst (λ (k : Step). Goal k) (did_is taken (with_given c g (alone link) (rounds view lc (begin next put)) (station_asked lc w.near.layer next request))
+        step answer) (went_with next put up_link found)

@@ -1,5 +1,6 @@
 -- A packet that is read is read as it with what is given beside it too.
-use Rattle.std.proofs.Common.{◌≡◌, ℕ, ◌+◌, ◌*◌, ◌/◌, ◌%◌, ◌<◌, ◌≤◌, List, [], ◌∷◌, ◌++◌, length, Bool, true, false, nat_le, not, inl, sym, ap, ap₂, subst, ◌∙◌, arith, length-append}
+use Rattle.std.proofs.Common.{◌≡◌, ℕ, ◌+◌, ◌*◌, ◌/◌, ◌%◌, ◌<◌, ◌≤◌, List, [], ◌∷◌, ◌++◌, length, Bool, true, false, nat_le, not, inl, sym, ap, ap₂, subst, ◌∙◌}
+use Rattle.std.proofs.Common.{arith, length-append}
 use Rattle.std.specs.List.{list_all}
 use Rattle.std.specs.Prelude.{◌&&◌, is_some}
 use Rattle.std.proofs.lemmas.Bool.{and_parts, leb-true}
@@ -8,7 +9,7 @@ use Rattle.std.proofs.lemmas.List.Folds.{list_all-append}
 use Rattle.x25_bits.specs.Bits.{bit}
 use Rattle.x25_packet.specs.Digits.{packed, is_digit}
 use Rattle.x25_packet.specs.Facilities.{IsFacilityField}
-use Rattle.x25_packet.specs.Packet.{PlainPacket, call, accept, clear, clear_conf, user_data, rr, rnr, interrupt, interrupt_conf, reset, reset_conf, restart, restart_conf}
+use Rattle.x25_packet.specs.Packet.{PlainPacket, call, accept, clear}
 use Rattle.x25_packet.specs.Spelling.{IsInRange, addresses, body_of, header_of, longest_user, spelling_of}
 use Rattle.x25_packet.specs.laws.ReadingLaw.{ReadsWhatIsSpelled}
 use Rattle.x25_packet.specs.Classes.{are_facilities, none_own, own_in}
@@ -60,7 +61,8 @@ first_low : (d : Bool) (h : ℕ) → h ≤ 4095 → 128 * bit false + 64 * bit d
 first_low d h high = let b : bit d ≤ 1 = bit_low d in omega (arith, b, high)
 
 -- the first three octets, and what follows them
-headed_octets : (d : Bool) (h kind : ℕ) (rest : List ℕ) → h ≤ 4095 → kind < 256 → AreOctets rest → AreOctets ((128 * bit false + 64 * bit d + 16 + h / 256) ∷ h % 256 ∷ kind ∷ rest)
+headed_octets : (d : Bool) (h kind : ℕ) (rest : List ℕ) → h ≤ 4095 → kind < 256 → AreOctets rest
+    → AreOctets ((128 * bit false + 64 * bit d + 16 + h / 256) ∷ h % 256 ∷ kind ∷ rest)
 headed_octets d h kind rest high low all =
     octets_more (128 * bit false + 64 * bit d + 16 + h / 256) (h % 256 ∷ kind ∷ rest) (first_low d h high)
     (octets_more (h % 256) (kind ∷ rest) (let e : h % 256 < 256 = omega arith in e) (octets_more kind rest low all))
@@ -84,7 +86,8 @@ module _ (read : WrittenIsRead) (wide long_data : Bool) (g : PlainGiven) (allowe
   both_octets : (field : List ℕ) → IsFacilityField field → AreOctets (field ++ g.facilities)
   both_octets field is = All-append IsOctet field g.facilities (field_octets field is) octets.0
 
-  call_read : (h : ℕ) (called calling field user : List ℕ) → (let v = call h called calling field user in IsInRange (longest_user long_data) v → IsReadable wide long_data v → IsReadInAll long_data (written g v) v)
+  call_read : (h : ℕ) (called calling field user : List ℕ)
+      → (let v = call h called calling field user in IsInRange (longest_user long_data) v → IsReadable wide long_data v → IsReadInAll long_data (written g v) v)
   call_read h called calling field user range r =
       let v = call h called calling field user in
       let most = longest_user long_data in
@@ -92,18 +95,23 @@ module _ (read : WrittenIsRead) (wide long_data : Bool) (g : PlainGiven) (allowe
       let few = range.4 in
       let digits = packed (called ++ calling) in
       let given = field ++ g.facilities in
-      let both : list_all is_digit (called ++ calling) ≡ true = list_all-append is_digit called calling ∙ ap (λ (x : Bool). x && list_all is_digit calling) range.1.decimal ∙ range.2.decimal in
-      let of_user : AreOctets user = behind (length field ∷ field) user (behind (addresses called calling) (length field ∷ field ++ user) (behind (header_of v) (body_of v) r.octets)) in
+      let both : list_all is_digit (called ++ calling) ≡ true =
+      list_all-append is_digit called calling ∙ ap (λ (x : Bool). x && list_all is_digit calling) range.1.decimal ∙ range.2.decimal in
+      let of_user : AreOctets user = behind (length field ∷ field) user
+      (behind (addresses called calling) (length field ∷ field ++ user) (behind (header_of v) (body_of v) r.octets)) in
       let all : AreOctets (written g v) =
       headed_octets g.d h 11 ((16 * length calling + length called) ∷ digits ++ (length given ∷ given ++ user)) range.0.1 (omega arith)
-      (octets_more (16 * length calling + length called) (digits ++ (length given ∷ given ++ user)) (let a = range.1.short in let b = range.2.short in omega (arith, a, b))
-      (All-append IsOctet digits (length given ∷ given ++ user) (packed_octets (called ++ calling) both) (fields_octets given user (both_few field range.3) (both_octets field range.3) of_user))) in
+      (octets_more (16 * length calling + length called) (digits ++ (length given ∷ given ++ user))
+      (let a = range.1.short in let b = range.2.short in omega (arith, a, b))
+      (All-append IsOctet digits (length given ∷ given ++ user) (packed_octets (called ++ calling) both)
+      (fields_octets given user (both_few field range.3) (both_octets field range.3) of_user))) in
       record {
         octets = all;
         short = (
             let a : length digits ≡ (length (called ++ calling) + 1) / 2 = length_packed (called ++ calling) in
             let b : length (called ++ calling) ≡ length called + length calling = length-append called calling in
-            let d : length (digits ++ (length given ∷ given ++ user)) ≡ length digits + length (length given ∷ given ++ user) = length-append digits (length given ∷ given ++ user) in
+            let d : length (digits ++ (length given ∷ given ++ user)) ≡ length digits + length (length given ∷ given ++ user) =
+            length-append digits (length given ∷ given ++ user) in
             let e : length (length given ∷ given ++ user) ≤ 238 = fields_short given user (both_few field range.3) (omega (arith, few, low)) in
             let one = range.1.short in
             let two = range.2.short in
@@ -119,14 +127,17 @@ module _ (read : WrittenIsRead) (wide long_data : Bool) (g : PlainGiven) (allowe
       let given = field ++ g.facilities in
       let all : AreOctets (written g v) =
       headed_octets g.d h 15 (0 ∷ length given ∷ given ++ g.user) range.0.1 (omega arith)
-      (octets_more 0 (length given ∷ given ++ g.user) (omega arith) (fields_octets given g.user (both_few field range.1) (both_octets field range.1) octets.1)) in
+      (octets_more 0 (length given ∷ given ++ g.user) (omega arith) (fields_octets given g.user (both_few field range.1) (both_octets field range.1) octets.1))
+      in
       record {
         octets = all;
-        short = (let e : length (length given ∷ given ++ g.user) ≤ 238 = fields_short given g.user (both_few field range.1) (user_few g allowed) in omega (arith, e));
+        short = (let e : length (length given ∷ given ++ g.user) ≤ 238 = fields_short given g.user (both_few field range.1) (user_few g allowed) in
+            omega (arith, e));
         reads = read g most v low allowed range tt all;
       }
 
-  clear_read : (h cause diagnostic : ℕ) → (let v = clear h cause diagnostic in IsInRange (longest_user long_data) v → IsReadable wide long_data v → IsReadInAll long_data (written g v) v)
+  clear_read : (h cause diagnostic : ℕ)
+      → (let v = clear h cause diagnostic in IsInRange (longest_user long_data) v → IsReadable wide long_data v → IsReadInAll long_data (written g v) v)
   clear_read h cause diagnostic range r =
       let v = clear h cause diagnostic in
       let most = longest_user long_data in
@@ -136,11 +147,13 @@ module _ (read : WrittenIsRead) (wide long_data : Bool) (g : PlainGiven) (allowe
       let all : AreOctets (written g v) =
       headed_octets false h 19 (cause ∷ diagnostic ∷ 0 ∷ length g.facilities ∷ g.facilities ++ g.user) range.1 (omega arith)
       (octets_more cause (diagnostic ∷ 0 ∷ length g.facilities ∷ g.facilities ++ g.user) (All-head IsOctet cause (diagnostic ∷ []) body)
-      (octets_more diagnostic (0 ∷ length g.facilities ∷ g.facilities ++ g.user) (All-head IsOctet diagnostic [] (All-tail IsOctet cause (diagnostic ∷ []) body))
+      (octets_more diagnostic (0 ∷ length g.facilities ∷ g.facilities ++ g.user)
+      (All-head IsOctet diagnostic [] (All-tail IsOctet cause (diagnostic ∷ []) body))
       (octets_more 0 (length g.facilities ∷ g.facilities ++ g.user) (omega arith) (fields_octets g.facilities g.user few octets.0 octets.1)))) in
       record {
         octets = all;
-        short = (let e : length (length g.facilities ∷ g.facilities ++ g.user) ≤ 238 = fields_short g.facilities g.user few (user_few g allowed) in omega (arith, e));
+        short = (let e : length (length g.facilities ∷ g.facilities ++ g.user) ≤ 238 = fields_short g.facilities g.user few (user_few g allowed) in
+            omega (arith, e));
         reads = read g most v low allowed range tt all;
       }
 
@@ -169,11 +182,15 @@ given_heard reads spelled alike read form c l g v wide allowed octets readable o
     let within = wider most (user_short c.long_data) v readable.in_range in
     let same : o ≡ written g v = given_written reads spelled alike g v within readable.octets in
     let r = given_read reads spelled alike read c.wide c.long_data g v allowed octets readable in
-    let is : beside_in true o ≡ told g v = subst (λ (x : List ℕ). beside_in true x ≡ told g v) (sym same) (given_told reads alike read form g v allowed within (subst AreOctets same r.octets) (λ e. other (same ∙ e))) in
+    let is : beside_in true o ≡ told g v = subst (λ (x : List ℕ). beside_in true x ≡ told g v) (sym same)
+    (given_told reads alike read form g v allowed within (subst AreOctets same r.octets) (λ e. other (same ∙ e))) in
     let answer : layer_answer lc c.wide l o ≡ layer_answer lc c.wide l (spelling_of v) =
     ap (answer_to lc l o) (ap (λ (b : Bool). read_in b most o) wide ∙ r.reads) ∙ sym (ap (answer_to lc l (spelling_of v)) readable.reads) in
     let a : LayerAnswer = layer_answer lc c.wide l o in
     let heard : a ≡ layer_answers lc l v = ap (answer_to lc l o) (ap (λ (b : Bool). read_in b most o) wide ∙ r.reads) in
-    let none : confirmed_by lc c.wide l a.next (named_by o) ≡ 0 = given_confirms_none g v (λ e. other (same ∙ e)) c.wide lc l a.next (named_by o) (ap (λ (n : LayerAnswer). n.next) heard) in
-    ap (λ (es : List StationEntry). entries_of_answer a ++ es) (nothing_behind a.next (named_by o) (confirmed_by lc c.wide l a.next (named_by o)) (entries_beside (beside_in c.wide o) (bringing a.notices)) none)
-    ∙ ap₂ (λ (a : LayerAnswer) (b : PlainBeside). entries_of_answer a ++ entries_beside b (bringing a.notices)) answer (ap (λ (b : Bool). beside_in b o) wide ∙ is)
+    let none : confirmed_by lc c.wide l a.next (named_by o) ≡ 0 =
+    given_confirms_none g v (λ e. other (same ∙ e)) c.wide lc l a.next (named_by o) (ap (λ (n : LayerAnswer). n.next) heard) in
+    ap (λ (es : List StationEntry). entries_of_answer a ++ es)
+    (nothing_behind a.next (named_by o) (confirmed_by lc c.wide l a.next (named_by o)) (entries_beside (beside_in c.wide o) (bringing a.notices)) none)
+    ∙ ap₂ (λ (a : LayerAnswer) (b : PlainBeside). entries_of_answer a ++ entries_beside b (bringing a.notices)) answer
+    (ap (λ (b : Bool). beside_in b o) wide ∙ is)

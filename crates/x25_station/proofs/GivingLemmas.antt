@@ -1,5 +1,6 @@
 -- A call, an acceptance or a clearing with something given beside its packet.
-use Rattle.std.proofs.Common.{◌≡◌, ℕ, zero, suc, ◌<◌, ◌≤◌, List, [], ◌∷◌, ◌++◌, length, map, Option, Some, None, Result, Ok, Err, Bool, true, false, nat_lt, ◌==◌, ◌&&◌, if◌then◌else◌, option_to_list, refl, ap, sym, subst, ◌∙◌, arith}
+use Rattle.std.proofs.Common.{◌≡◌, ℕ, zero, suc, ◌<◌, ◌≤◌, List, [], ◌∷◌, ◌++◌, length, map, Option, Some, None, Result, Ok, Err, Bool, true, false, nat_lt}
+use Rattle.std.proofs.Common.{◌==◌, ◌&&◌, if◌then◌else◌, option_to_list, refl, ap, sym, subst, ◌∙◌, arith}
 use Rattle.std.proofs.Math.Nat.{le_trans}
 use Rattle.std.proofs.Math.Path.{fun_ext}
 use Rattle.std.proofs.lemmas.Bool.{ltb-true}
@@ -19,8 +20,10 @@ use Rattle.x25_layer.specs.declared.layer.Layer as layer_code
 use Rattle.x25_layer.specs.declared.error.LayerError.{LayerError}
 use Rattle.x25_layer.specs.declared.error.LayerError.TheVariants as layer_error
 use Rattle.x25_layer.specs.Layer.{LayerSettings, Layer, is_channel}
-use Rattle.x25_layer.specs.Calls.{LayerRequest, Asks, Dials, LayerOutcome, Accepted, Declined, layer_outcome, layer_pulled, free_channel, outcome_in, outcome_on, if_at_once, puts_at_once}
-use Rattle.x25_layer.specs.laws.Rounds.{LinkView, Putting, Answered, Went, Refuses, begin, with_pulled, pull_one, round, rounds_of, rounds, backlog, went, calls, refusal_of}
+use Rattle.x25_layer.specs.Calls.{LayerRequest, Asks, Dials, LayerOutcome, Accepted, Declined, layer_outcome, layer_pulled, free_channel, outcome_in}
+use Rattle.x25_layer.specs.Calls.{outcome_on, if_at_once, puts_at_once}
+use Rattle.x25_layer.specs.laws.Rounds.{LinkView, Putting, Answered, Went, Refuses, begin, with_pulled, pull_one, round, rounds_of, rounds, backlog, went}
+use Rattle.x25_layer.specs.laws.Rounds.{calls, refusal_of}
 use Rattle.x25_station.specs.code.OverLink as over
 use Rattle.x25_station.specs.code.OverLink.{LayerGives, all_with, seen_with, GoesWith}
 use Rattle.x25_layer.specs.code.FitsLayer.{FitsLayer}
@@ -62,7 +65,8 @@ use Rattle.x25_station.proofs.TakeLemmas.{least_by_meaning, few_made}
 
 -- ---- the link after the packets
 
-given_by_put : (c : LinkSettings) (g : PlainGiven) (packets : List PlainPacket) (t : Side) → all_with g (kept_of c t) packets ≡ kept_of c (all_given c g packets t)
+given_by_put : (c : LinkSettings) (g : PlainGiven) (packets : List PlainPacket) (t : Side) → all_with g (kept_of c t) packets
+    ≡ kept_of c (all_given c g packets t)
 given_by_put c g [] t = refl
 given_by_put c g (p ∷ packets) t =
     let octets = write g (packet.spelling_of p) in
@@ -73,47 +77,58 @@ given_by_put c g (p ∷ packets) t =
 
 -- what the layer sees of it
 seen_given : (c : LinkSettings) (g : PlainGiven) (s : LinkStation) → seen_with g (kept_of c (alone s)) ≡ view_given c g s
-seen_given c g s = ap (λ (f : List PlainPacket → ℕ). record { is_up = is_up s.phase; waits = f }) (fun_ext (λ packets. ap waits_of (given_by_put c g packets (alone s))))
+seen_given c g s = ap (λ (f : List PlainPacket → ℕ). record { is_up = is_up s.phase; waits = f })
+    (fun_ext (λ packets. ap waits_of (given_by_put c g packets (alone s))))
 
 -- ---- the link accepts the packets
 
-given_append : (c : LinkSettings) (g : PlainGiven) (a : List PlainPacket) (p : PlainPacket) (t : Side) → AreTaken c g a t → put_refusal (all_given c g a t).near ≡ None → AreTaken c g (a ++ p ∷ []) t
+given_append : (c : LinkSettings) (g : PlainGiven) (a : List PlainPacket) (p : PlainPacket) (t : Side) → AreTaken c g a t
+    → put_refusal (all_given c g a t).near ≡ None → AreTaken c g (a ++ p ∷ []) t
 given_append c g [] p t all none = (none, tt)
-given_append c g (q ∷ a) p t all none = (all.0, accepted_append c a (p ∷ []) (behind t (put_step c (write g (packet.spelling_of q)) t.near).side) all.1 (none, tt))
+given_append c g (q ∷ a) p t all none =
+    (all.0, accepted_append c a (p ∷ []) (behind t (put_step c (write g (packet.spelling_of q)) t.near).side) all.1 (none, tt))
 
-given_up : PutTells → (c : LinkSettings) (g : PlainGiven) (packets : List PlainPacket) (t : Side) → is_up t.near.phase ≡ true → is_up (all_given c g packets t).near.phase ≡ true
+given_up : PutTells → (c : LinkSettings) (g : PlainGiven) (packets : List PlainPacket) (t : Side) → is_up t.near.phase ≡ true
+    → is_up (all_given c g packets t).near.phase ≡ true
 given_up tells c g [] t up = up
 given_up tells c g (p ∷ packets) t up =
     let octets = write g (packet.spelling_of p) in
     all_up tells c packets (behind t (put_step c octets t.near).side) ((tells c octets t.near up).stays refl ∙ up)
 
-given_few : (c : LinkSettings) (g : PlainGiven) (packets : List PlainPacket) (t : Side) → AreTaken c g packets t → waits t.near.outgoing ≤ 256 → waits (all_given c g packets t).near.outgoing ≤ 256
+given_few : (c : LinkSettings) (g : PlainGiven) (packets : List PlainPacket) (t : Side) → AreTaken c g packets t → waits t.near.outgoing ≤ 256
+    → waits (all_given c g packets t).near.outgoing ≤ 256
 given_few c g [] t all few = few
 given_few c g (p ∷ packets) t all few =
     let octets = write g (packet.spelling_of p) in
     all_few c packets (behind t (put_step c octets t.near).side) all.1 (put_few c octets t.near (room_of t.near all.0 few))
 
-pull_given : PutTells → (c : LinkSettings) (g : PlainGiven) (s : LinkStation) (lc : LayerSettings) (h : ℕ) (p : Putting) → is_up s.phase ≡ true → AreTaken c g p.put (alone s)
+pull_given : PutTells → (c : LinkSettings) (g : PlainGiven) (s : LinkStation) (lc : LayerSettings) (h : ℕ) (p : Putting) → is_up s.phase ≡ true
+    → AreTaken c g p.put (alone s)
     → AreTaken c g (pull_one (view_given c g s) lc h p).put (alone s)
 pull_given tells c g s lc h p up all = test (nat_lt ((view_given c g s).waits p.put) 8) refl
   where
     put : (o : Option PlainPacket) → (view_given c g s).waits p.put < 8 → AreTaken c g (with_pulled p (layer_pulled lc p.layer h) o).put (alone s)
     put None low = all
-    put (Some q) low = given_append c g p.put q (alone s) all (accepts (all_given c g p.put (alone s)).near (given_up tells c g p.put (alone s) up) (omega (arith, low)))
+    put (Some q) low = given_append c g p.put q (alone s) all
+        (accepts (all_given c g p.put (alone s)).near (given_up tells c g p.put (alone s) up) (omega (arith, low)))
 
-    test : (b : Bool) → nat_lt ((view_given c g s).waits p.put) 8 ≡ b → AreTaken c g (let n : Putting = if b then with_pulled p (layer_pulled lc p.layer h) (layer_pulled lc p.layer h).packet else p in n.put) (alone s)
+    test : (b : Bool) → nat_lt ((view_given c g s).waits p.put) 8 ≡ b
+        → AreTaken c g (let n : Putting = if b then with_pulled p (layer_pulled lc p.layer h) (layer_pulled lc p.layer h).packet else p in n.put) (alone s)
     test true is = put (layer_pulled lc p.layer h).packet (ltb-true _ _ is)
     test false is = all
 
-round_given : PutTells → (c : LinkSettings) (g : PlainGiven) (s : LinkStation) (lc : LayerSettings) (n : ℕ) (p : Putting) → is_up s.phase ≡ true → AreTaken c g p.put (alone s)
+round_given : PutTells → (c : LinkSettings) (g : PlainGiven) (s : LinkStation) (lc : LayerSettings) (n : ℕ) (p : Putting) → is_up s.phase ≡ true
+    → AreTaken c g p.put (alone s)
     → AreTaken c g (round (view_given c g s) lc n p).put (alone s)
 round_given tells c g s lc zero p up all = all
 round_given tells c g s lc (suc n) p up all = pull_given tells c g s lc (suc n) (round (view_given c g s) lc n p) up (round_given tells c g s lc n p up all)
 
-pub rounds_given : PutTells → (k : ℕ) (c : LinkSettings) (g : PlainGiven) (s : LinkStation) (lc : LayerSettings) (p : Putting) → is_up s.phase ≡ true → AreTaken c g p.put (alone s)
+pub rounds_given : PutTells → (k : ℕ) (c : LinkSettings) (g : PlainGiven) (s : LinkStation) (lc : LayerSettings) (p : Putting) → is_up s.phase ≡ true
+    → AreTaken c g p.put (alone s)
     → AreTaken c g (rounds_of k (view_given c g s) lc p).put (alone s)
 rounds_given tells zero c g s lc p up all = all
-rounds_given tells (suc k) c g s lc p up all = rounds_given tells k c g s lc (round (view_given c g s) lc lc.channels.count p) up (round_given tells c g s lc lc.channels.count p up all)
+rounds_given tells (suc k) c g s lc p up all = rounds_given tells k c g s lc (round (view_given c g s) lc lc.channels.count p) up
+    (round_given tells c g s lc lc.channels.count p up all)
 
 -- ---- what each such step keeps
 
@@ -139,18 +154,21 @@ given_kept tells c s g request kept = at (is_up s.link.phase) refl (layer_outcom
     view : LinkView
     view = view_given (link_settings c) g s.link
 
-    accepted : (next : Layer) (put : Option PlainPacket) → is_up s.link.phase ≡ true → layer_outcome lc full s.layer request ≡ Accepted next put → AreTaken lk g (option_to_list put) (alone s.link)
+    accepted : (next : Layer) (put : Option PlainPacket) → is_up s.link.phase ≡ true → layer_outcome lc full s.layer request ≡ Accepted next put
+        → AreTaken lk g (option_to_list put) (alone s.link)
     accepted next None up found = tt
     accepted next (Some p) up found = (accepts s.link up (below (waits s.link.outgoing) kept.few (has_room lc full s.layer request next p found)), tt)
 
     at : (b : Bool) → is_up s.link.phase ≡ b → (o : LayerOutcome) → layer_outcome lc full s.layer request ≡ o
-        → KeptBy (gave c g (is_taken c g request) (alone s.link) (entries_of_outcome lc s.layer request o) (if b then went view lc o else Refuses layer_error.NotUp))
+        → KeptBy (gave c g (is_taken c g request) (alone s.link) (entries_of_outcome lc s.layer request o)
+        (if b then went view lc o else Refuses layer_error.NotUp))
     at false up o found = tt
     at true up (Declined e) found = tt
     at true up (Accepted next put) found =
         let p : Putting = rounds view lc (begin next put) in
         if_taken (is_taken c g request) (with_given c g (alone s.link) p (entries_of_outcome lc s.layer request (Accepted next put))) (record {
-          few = given_few lk g p.put (alone s.link) (rounds_given tells (backlog next.circuits lc.channels.count) lk g s.link lc (begin next put) up (accepted next put up found)) kept.few;
+          few = given_few lk g p.put (alone s.link)
+              (rounds_given tells (backlog next.circuits lc.channels.count) lk g s.link lc (begin next put) up (accepted next put up found)) kept.few;
           rests = λ is. absurd (true_false (sym (given_up tells lk g p.put (alone s.link) up) ∙ is));
         })
 
@@ -172,16 +190,19 @@ few_given c g packets s small low =
 -- ---- the calls, by the layer's clauses
 
 abbrev pub LayersGiven : {T : Type 0} → PlainGiven → ShownLink → layer_code.Layer → layer_code.Layer → Result T LayerError → LayerRequest → Type 0
-LayersGiven g l y z result request = (d : LayerSettings) (k : Layer) (x : LinkState) → FitsLayer d y k → FitsWhole l x → LayerGives d z result (calls (seen_with g x) d k request)
+LayersGiven g l y z result request = (d : LayerSettings) (k : Layer) (x : LinkState) → FitsLayer d y k → FitsWhole l x
+    → LayerGives d z result (calls (seen_with g x) d k request)
 
 abbrev pub LinksGiven : {T : Type 0} → PlainGiven → ShownLink → ShownLink → layer_code.Layer → Result T LayerError → LayerRequest → Type 0
 LinksGiven g l m y result request = (d : LayerSettings) (k : Layer) (x : LinkState) → FitsLayer d y k → FitsWhole l x
     → GoesWith m g x result (calls (seen_with g x) d k request)
 
-pub layers_as : {T : Type 0} (result : Result T LayerError) (f g : PlainGiven) (l : ShownLink) (y z : layer_code.Layer) (request : LayerRequest) → f ≡ g → LayersGiven f l y z result request → LayersGiven g l y z result request
+pub layers_as : {T : Type 0} (result : Result T LayerError) (f g : PlainGiven) (l : ShownLink) (y z : layer_code.Layer) (request : LayerRequest) → f ≡ g
+    → LayersGiven f l y z result request → LayersGiven g l y z result request
 layers_as result f g l y z request same h = subst (λ (x : PlainGiven). LayersGiven x l y z result request) same h
 
-pub links_as : {T : Type 0} (result : Result T LayerError) (f g : PlainGiven) (l m : ShownLink) (y : layer_code.Layer) (request : LayerRequest) → f ≡ g → LinksGiven f l m y result request → LinksGiven g l m y result request
+pub links_as : {T : Type 0} (result : Result T LayerError) (f g : PlainGiven) (l m : ShownLink) (y : layer_code.Layer) (request : LayerRequest) → f ≡ g
+    → LinksGiven f l m y result request → LinksGiven g l m y result request
 links_as result f g l m y request same h = subst (λ (x : PlainGiven). LinksGiven x l m y result request) same h
 
 pub none_of : {A : Type 0} (o : Option A) → ((a : A) → o ≡ Some a → ⊥) → o ≡ None
@@ -192,9 +213,11 @@ abbrev pub answered_given : Settings → PlainGiven → Station → LayerRequest
 answered_given c g s request = calls (view_given (link_settings c) g s.link) (layer_settings c) s.layer request
 
 abbrev pub entries_given : Settings → Station → LayerRequest → List StationEntry
-entries_given c s request = entries_of_outcome (layer_settings c) s.layer request (layer_outcome (layer_settings c) (waits s.link.outgoing == 256) s.layer request)
+entries_given c s request = entries_of_outcome (layer_settings c) s.layer request
+    (layer_outcome (layer_settings c) (waits s.link.outgoing == 256) s.layer request)
 
-pub layer_given : {manner : Manner} {T : Type 0} (result : Result T LayerError) (c : Settings) (g : PlainGiven) (l : ShownLink) (y z : layer_code.Layer) (s : Station) (request : LayerRequest) → FitsParts c manner l y s
+pub layer_given : {manner : Manner} {T : Type 0} (result : Result T LayerError) (c : Settings) (g : PlainGiven) (l : ShownLink) (y z : layer_code.Layer)
+    (s : Station) (request : LayerRequest) → FitsParts c manner l y s
     → LayersGiven g l y z result request → LayerGives (layer_settings c) z result (answered_given c g s request)
 layer_given result c g l y z s request fits clause =
     subst (λ (view : LinkView). LayerGives (layer_settings c) z result (calls view (layer_settings c) s.layer request)) (seen_given (link_settings c) g s.link)
@@ -204,23 +227,28 @@ abbrev LinkLeft : Settings → PlainGiven → LinkStation → ShownLink → Answ
 LinkLeft c g s m (Went p) = FitsWhole m (kept_of (link_settings c) (all_given (link_settings c) g p.put (alone s)))
 LinkLeft c g s m (Refuses e) = Unit {0}
 
-left_by : {T : Type 0} (u : T) (c : Settings) (g : PlainGiven) (s : LinkStation) (m : ShownLink) (a : Answered) → (let r : Result T LayerError = Ok u in GoesWith m g (kept_of (link_settings c) (alone s)) r a)
+left_by : {T : Type 0} (u : T) (c : Settings) (g : PlainGiven) (s : LinkStation) (m : ShownLink) (a : Answered)
+    → (let r : Result T LayerError = Ok u in GoesWith m g (kept_of (link_settings c) (alone s)) r a)
     → LinkLeft c g s m a
 left_by u c g s m (Went p) h = subst (λ (x : LinkState). FitsWhole m x) (given_by_put (link_settings c) g p.put (alone s)) h
 left_by u c g s m (Refuses e) h = tt
 
-link_given : {manner : Manner} {T : Type 0} (u : T) (c : Settings) (g : PlainGiven) (l m : ShownLink) (y : layer_code.Layer) (s : Station) (request : LayerRequest) → FitsParts c manner l y s
+link_given : {manner : Manner} {T : Type 0} (u : T) (c : Settings) (g : PlainGiven) (l m : ShownLink) (y : layer_code.Layer) (s : Station)
+    (request : LayerRequest) → FitsParts c manner l y s
     → (let r : Result T LayerError = Ok u in LinksGiven g l m y r request) → LinkLeft c g s.link m (answered_given c g s request)
 link_given {T = T} u c g l m y s request fits clause =
     let r : Result T LayerError = Ok u in
     left_by u c g s.link m (answered_given c g s request)
-    (subst (λ (view : LinkView). GoesWith m g (kept_of (link_settings c) (alone s.link)) r (calls view (layer_settings c) s.layer request)) (seen_given (link_settings c) g s.link)
+    (subst (λ (view : LinkView). GoesWith m g (kept_of (link_settings c) (alone s.link)) r (calls view (layer_settings c) s.layer request))
+    (seen_given (link_settings c) g s.link)
     (clause (layer_settings c) s.layer (kept_of (link_settings c) (alone s.link)) fits.layer (record { link = fits.link; kept = fits.sent })))
 
 -- ---- an accepted call
 
-leaves_given : {T : Type 0} {manner : Manner} (u : T) (c : Settings) (g : PlainGiven) → manner ≡ manner_of c → (s : LinkStation) (m n : ShownLink) (z : layer_code.Layer) (entries : List StationEntry) (a : Answered) → LayerGives (layer_settings c) z (Ok u) a
-    → LinkLeft c g s m a → n.station ≡ m.station → n.frames ≡ [] → KeptBy (gave c g true (alone s) entries a) → station.LeavesParts {T = Unit} c manner n z (Ok tt) (gave c g true (alone s) entries a)
+leaves_given : {T : Type 0} {manner : Manner} (u : T) (c : Settings) (g : PlainGiven) → manner ≡ manner_of c
+    → (s : LinkStation) (m n : ShownLink) (z : layer_code.Layer) (entries : List StationEntry) (a : Answered) → LayerGives (layer_settings c) z (Ok u) a
+    → LinkLeft c g s m a → n.station ≡ m.station → n.frames ≡ [] → KeptBy (gave c g true (alone s) entries a)
+    → station.LeavesParts {T = Unit} c manner n z (Ok tt) (gave c g true (alone s) entries a)
 leaves_given u c g as_set s m n z entries (Went p) layer link same none kept = record {
   link = taken_link (link_settings c) m n _ same link.link;
   layer = layer;
@@ -230,31 +258,37 @@ leaves_given u c g as_set s m n z entries (Went p) layer link same none kept = r
 }
 leaves_given u c g as_set s m n z entries (Refuses e) layer link same none kept = absurd (ok_err u e layer)
 
-sends_given : (c : Settings) (g : PlainGiven) (s : LinkStation) (m : ShownLink) (r : code_step.Step) (entries : List StationEntry) (a : Answered) → LinkLeft c g s m a → r.frames ≡ m.frames
+sends_given : (c : Settings) (g : PlainGiven) (s : LinkStation) (m : ShownLink) (r : code_step.Step) (entries : List StationEntry) (a : Answered)
+    → LinkLeft c g s m a → r.frames ≡ m.frames
     → station.Sends {T = Unit} c r (Ok tt) (gave c g true (alone s) entries a)
 sends_given c g s m r entries (Went p) link made = made ∙ link.kept
 sends_given c g s m r entries (Refuses e) link made = tt
 
-enters_given : (c : Settings) (g : PlainGiven) (s : LinkStation) (r : code_step.Step) (entries : List StationEntry) (a : Answered) → ((p : Putting) → a ≡ Went p → map plain_entry r.entries.items ≡ entries)
+enters_given : (c : Settings) (g : PlainGiven) (s : LinkStation) (r : code_step.Step) (entries : List StationEntry) (a : Answered)
+    → ((p : Putting) → a ≡ Went p → map plain_entry r.entries.items ≡ entries)
     → station.Enters {T = Unit} r (Ok tt) (gave c g true (alone s) entries a)
 enters_given c g s r entries (Went p) entered = entered p refl
 enters_given c g s r entries (Refuses e) entered = tt
 
-goes_given : {T : Type 0} (u : T) (c : Settings) (g : PlainGiven) (s : LinkStation) (z : layer_code.Layer) (entries : List StationEntry) (a : Answered) → LayerGives (layer_settings c) z (Ok u) a
+goes_given : {T : Type 0} (u : T) (c : Settings) (g : PlainGiven) (s : LinkStation) (z : layer_code.Layer) (entries : List StationEntry) (a : Answered)
+    → LayerGives (layer_settings c) z (Ok u) a
     → station.Refuses {T = Unit} (Ok tt) (gave c g true (alone s) entries a)
 goes_given u c g s z entries (Went p) layer = tt
 goes_given u c g s z entries (Refuses e) layer = absurd (ok_err u e layer)
 
-frames_given : {T : Type 0} (u : T) (c : Settings) (g : PlainGiven) (s : LinkStation) (m : ShownLink) (z : layer_code.Layer) (a : Answered) → (link_settings c).window ≤ 7 → s.outgoing.acked ≤ s.outgoing.place → LayerGives (layer_settings c) z (Ok u) a
+frames_given : {T : Type 0} (u : T) (c : Settings) (g : PlainGiven) (s : LinkStation) (m : ShownLink) (z : layer_code.Layer) (a : Answered)
+    → (link_settings c).window ≤ 7 → s.outgoing.acked ≤ s.outgoing.place → LayerGives (layer_settings c) z (Ok u) a
     → LinkLeft c g s m a → length m.frames ≤ 8
-frames_given u c g s m z (Went p) small low layer link = few_made c.role m.frames (all_given (link_settings c) g p.put (alone s)).out 8 link.kept (few_given (link_settings c) g p.put s small low)
+frames_given u c g s m z (Went p) small low layer link = few_made c.role m.frames (all_given (link_settings c) g p.put (alone s)).out 8 link.kept
+    (few_given (link_settings c) g p.put s small low)
 frames_given u c g s m z (Refuses e) small low layer link = absurd (ok_err u e layer)
 
 -- by how the station reads packets
 abbrev pub TakesIt : Manner → PlainGiven → LayerRequest → Type 0
 TakesIt manner g request = (manner.wide && (may_give g && suits g request)) ≡ true
 
-pub as_told : (b : Bool) (manner : Manner) (c : Settings) (g : PlainGiven) (request : LayerRequest) → manner ≡ manner_of c → (manner.wide && (may_give g && suits g request)) ≡ b → is_taken c g request ≡ b
+pub as_told : (b : Bool) (manner : Manner) (c : Settings) (g : PlainGiven) (request : LayerRequest) → manner ≡ manner_of c
+    → (manner.wide && (may_give g && suits g request)) ≡ b → is_taken c g request ≡ b
 as_told b manner c g request same is = sym (ap (λ (m : Manner). m.wide && (may_give g && suits g request)) same) ∙ is
 
 -- the outcome, taken or not
@@ -266,7 +300,8 @@ pub record GivenAnswers (c : Settings) (manner : Manner) (n : ShownLink) (z : la
   pub frames : station.Sends {T = Unit} c r (Ok tt) outcome
   pub refused : station.Refuses {T = Unit} (Ok tt) outcome
 
-pub answers_given : {manner : Manner} {T : Type 0} (u : T) (c : Settings) (g : PlainGiven) (l m n : ShownLink) (y z : layer_code.Layer) (r : code_step.Step) (s : Station) (request : LayerRequest) → FitsParts c manner l y s
+pub answers_given : {manner : Manner} {T : Type 0} (u : T) (c : Settings) (g : PlainGiven) (l m n : ShownLink) (y z : layer_code.Layer) (r : code_step.Step)
+    (s : Station) (request : LayerRequest) → FitsParts c manner l y s
     → (let x : Result T LayerError = Ok u in LayersGiven g l y z x request) → (let x : Result T LayerError = Ok u in LinksGiven g l m y x request)
     → n.station ≡ m.station → n.frames ≡ [] → r.frames ≡ m.frames → GivenKeeps → TakesIt manner g request → GivenAnswers c manner n z r (gives c s g request)
 answers_given {manner = manner} {T = T} u c g l m n y z r s request fits layers links same none made keeps takes =
@@ -285,31 +320,39 @@ answers_given {manner = manner} {T = T} u c g l m n y z r s request fits layers 
 
 -- ---- its entries
 
-went_fits : {T : Type 0} (u : T) (c : Settings) (z : layer_code.Layer) (a : Answered) (p : Putting) → LayerGives (layer_settings c) z (Ok u) a → a ≡ Went p → FitsLayer (layer_settings c) z p.layer
+went_fits : {T : Type 0} (u : T) (c : Settings) (z : layer_code.Layer) (a : Answered) (p : Putting) → LayerGives (layer_settings c) z (Ok u) a → a ≡ Went p
+    → FitsLayer (layer_settings c) z p.layer
 went_fits u c z a p gives is = subst (λ (x : Answered). LayerGives (layer_settings c) z (Ok u) x) is gives
 
-entered_at : (c : Settings) (g : PlainGiven) (s : Station) (r : code_step.Step) (request : LayerRequest) (manner : Manner) → manner ≡ manner_of c → TakesIt manner g request
-    → ((p : Putting) → answered_given c g s request ≡ Went p → map plain_entry r.entries.items ≡ entries_given c s request) → station.Enters {T = Unit} r (Ok tt) (gives c s g request)
+entered_at : (c : Settings) (g : PlainGiven) (s : Station) (r : code_step.Step) (request : LayerRequest) (manner : Manner) → manner ≡ manner_of c
+    → TakesIt manner g request
+    → ((p : Putting) → answered_given c g s request ≡ Went p → map plain_entry r.entries.items ≡ entries_given c s request)
+    → station.Enters {T = Unit} r (Ok tt) (gives c s g request)
 entered_at c g s r request manner same takes entered =
     subst (λ (b : Bool). station.Enters {T = Unit} r (Ok tt) (outcome_at c g s request b)) (sym (as_told true manner c g request same takes))
     (enters_given c g s.link r (entries_given c s request) (answered_given c g s request) entered)
 
-pub asked_given : {T : Type 0} {manner : Manner} (u : T) (c : Settings) (g : PlainGiven) (l : ShownLink) (y z : layer_code.Layer) (s : Station) (r : code_step.Step) (h : ℕ) (request : circuit.Request) → FitsParts c manner l y s
+pub asked_given : {T : Type 0} {manner : Manner} (u : T) (c : Settings) (g : PlainGiven) (l : ShownLink) (y z : layer_code.Layer) (s : Station)
+    (r : code_step.Step) (h : ℕ) (request : circuit.Request) → FitsParts c manner l y s
     → (let x : Result T LayerError = Ok u in LayersGiven g l y z x (Asks h request)) → TakesIt manner g (Asks h request)
-    → ((k : Layer) → FitsLayer (layer_settings c) z k → is_channel c.channels h ≡ true → IsBrief request → map plain_entry r.entries.items ≡ of_channel (record { channel = h; name = name_of k h; said = Asked (shown (k.circuits h) request) }) ∷ [])
+    → ((k : Layer) → FitsLayer (layer_settings c) z k → is_channel c.channels h ≡ true → IsBrief request → map plain_entry r.entries.items
+    ≡ of_channel (record { channel = h; name = name_of k h; said = Asked (shown (k.circuits h) request) }) ∷ [])
     → station.Enters {T = Unit} r (Ok tt) (gives c s g (Asks h request))
 asked_given {T = T} {manner = manner} u c g l y z s r h request fits layers takes entered =
     let x : Result T LayerError = Ok u in
     let view : LinkView = view_given (link_settings c) g s.link in
     let lc : LayerSettings = layer_settings c in
     entered_at c g s r (Asks h request) manner fits.same takes (λ p is.
-    entered p.layer (went_fits u c z _ p (layer_given x c g l y z s (Asks h request) fits layers) is) (asked_channel view lc s.layer h request p is) (asked_brief view lc fits.layer.message s.layer h request p is) ∙ sym (asked_entry view lc s.layer h request p is))
+    entered p.layer (went_fits u c z _ p (layer_given x c g l y z s (Asks h request) fits layers) is) (asked_channel view lc s.layer h request p is)
+    (asked_brief view lc fits.layer.message s.layer h request p is) ∙ sym (asked_entry view lc s.layer h request p is))
 
-pub dialled_given : {manner : Manner} (c : Settings) (g : PlainGiven) (l : ShownLink) (y z : layer_code.Layer) (s : Station) (r : code_step.Step) (h : ℕ) (called calling user : List ℕ) (proposal : Proposal) → FitsParts c manner l y s
+pub dialled_given : {manner : Manner} (c : Settings) (g : PlainGiven) (l : ShownLink) (y z : layer_code.Layer) (s : Station) (r : code_step.Step) (h : ℕ)
+    (called calling user : List ℕ) (proposal : Proposal) → FitsParts c manner l y s
     → (let x : Result ℕ LayerError = Ok h in LayersGiven g l y z x (Dials called calling user proposal)) → TakesIt manner g (Dials called calling user proposal)
     → free_channel c.role s.layer.circuits c.channels ≡ Some h
     → ((k : Layer) → FitsLayer (layer_settings c) z k → is_channel c.channels h ≡ true → IsBrief (circuit.Calls called calling user proposal) →
-    map plain_entry r.entries.items ≡ of_channel (record { channel = h; name = name_of k h; said = Asked (circuit.Calls called calling user (in_brief proposal.params)) }) ∷ [])
+    map plain_entry r.entries.items ≡ of_channel
+    (record { channel = h; name = name_of k h; said = Asked (circuit.Calls called calling user (in_brief proposal.params)) }) ∷ [])
     → station.Enters {T = Unit} r (Ok tt) (gives c s g (Dials called calling user proposal))
 dialled_given {manner = manner} c g l y z s r h called calling user proposal fits layers takes free entered =
     let x : Result ℕ LayerError = Ok h in
@@ -317,20 +360,26 @@ dialled_given {manner = manner} c g l y z s r h called calling user proposal fit
     let lc : LayerSettings = layer_settings c in
     let request : LayerRequest = Dials called calling user proposal in
     entered_at c g s r request manner fits.same takes (λ p is.
-    entered p.layer (went_fits h c z _ p (layer_given x c g l y z s request fits layers) is) (free_is_channel c.role s.layer.circuits c.channels h free) (dialled_brief view lc fits.layer.message s.layer called calling user proposal p is)
+    entered p.layer (went_fits h c z _ p (layer_given x c g l y z s request fits layers) is) (free_is_channel c.role s.layer.circuits c.channels h free)
+    (dialled_brief view lc fits.layer.message s.layer called calling user proposal p is)
     ∙ sym (dialled_entry view lc s.layer h called calling user proposal p is free))
 
 -- From the link and the layer of the old station its call led to the link m, from which the frames were taken, and to the layer of the new one.
-pub did_given : {T : Type 0} (u : T) (old new : code.Station) (m : ShownLink) (r : code_step.Step) (g : PlainGiven) (request : LayerRequest) → (let x : Result T LayerError = Ok u in LayersGiven g old.link old.layer new.layer x request)
+pub did_given : {T : Type 0} (u : T) (old new : code.Station) (m : ShownLink) (r : code_step.Step) (g : PlainGiven) (request : LayerRequest)
+    → (let x : Result T LayerError = Ok u in LayersGiven g old.link old.layer new.layer x request)
     → (let x : Result T LayerError = Ok u in LinksGiven g old.link m old.layer x request)
     → new.link.station ≡ m.station → new.link.frames ≡ [] → r.frames ≡ m.frames → GivenKeeps → WindowIsSmall → FewStand → TakesIt old.manner g request
-    → ((c : Settings) (s : Station) → FitsStation c old s → station.Enters {T = Unit} r (Ok tt) (gives c s g request)) → old.manner ≡ new.manner → Does old new r (Ok tt) (λ c s. gives c s g request)
+    → ((c : Settings) (s : Station) → FitsStation c old s → station.Enters {T = Unit} r (Ok tt) (gives c s g request)) → old.manner ≡ new.manner
+    → Does old new r (Ok tt) (λ c s. gives c s g request)
 did_given {T = T} u old new m r g request layers links same none made keeps small stand takes entered manner =
     let x : Result T LayerError = Ok u in
     let parts : (c : Settings) (s : Station) → FitsStation c old s → GivenAnswers c new.manner new.link new.layer r (gives c s g request) =
-    λ c s fits. answers_given u c g old.link m new.link old.layer new.layer r s request (subst (λ (b : Manner). FitsParts c b old.link old.layer s) manner fits) layers links same none made keeps (subst (λ (b : Manner). TakesIt b g request) manner takes) in
+    λ c s fits. answers_given u c g old.link m new.link old.layer new.layer r s request
+    (subst (λ (b : Manner). FitsParts c b old.link old.layer s) manner fits) layers links same none made keeps
+    (subst (λ (b : Manner). TakesIt b g request) manner takes) in
     let put : length m.frames ≤ 8 = least_by_meaning old.link old.layer (length m.frames) 8 old.meant (λ c s fits.
-    frames_given u c g s.link m new.layer (answered_given c g s request) (small (link_settings c) old.link s.link fits.link) (stand (link_settings c) old.link s.link fits.link).place_low
+    frames_given u c g s.link m new.layer (answered_given c g s request) (small (link_settings c) old.link s.link fits.link)
+    (stand (link_settings c) old.link s.link fits.link).place_low
     (layer_given x c g old.link old.layer new.layer s request fits layers) (link_given u c g old.link m old.layer s request fits links)) in
     let alike : length r.frames ≡ length m.frames = ap length made in
     record {
@@ -346,7 +395,8 @@ did_given {T = T} u old new m r g request layers links same none made keeps smal
 
 -- ---- a refused call
 
-refused_at : (found : StationError) (e : LayerError) → found ≡ of_layer e → (c : Settings) (g : PlainGiven) (taken : Bool) (t : Side) (entries : List StationEntry) (a : Answered) → IsNamed a → Some e ≡ refusal_of a
+refused_at : (found : StationError) (e : LayerError) → found ≡ of_layer e
+    → (c : Settings) (g : PlainGiven) (taken : Bool) (t : Side) (entries : List StationEntry) (a : Answered) → IsNamed a → Some e ≡ refusal_of a
     → (let x : Result Unit StationError = Err found in station.Refuses x (gave c g taken t entries a))
 refused_at found e is c g taken t entries (Went p) named refusal = absurd (none_there refusal)
   where
@@ -358,27 +408,34 @@ refused_at found e is c g taken t entries (Refuses x) named refusal = is ∙ ap 
     same h = cc
 
 -- the layer's own refusal is the same, whatever is given
-refusal_same : (v w : LinkView) (c : LayerSettings) (o : LayerOutcome) (b : Bool) → refusal_of (if b then went v c o else Refuses layer_error.NotUp) ≡ refusal_of (if b then went w c o else Refuses layer_error.NotUp)
+refusal_same : (v w : LinkView) (c : LayerSettings) (o : LayerOutcome) (b : Bool) → refusal_of (if b then went v c o else Refuses layer_error.NotUp)
+    ≡ refusal_of (if b then went w c o else Refuses layer_error.NotUp)
 refusal_same v w c (Accepted next put) true = refl
 refusal_same v w c (Declined e) true = refl
 refusal_same v w c o false = refl
 
 judged_same : (c : Settings) (g : PlainGiven) (s : Station) (request : LayerRequest)
-    → refusal_of (calls (over.seen_at (kept_of (link_settings c) (alone s.link))) (layer_settings c) s.layer request) ≡ refusal_of (answered_given c g s request)
+    → refusal_of (calls (over.seen_at (kept_of (link_settings c) (alone s.link))) (layer_settings c) s.layer request)
+    ≡ refusal_of (answered_given c g s request)
 judged_same c g s request =
     ap (λ (view : LinkView). refusal_of (calls view (layer_settings c) s.layer request)) (same_view (link_settings c) (alone s.link))
-    ∙ refusal_same (view_of (link_settings c) s.link) (view_given (link_settings c) g s.link) (layer_settings c) (layer_outcome (layer_settings c) (waits s.link.outgoing == 256) s.layer request) (is_up s.link.phase)
+    ∙ refusal_same (view_of (link_settings c) s.link) (view_given (link_settings c) g s.link) (layer_settings c)
+    (layer_outcome (layer_settings c) (waits s.link.outgoing == 256) s.layer request) (is_up s.link.phase)
 
-judged : (o : Option LayerError) (old : code.Station) (c : Settings) (g : PlainGiven) (s : Station) (request : LayerRequest) → FitsStation c old s → Judges o old.link old.layer request → o ≡ refusal_of (answered_given c g s request)
+judged : (o : Option LayerError) (old : code.Station) (c : Settings) (g : PlainGiven) (s : Station) (request : LayerRequest) → FitsStation c old s
+    → Judges o old.link old.layer request → o ≡ refusal_of (answered_given c g s request)
 judged o old c g s request fits judges =
-    judges (layer_settings c) s.layer (kept_of (link_settings c) (alone s.link)) fits.layer (record { link = fits.link; kept = fits.sent }) ∙ judged_same c g s request
+    judges (layer_settings c) s.layer (kept_of (link_settings c) (alone s.link)) fits.layer (record { link = fits.link; kept = fits.sent })
+    ∙ judged_same c g s request
 
-pub declines_early : (found : StationError) (e : LayerError) (old new : code.Station) (out : code_step.Step) (g : PlainGiven) (request : LayerRequest) → found ≡ of_layer e → Judges (Some e) old.link old.layer request
+pub declines_early : (found : StationError) (e : LayerError) (old new : code.Station) (out : code_step.Step) (g : PlainGiven) (request : LayerRequest) → found
+    ≡ of_layer e → Judges (Some e) old.link old.layer request
     → ((c : Settings) (s : Station) → FitsStation c old s → FitsStation c new s) → IsEmpty out
     → Does old new out (Err found) (λ c s. gives c s g request)
 declines_early found e old new out g request is judges stays empty =
     declines old new out found (λ c s. gives c s g request) (λ c s fits.
-    refused_at found e is c g (is_taken c g request) (alone s.link) (entries_given c s request) (answered_given c g s request) (calls_named (view_given (link_settings c) g s.link) (layer_settings c) s.layer request) (judged (Some e) old c g s request fits judges))
+    refused_at found e is c g (is_taken c g request) (alone s.link) (entries_given c s request) (answered_given c g s request)
+    (calls_named (view_given (link_settings c) g s.link) (layer_settings c) s.layer request) (judged (Some e) old c g s request fits judges))
     stays empty
 
 not_taken_at : (c : Settings) (g : PlainGiven) (taken : Bool) (t : Side) (entries : List StationEntry) (a : Answered) → taken ≡ false → None ≡ refusal_of a
@@ -390,49 +447,63 @@ not_taken_at c g taken t entries (Refuses x) is refusal = absurd (none_there ref
     none_there : None ≡ Some x → ⊥
     none_there h = cc
 
-pub declines_given : (old new : code.Station) (out : code_step.Step) (g : PlainGiven) (request : LayerRequest) → Judges None old.link old.layer request → (old.manner.wide && (may_give g && suits g request)) ≡ false
+pub declines_given : (old new : code.Station) (out : code_step.Step) (g : PlainGiven) (request : LayerRequest) → Judges None old.link old.layer request
+    → (old.manner.wide && (may_give g && suits g request)) ≡ false
     → ((c : Settings) (s : Station) → FitsStation c old s → FitsStation c new s) → IsEmpty out
     → Does old new out (Err not_taken) (λ c s. gives c s g request)
 declines_given old new out g request judges not stays empty =
     declines old new out not_taken (λ c s. gives c s g request) (λ c s fits.
-    not_taken_at c g (is_taken c g request) (alone s.link) (entries_given c s request) (answered_given c g s request) (as_told false old.manner c g request fits.same not) (judged None old c g s request fits judges))
+    not_taken_at c g (is_taken c g request) (alone s.link) (entries_given c s request) (answered_given c g s request)
+    (as_told false old.manner c g request fits.same not) (judged None old c g s request fits judges))
     stays empty
 
 -- no memory for what is given, where the layer wouldn't refuse the call
-lacks_at : (c : Settings) (g : PlainGiven) (t : Side) (entries : List StationEntry) (a : Answered) → None ≡ refusal_of a → (let x : Result Unit StationError = Err error.NoMemory in station.Refuses x (gave c g true t entries a))
+lacks_at : (c : Settings) (g : PlainGiven) (t : Side) (entries : List StationEntry) (a : Answered) → None ≡ refusal_of a
+    → (let x : Result Unit StationError = Err error.NoMemory in station.Refuses x (gave c g true t entries a))
 lacks_at c g t entries (Went p) refusal = refl
 lacks_at c g t entries (Refuses x) refusal = absurd (none_there refusal)
   where
     none_there : None ≡ Some x → ⊥
     none_there h = cc
 
-pub declines_for_memory : (old new : code.Station) (out : code_step.Step) (g : PlainGiven) (request : LayerRequest) → Judges None old.link old.layer request → TakesIt old.manner g request
+pub declines_for_memory : (old new : code.Station) (out : code_step.Step) (g : PlainGiven) (request : LayerRequest) → Judges None old.link old.layer request
+    → TakesIt old.manner g request
     → ((c : Settings) (s : Station) → FitsStation c old s → FitsStation c new s) → IsEmpty out
     → Does old new out (Err error.NoMemory) (λ c s. gives c s g request)
 declines_for_memory old new out g request judges takes stays empty =
     declines old new out error.NoMemory (λ c s. gives c s g request) (λ c s fits.
-    subst (λ (b : Bool). (let x : Result Unit StationError = Err error.NoMemory in station.Refuses x (outcome_at c g s request b))) (sym (as_told true old.manner c g request fits.same takes))
+    subst (λ (b : Bool). (let x : Result Unit StationError = Err error.NoMemory in station.Refuses x (outcome_at c g s request b)))
+    (sym (as_told true old.manner c g request fits.same takes))
     (lacks_at c g (alone s.link) (entries_given c s request) (answered_given c g s request) (judged None old c g s request fits judges)))
     stays empty
 
-late_at : (T : Type 0) (found : StationError) (e : LayerError) → found ≡ of_layer e → (c : Settings) (g : PlainGiven) (z : layer_code.Layer) (t : Side) (entries : List StationEntry) (a : Answered) → IsNamed a
-    → (let x : Result T LayerError = Err e in LayerGives (layer_settings c) z x a) → (let x : Result Unit StationError = Err found in station.Refuses x (gave c g true t entries a))
+late_at : (T : Type 0) (found : StationError) (e : LayerError) → found ≡ of_layer e
+    → (c : Settings) (g : PlainGiven) (z : layer_code.Layer) (t : Side) (entries : List StationEntry) (a : Answered) → IsNamed a
+    → (let x : Result T LayerError = Err e in LayerGives (layer_settings c) z x a)
+    → (let x : Result Unit StationError = Err found in station.Refuses x (gave c g true t entries a))
 late_at T found e is c g z t entries (Went p) named layer = is ∙ ap of_layer layer
 late_at T found e is c g z t entries (Refuses x) named layer = is ∙ ap of_layer (err_is T LayerError e x layer) ∙ named
 
-pub declines_late : (T : Type 0) (e : LayerError) (found : StationError) (old new : code.Station) (out : code_step.Step) (g : PlainGiven) (request : LayerRequest) → found ≡ of_layer e
-    → (let x : Result T LayerError = Err e in LayersGiven g old.link old.layer new.layer x request) → TakesIt old.manner g request → ((d : LayerSettings) (k : Layer) → FitsLayer d old.layer k → FitsLayer d new.layer k)
-    → ((x : LinkState) → FitsWhole old.link x → FitsWhole new.link x) → IsEmpty out → old.manner ≡ new.manner → Does old new out (Err found) (λ c s. gives c s g request)
+pub declines_late : (T : Type 0) (e : LayerError) (found : StationError) (old new : code.Station) (out : code_step.Step) (g : PlainGiven)
+    (request : LayerRequest) → found ≡ of_layer e
+    → (let x : Result T LayerError = Err e in LayersGiven g old.link old.layer new.layer x request) → TakesIt old.manner g request
+    → ((d : LayerSettings) (k : Layer) → FitsLayer d old.layer k → FitsLayer d new.layer k)
+    → ((x : LinkState) → FitsWhole old.link x → FitsWhole new.link x) → IsEmpty out → old.manner ≡ new.manner
+    → Does old new out (Err found) (λ c s. gives c s g request)
 declines_late T e found old new out g request is layers takes layer_stays link_stays empty manner =
     let r : Result T LayerError = Err e in
     declines old new out found (λ c s. gives c s g request) (λ c s fits.
-    subst (λ (b : Bool). (let x : Result Unit StationError = Err found in station.Refuses x (outcome_at c g s request b))) (sym (as_told true old.manner c g request fits.same takes))
-    (late_at T found e is c g new.layer (alone s.link) (entries_given c s request) (answered_given c g s request) (calls_named (view_given (link_settings c) g s.link) (layer_settings c) s.layer request)
+    subst (λ (b : Bool). (let x : Result Unit StationError = Err found in station.Refuses x (outcome_at c g s request b)))
+    (sym (as_told true old.manner c g request fits.same takes))
+    (late_at T found e is c g new.layer (alone s.link) (entries_given c s request) (answered_given c g s request)
+    (calls_named (view_given (link_settings c) g s.link) (layer_settings c) s.layer request)
     (layer_given r c g old.link old.layer new.layer s request fits layers)))
-    (λ c s fits. still_fits c old.link new.link old.layer new.layer s (subst (λ (b : Manner). FitsParts c b old.link old.layer s) manner fits) (layer_stays (layer_settings c) s.layer fits.layer) link_stays) empty
+    (λ c s fits. still_fits c old.link new.link old.layer new.layer s (subst (λ (b : Manner). FitsParts c b old.link old.layer s) manner fits)
+    (layer_stays (layer_settings c) s.layer fits.layer) link_stays) empty
 
 -- so that the station stands for some state again
-pub meant_given : {T : Type 0} {manner : Manner} (u : T) (g : PlainGiven) (l m n : ShownLink) (y z : layer_code.Layer) (r : code_step.Step) (request : LayerRequest) → AreMeant manner l y
+pub meant_given : {T : Type 0} {manner : Manner} (u : T) (g : PlainGiven) (l m n : ShownLink) (y z : layer_code.Layer) (r : code_step.Step)
+    (request : LayerRequest) → AreMeant manner l y
     → (let x : Result T LayerError = Ok u in LayersGiven g l y z x request) → (let x : Result T LayerError = Ok u in LinksGiven g l m y x request)
     → n.station ≡ m.station → n.frames ≡ [] → r.frames ≡ m.frames → GivenKeeps → TakesIt manner g request → AreMeant manner n z
 meant_given {manner = manner} u g l m n y z r request meant layers links same none made keeps takes =
@@ -442,7 +513,8 @@ meant_given {manner = manner} u g l m n y z r request meant layers links same no
 
 -- ---- an acceptance on a channel that isn't configured is refused, whatever it says
 
-pub given_nowhere : (c : Settings) (s : Station) (g : PlainGiven) (h : ℕ) → is_channel c.channels h ≡ false → (a b : Option Proposal) → gives c s g (Asks h (circuit.Accepts a)) ≡ gives c s g (Asks h (circuit.Accepts b))
+pub given_nowhere : (c : Settings) (s : Station) (g : PlainGiven) (h : ℕ) → is_channel c.channels h ≡ false → (a b : Option Proposal)
+    → gives c s g (Asks h (circuit.Accepts a)) ≡ gives c s g (Asks h (circuit.Accepts b))
 given_nowhere c s g h nowhere a b = by s.layer.restarting
   where
     lc : LayerSettings
@@ -452,11 +524,14 @@ given_nowhere c s g h nowhere a b = by s.layer.restarting
     full = waits s.link.outgoing == 256
 
     at : circuit.Request → LayerOutcome → Outcome
-    at r o = gave c g (c.wide && (may_give g && true)) (alone s.link) (entries_of_outcome lc s.layer (Asks h r) o) (if is_up s.link.phase then went (view_given (link_settings c) g s.link) lc o else Refuses layer_error.NotUp)
+    at r o = gave c g (c.wide && (may_give g && true)) (alone s.link) (entries_of_outcome lc s.layer (Asks h r) o)
+        (if is_up s.link.phase then went (view_given (link_settings c) g s.link) lc o else Refuses layer_error.NotUp)
 
     there : circuit.Request → Bool → Outcome
-    there r b = at r (if b then if_at_once (puts_at_once r) full (outcome_on s.layer.restarts s.layer.circuits h (circuit.outcome lc.circuit (s.layer.circuits h) r)) else Declined layer_error.NoSuchChannel)
+    there r b = at r (if b then if_at_once (puts_at_once r) full
+        (outcome_on s.layer.restarts s.layer.circuits h (circuit.outcome lc.circuit (s.layer.circuits h) r)) else Declined layer_error.NoSuchChannel)
 
-    by : (busy : Bool) → at (circuit.Accepts a) (outcome_in lc full busy s.layer.restarts s.layer.circuits (Asks h (circuit.Accepts a))) ≡ at (circuit.Accepts b) (outcome_in lc full busy s.layer.restarts s.layer.circuits (Asks h (circuit.Accepts b)))
+    by : (busy : Bool) → at (circuit.Accepts a) (outcome_in lc full busy s.layer.restarts s.layer.circuits (Asks h (circuit.Accepts a)))
+        ≡ at (circuit.Accepts b) (outcome_in lc full busy s.layer.restarts s.layer.circuits (Asks h (circuit.Accepts b)))
     by true = refl
     by false = ap (there (circuit.Accepts a)) nowhere ∙ sym (ap (there (circuit.Accepts b)) nowhere)

@@ -1,5 +1,6 @@
 -- What a station holds at most: as many messages wait in a circuit as its queue has.
-use Rattle.std.proofs.Common.{◌≡◌, ℕ, zero, suc, ◌+◌, ◌<◌, ◌≤◌, nat_le, List, [], ◌∷◌, ◌++◌, length, take, drop, Some, Bool, true, false, if◌then◌else◌, refl, subst, ap, arith}
+use Rattle.std.proofs.Common.{◌≡◌, ℕ, zero, suc, ◌+◌, ◌<◌, ◌≤◌, nat_le, List, [], ◌∷◌, ◌++◌, length, take, drop, Some, Bool, true, false, if◌then◌else◌, refl}
+use Rattle.std.proofs.Common.{subst, ap, arith}
 use Rattle.std.specs.List.{slice_get}
 use Rattle.std.proofs.lemmas.Bool.{and_parts, leb-true}
 use Rattle.std.proofs.lemmas.List.{length-append}
@@ -26,7 +27,8 @@ cut_whole : (n size : ℕ) (q : Marks) (user : List ℕ) → wholes (cut_from n 
 cut_whole zero size q user = refl
 cut_whole (suc n) size q user = test (nat_le (length user) size) (cut_whole n size q (drop size user))
   where
-    test : (b : Bool) → wholes (cut_from n size q (drop size user)) ≡ 1 → wholes (if b then Last q user ∷ [] else More (with_q q.q) (take size user) ∷ cut_from n size q (drop size user)) ≡ 1
+    test : (b : Bool) → wholes (cut_from n size q (drop size user)) ≡ 1
+        → wholes (if b then Last q user ∷ [] else More (with_q q.q) (take size user) ∷ cut_from n size q (drop size user)) ≡ 1
     test true rest = refl
     test false rest = omega (arith, rest)
 
@@ -62,7 +64,8 @@ zero_true : false ≡ true → ⊥
 zero_true e = cc
 
 -- the code's circuit of a configured channel
-circuit_on : (c : Settings) (v : code.Station) (s : Station) (h : ℕ) → FitsStation c v s → is_channel c.channels h ≡ true → (u : circuit_code.Circuit) × FitsCircuit (layer_settings c).circuit u (s.layer.circuits h)
+circuit_on : (c : Settings) (v : code.Station) (s : Station) (h : ℕ) → FitsStation c v s → is_channel c.channels h ≡ true → (u : circuit_code.Circuit)
+    × FitsCircuit (layer_settings c).circuit u (s.layer.circuits h)
 circuit_on c v s zero fits is = absurd (zero_true is)
 circuit_on c v s (suc k) fits is =
     let high : suc k ≤ c.channels.count = leb-true (suc k) c.channels.count (and_parts (nat_le 1 (suc k)) (nat_le (suc k) c.channels.count) is).1 in

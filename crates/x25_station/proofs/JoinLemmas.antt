@@ -1,5 +1,6 @@
 -- Each step of a station is a step of its link joined with moves of its layer.
-use Rattle.std.proofs.Common.{◌≡◌, ℕ, ◌<◌, ◌≤◌, List, [], ◌∷◌, ◌++◌, Option, Some, None, Result, Ok, Bool, true, false, ◌==◌, if◌then◌else◌, option_to_list, refl, sym, ap, subst, ◌∙◌, arith}
+use Rattle.std.proofs.Common.{◌≡◌, ℕ, ◌<◌, ◌≤◌, List, [], ◌∷◌, ◌++◌, Option, Some, None, Result, Ok, Bool, true, false, ◌==◌, if◌then◌else◌, option_to_list}
+use Rattle.std.proofs.Common.{refl, sym, ap, subst, ◌∙◌, arith}
 use Rattle.std.proofs.lemmas.Bool.{eq-eqb}
 use Rattle.std.proofs.lemmas.List.{append-nil}
 use Rattle.x25_packet.specs.declared.error.PacketError.{PacketError}
@@ -28,7 +29,8 @@ use Rattle.x25_station.specs.Config.{Settings, link_settings, layer_settings}
 use Rattle.x25_station.specs.Beside.{beside_in}
 use Rattle.x25_station.specs.Entry.{StationEntry, bringing, entries_noted, station_asked, layer_entries, layer_notices}
 use Rattle.x25_station.specs.Station.{view_of}
-use Rattle.x25_station.specs.Step.{Step, Outcome, Did, Refused, with_puts, layer_at, entries_heard, entries_of_packet, entries_of_outcome, layer_answer, confirmed_by, follows, did, requests_of}
+use Rattle.x25_station.specs.Step.{Step, Outcome, Did, Refused, with_puts, layer_at, entries_heard, entries_of_packet, entries_of_outcome, layer_answer}
+use Rattle.x25_station.specs.Step.{confirmed_by, follows, did, requests_of}
 use Rattle.x25_station.specs.laws.JoinLaw.{AreAccepted, IsJoined, RequestIsJoined, ReceiveIsJoined, QuietIsJoined, DownIsJoined, ComesUp, UpIsJoined}
 use Rattle.x25_station.proofs.PutLemmas.{accepts, rounds_accepted, begin_accepted}
 use Rattle.x25_station.proofs.EntryLemmas.{told_entries, told_notices, behind_entries, behind_notices, asked_entries, asked_notices}
@@ -70,7 +72,8 @@ below n low not = differ (n == 256) refl
 
 pub request_joined : CallsRun → PutTells → RequestIsJoined
 request_joined runs tells c link w request step up few is =
-    at (is_up link.phase) refl (layer_outcome lc full w.near.layer request) refl (asked_did (may_ask c.wide request) (requests_of c link w.near.layer view request) step is).1
+    at (is_up link.phase) refl (layer_outcome lc full w.near.layer request) refl
+    (asked_did (may_ask c.wide request) (requests_of c link w.near.layer view request) step is).1
   where
     lc : LayerSettings
     lc = layer_settings c
@@ -87,24 +90,29 @@ request_joined runs tells c link w request step up few is =
     Goal : Step → Type 0
     Goal k = (pulled : List ℕ) × AreChannels c.channels pulled × IsJoined c w (moves_all lc w (move ∷ pulls_of pulled)) (alone link) w.back k
 
-    owed_accepted : (next : Layer) (packet : Option PlainPacket) → is_up link.phase ≡ true → layer_outcome lc full w.near.layer request ≡ Accepted next packet → AreAccepted (link_settings c) (option_to_list packet) (alone link)
+    owed_accepted : (next : Layer) (packet : Option PlainPacket) → is_up link.phase ≡ true → layer_outcome lc full w.near.layer request ≡ Accepted next packet
+        → AreAccepted (link_settings c) (option_to_list packet) (alone link)
     owed_accepted next None up_link found = tt
-    owed_accepted next (Some p) up_link found = begin_accepted (link_settings c) (alone link) (Some p) up_link (below (waits link.outgoing) few (has_room lc full w.near.layer request next p found))
+    owed_accepted next (Some p) up_link found = begin_accepted (link_settings c) (alone link) (Some p) up_link
+        (below (waits link.outgoing) few (has_room lc full w.near.layer request next p found))
 
     went_with : (next : Layer) (packet : Option PlainPacket) → is_up link.phase ≡ true → layer_outcome lc full w.near.layer request ≡ Accepted next packet
         → Goal (with_puts c (alone link) (rounds view lc (begin next packet)) (station_asked lc w.near.layer next request))
     went_with next packet up_link found =
         let s : Putting = rounds view lc (begin next packet) in
-        let all : moves lc w move ≡ requested lc w request (Accepted next packet) = ap (λ (o : Bool). moves_in lc w o move) up ∙ ap (λ (o : LayerOutcome). requested lc w request o) found in
+        let all : moves lc w move ≡ requested lc w request (Accepted next packet) =
+        ap (λ (o : Bool). moves_in lc w o move) up ∙ ap (λ (o : LayerOutcome). requested lc w request o) found in
         let called : calls view lc w.near.layer request ≡ Went s =
-        ap (λ (b : Bool). if b then went view lc (layer_outcome lc full w.near.layer request) else Refuses layer_error.NotUp) up_link ∙ ap (λ (o : LayerOutcome). went view lc o) found in
+        ap (λ (b : Bool). if b then went view lc (layer_outcome lc full w.near.layer request) else Refuses layer_error.NotUp) up_link
+        ∙ ap (λ (o : LayerOutcome). went view lc o) found in
         let r = runs view lc w request s up called in (
           r.0,
           r.1,
           joined c w (move ∷ pulls_of r.0) (moves lc w move) (alone link) w.back s (station_asked lc w.near.layer next request) r.2
               (rounds_accepted tells (link_settings c) (alone link) lc (begin next packet) up_link (owed_accepted next packet up_link found))
               (ap (λ (x : TwoLayers). x.near.entries) all ∙ ap (λ (es : List Entry). w.near.entries ++ es) (sym (asked_entries lc w.near.layer next request)))
-              (ap (λ (x : TwoLayers). x.near.told) all ∙ sym (append-nil w.near.told) ∙ ap (λ (ns : List LayerNotice). w.near.told ++ ns) (sym (asked_notices lc w.near.layer next request))),
+              (ap (λ (x : TwoLayers). x.near.told) all ∙ sym (append-nil w.near.told)
+              ∙ ap (λ (ns : List LayerNotice). w.near.told ++ ns) (sym (asked_notices lc w.near.layer next request))),
         )
 
     at : (b : Bool) → is_up link.phase ≡ b → (o : LayerOutcome) → layer_outcome lc full w.near.layer request ≡ o
@@ -112,7 +120,8 @@ request_joined runs tells c link w request step up few is =
     at false up_link o found answer = absurd (refused_did (error.Layer layer_error.NotUp) step answer)
     at true up_link (Declined e) found answer = absurd (refused_did (error.Layer e) step answer)
     at true up_link (Accepted next packet) found answer =
-        subst (λ (k : Step). Goal k) (did_is (with_puts c (alone link) (rounds view lc (begin next packet)) (station_asked lc w.near.layer next request)) step answer) (went_with next packet up_link found)
+        subst (λ (k : Step). Goal k) (did_is (with_puts c (alone link) (rounds view lc (begin next packet)) (station_asked lc w.near.layer next request)) step
+        answer) (went_with next packet up_link found)
 
 -- ---- steps of the link
 
@@ -125,22 +134,31 @@ pub down_joined : DownIsJoined
 down_joined c l k reason is = ap (λ (n : Notes). follows c l (record { side = k.side; packet = k.packet; notes = n })) is
 
 follows_heard : (c : Settings) (l : Layer) (k : LinkStep) (octets : List ℕ) → k.packet ≡ Some octets → IsQuiet k
-    → follows c l k ≡ with_puts c k.side (hears (view_of (link_settings c) k.side.near) (layer_settings c) c.wide l octets).step (entries_of_packet (layer_settings c) c.wide l octets)
+    → follows c l k ≡ with_puts c k.side (hears (view_of (link_settings c) k.side.near) (layer_settings c) c.wide l octets).step
+    (entries_of_packet (layer_settings c) c.wide l octets)
 follows_heard c l k octets some quiet =
     ap (λ (o : Option (List ℕ)). follows c l (record { side = k.side; packet = o; notes = k.notes })) some
     ∙ ap (λ (n : Notes). follows c l (record { side = k.side; packet = Some octets; notes = n })) quiet
 
-heard_joined : HearsRun → PutTells → (c : Settings) (w : TwoLayers) (k : LinkStep) (octets : List ℕ) (packet : PlainPacket) (back : List PlainPacket) → w.near.is_out ≡ false → w.back ≡ packet ∷ back
-    → k.packet ≡ Some octets → IsQuiet k → is_up k.side.near.phase ≡ true → waits k.side.near.outgoing < 256 → read_in c.wide (longest_user c.long_data) octets ≡ Ok packet
-    → (pulled : List ℕ) × AreChannels c.channels pulled × IsJoined c w (moves_all (layer_settings c) w (HandsUp ∷ pulls_of pulled)) k.side back (follows c w.near.layer k)
+heard_joined : HearsRun → PutTells → (c : Settings) (w : TwoLayers) (k : LinkStep) (octets : List ℕ) (packet : PlainPacket) (back : List PlainPacket)
+    → w.near.is_out ≡ false → w.back ≡ packet ∷ back
+    → k.packet ≡ Some octets → IsQuiet k → is_up k.side.near.phase ≡ true → waits k.side.near.outgoing < 256 → read_in c.wide (longest_user c.long_data) octets
+    ≡ Ok packet
+    → (pulled : List ℕ) × AreChannels c.channels pulled
+    × IsJoined c w (moves_all (layer_settings c) w (HandsUp ∷ pulls_of pulled)) k.side back (follows c w.near.layer k)
 heard_joined runs tells c w k octets packet back up front some quiet up_link low read =
     subst (λ (step : Step). Goal step) (sym (follows_heard c w.near.layer k octets some quiet)) (
       r.0,
       r.1,
-      joined c w (HandsUp ∷ pulls_of r.0) (moves lc w HandsUp) k.side back (hears view lc c.wide w.near.layer octets).step (entries_of_packet lc c.wide w.near.layer octets) r.2
+      joined c w (HandsUp ∷ pulls_of r.0) (moves lc w HandsUp) k.side back (hears view lc c.wide w.near.layer octets).step
+          (entries_of_packet lc c.wide w.near.layer octets) r.2
           (rounds_accepted tells (link_settings c) k.side lc (begin a.next a.owed) up_link (begin_accepted (link_settings c) k.side a.owed up_link low))
-          (ap (λ (x : TwoLayers). x.near.entries) all ∙ ap (λ (es : List Entry). w.near.entries ++ es) (sym (told_entries a.next a.notices _ (behind_entries a.next (named_by octets) count (beside_in c.wide octets) (bringing a.notices)))))
-          (ap (λ (x : TwoLayers). x.near.told) all ∙ ap (λ (ns : List LayerNotice). w.near.told ++ ns) (sym (told_notices a.next a.notices _ (behind_notices a.next (named_by octets) count (beside_in c.wide octets) (bringing a.notices))))),
+          (ap (λ (x : TwoLayers). x.near.entries) all
+          ∙ ap (λ (es : List Entry). w.near.entries ++ es)
+          (sym (told_entries a.next a.notices _ (behind_entries a.next (named_by octets) count (beside_in c.wide octets) (bringing a.notices)))))
+          (ap (λ (x : TwoLayers). x.near.told) all
+          ∙ ap (λ (ns : List LayerNotice). w.near.told ++ ns)
+          (sym (told_notices a.next a.notices _ (behind_notices a.next (named_by octets) count (beside_in c.wide octets) (bringing a.notices))))),
     )
   where
     lc : LayerSettings
@@ -162,15 +180,18 @@ heard_joined runs tells c w k octets packet back up front some quiet up_link low
     same = ap (λ (read : Result PlainPacket PacketError). answer_to lc w.near.layer octets read) read
 
     all : moves lc w HandsUp ≡ answered w packet back a
-    all = ap (λ (o : Bool). moves_in lc w o HandsUp) up ∙ ap (λ (l : List PlainPacket). handed_up lc w l) front ∙ ap (λ (x : LayerAnswer). answered w packet back x) (sym same)
+    all = ap (λ (o : Bool). moves_in lc w o HandsUp) up ∙ ap (λ (l : List PlainPacket). handed_up lc w l) front
+        ∙ ap (λ (x : LayerAnswer). answered w packet back x) (sym same)
 
-    r : (pulled : List ℕ) × AreChannels c.channels pulled × IsRun lc w (HandsUp ∷ pulls_of pulled) (moves lc w HandsUp) (hears view lc c.wide w.near.layer octets).step back
+    r : (pulled : List ℕ) × AreChannels c.channels pulled
+        × IsRun lc w (HandsUp ∷ pulls_of pulled) (moves lc w HandsUp) (hears view lc c.wide w.near.layer octets).step back
     r = runs view lc c.wide w packet back octets up front read
 
 pub receive_joined : HearsRun → PutTells → TakeTells → TakeHandsUp → ReceiveIsJoined
 receive_joined runs tells takes hands c link w octets packet_octets packet back up front none some reads =
     subst (λ (b : Bool). Goal (if b then abandon_step (link_settings c) link else k)) (sym none)
-    (heard_joined runs tells c w k packet_octets packet back up front some quiet up_after (omega (arith, (hands (link_settings c) octets link).few_after packet_octets some)) reads)
+    (heard_joined runs tells c w k packet_octets packet back up front some quiet up_after
+    (omega (arith, (hands (link_settings c) octets link).few_after packet_octets some)) reads)
   where
     k : LinkStep
     k = take_step (link_settings c) octets link
@@ -182,13 +203,22 @@ receive_joined runs tells takes hands c link w octets packet_octets packet back 
     up_after = (takes (link_settings c) octets link).stays quiet ∙ ap is_up ((hands (link_settings c) octets link).up packet_octets some)
 
     Goal : LinkStep → Type 0
-    Goal x = (pulled : List ℕ) × AreChannels c.channels pulled × IsJoined c w (moves_all (layer_settings c) w (HandsUp ∷ pulls_of pulled)) k.side back (follows c w.near.layer x)
+    Goal x = (pulled : List ℕ) × AreChannels c.channels pulled
+        × IsJoined c w (moves_all (layer_settings c) w (HandsUp ∷ pulls_of pulled)) k.side back (follows c w.near.layer x)
 
 -- ---- LinkUp
 
 pub up_joined : ComesUpAlone → UpIsJoined
 up_joined alone_put c l k up is = subst (λ (step : Step). ComesUp c k step) (sym whole) (record {
-  link = record { accepted = (accepts k.side.near (ap (λ (s : LinkStation). is_up s.phase) is) (subst (λ (s : LinkStation). waits s.outgoing < 256) (sym is) (omega arith)), tt); link = refl; out = refl };
+  link = record {
+    accepted = (
+      accepts k.side.near (ap (λ (s : LinkStation). is_up s.phase) is)
+          (subst (λ (s : LinkStation). waits s.outgoing < 256) (sym is) (omega arith)),
+      tt,
+    );
+    link = refl;
+    out = refl;
+  };
   layer = refl;
   entries = refl;
 })
@@ -201,6 +231,7 @@ up_joined alone_put c l k up is = subst (λ (step : Step). ComesUp c k step) (sy
 
     whole : follows c l k ≡ with_puts c k.side (begin (goes_up lc).next (goes_up lc).owed) (entries_noted k.notes)
     whole =
-        ap (λ (b : Bool). with_puts c k.side (layer_at view lc c.wide l k.packet k.notes.down b) (entries_noted k.notes ++ entries_heard lc c.wide l k.packet k.notes.down b)) up
+        ap (λ (b : Bool). with_puts c k.side (layer_at view lc c.wide l k.packet k.notes.down b)
+        (entries_noted k.notes ++ entries_heard lc c.wide l k.packet k.notes.down b)) up
         ∙ ap (λ (s : Putting). with_puts c k.side s (entries_noted k.notes ++ [])) (alone_put view lc)
         ∙ ap (λ (es : List StationEntry). with_puts c k.side (begin (goes_up lc).next (goes_up lc).owed) es) (append-nil (entries_noted k.notes))

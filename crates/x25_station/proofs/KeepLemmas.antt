@@ -1,5 +1,6 @@
 -- Every step of a station leaves at most 256 packets waiting, and the layer at rest where the link isn't up.
-use Rattle.std.proofs.Common.{◌≡◌, ℕ, zero, suc, ◌+◌, ◌<◌, ◌≤◌, List, [], ◌∷◌, ◌++◌, length, max, Option, Some, None, Bool, true, false, not, nat_lt, ◌==◌, if◌then◌else◌, option_to_list, refl, sym, ap, subst, ◌∙◌, arith, length-append}
+use Rattle.std.proofs.Common.{◌≡◌, ℕ, zero, suc, ◌+◌, ◌<◌, ◌≤◌, List, [], ◌∷◌, ◌++◌, length, max, Option, Some, None, Bool, true, false, not, nat_lt, ◌==◌}
+use Rattle.std.proofs.Common.{if◌then◌else◌, option_to_list, refl, sym, ap, subst, ◌∙◌, arith, length-append}
 use Rattle.std.proofs.lemmas.Bool.{eq-eqb}
 use Rattle.std.proofs.Math.Nat.{le_trans}
 use Rattle.x25_packet.specs.Packet.{PlainPacket}
@@ -11,10 +12,14 @@ use Rattle.x25_link.specs.declared.phase.Phase.TheVariants.{Down, Waiting, Up, C
 use Rattle.x25_link.specs.declared.phase.Reason.{Reason}
 use Rattle.x25_link.specs.declared.phase.Reason.TheVariants.{Retries}
 use Rattle.x25_link.specs.Outgoing.{Outgoing, waits, moved_on, added}
-use Rattle.x25_link.specs.Station.{LinkSettings, LinkStation, Lists, Side, is_up, fresh, with_nothing, with_near, is_busy, ready, may_send, send_next, pumped, owes_ready, ended}
+use Rattle.x25_link.specs.Station.{LinkSettings, LinkStation, Lists, Side, is_up, fresh, with_nothing, with_near, is_busy, ready, may_send, send_next, pumped}
+use Rattle.x25_link.specs.Station.{owes_ready, ended}
 use Rattle.x25_link.specs.Hearing.{LinkStep, quiet, leaves}
-use Rattle.x25_link.specs.Link.{alone, put_refusal, put_step, take_step, timer_refusal, asks_again, timer_step, connect_refusal, connects as link_connects, connect_step, disconnect_refusal, disconnects as link_disconnects, disconnect_step, abandon_step, probe_refusal, relink_refusal, relinks as link_relinks, relink_step}
-use Rattle.x25_link.specs.laws.NoteLaw.{IsQuiet, Tells, HandsUp, TakeTells, TakeContinues, TakeHandsUp, TimerTells, TimerContinues, PutTells, ConnectTells, DisconnectTells, AbandonTells, RelinkTells}
+use Rattle.x25_link.specs.Link.{alone, put_refusal, put_step, take_step, timer_refusal, asks_again, timer_step, connect_refusal, connects as link_connects}
+use Rattle.x25_link.specs.Link.{connect_step, disconnect_refusal, disconnects as link_disconnects, disconnect_step, abandon_step, probe_refusal, relink_refusal}
+use Rattle.x25_link.specs.Link.{relinks as link_relinks, relink_step}
+use Rattle.x25_link.specs.laws.NoteLaw.{IsQuiet, Tells, HandsUp, TakeTells, TakeContinues, TakeHandsUp, TimerTells, TimerContinues, PutTells, ConnectTells}
+use Rattle.x25_link.specs.laws.NoteLaw.{DisconnectTells, AbandonTells, RelinkTells}
 use Rattle.x25_layer.specs.declared.error.LayerError.TheVariants as layer_error
 use Rattle.x25_layer.specs.Layer.{LayerSettings, Layer, goes_up}
 use Rattle.x25_layer.specs.Calls.{LayerOutcome, Accepted, Declined, layer_outcome}
@@ -32,7 +37,8 @@ use Rattle.x25_station.proofs.MayLemmas.{where_holds}
 
 -- ---- what waits in the link
 
-lower_if : (b : Bool) (u v t : Side) → waits u.near.outgoing ≤ waits t.near.outgoing → waits v.near.outgoing ≤ waits t.near.outgoing → (let w : Side = if b then u else v in waits w.near.outgoing) ≤ waits t.near.outgoing
+lower_if : (b : Bool) (u v t : Side) → waits u.near.outgoing ≤ waits t.near.outgoing → waits v.near.outgoing ≤ waits t.near.outgoing
+    → (let w : Side = if b then u else v in waits w.near.outgoing) ≤ waits t.near.outgoing
 lower_if true u v t p q = p
 lower_if false u v t p q = q
 
@@ -71,18 +77,21 @@ none_some x e = cc
 pub room_of : (s : LinkStation) → put_refusal s ≡ None → waits s.outgoing ≤ 256 → waits s.outgoing < 256
 room_of s none few = up (is_up s.phase) none
   where
-    full : (b : Bool) → (waits s.outgoing == 256) ≡ b → (let o : Option LinkError = if b then Some link_error.QueueFull else None in o) ≡ None → waits s.outgoing < 256
+    full : (b : Bool) → (waits s.outgoing == 256) ≡ b → (let o : Option LinkError = if b then Some link_error.QueueFull else None in o) ≡ None
+        → waits s.outgoing < 256
     full true is e = absurd (none_some link_error.QueueFull e)
     full false is e = omega (arith, few, (λ (same : waits s.outgoing ≡ 256). differ (sym (eq-eqb (waits s.outgoing) 256 same) ∙ is)))
       where
         differ : true ≡ false → ⊥
         differ x = cc
 
-    up : (b : Bool) → (let o : Option LinkError = if not b then Some link_error.NotUp else if waits s.outgoing == 256 then Some link_error.QueueFull else None in o) ≡ None → waits s.outgoing < 256
+    up : (b : Bool) → (let o : Option LinkError = if not b then Some link_error.NotUp else if waits s.outgoing == 256 then Some link_error.QueueFull
+        else None in o) ≡ None → waits s.outgoing < 256
     up false e = absurd (none_some link_error.NotUp e)
     up true e = full (waits s.outgoing == 256) refl e
 
-pub all_few : (c : LinkSettings) (packets : List PlainPacket) (t : Side) → AreAccepted c packets t → waits t.near.outgoing ≤ 256 → waits (all_put c packets t).near.outgoing ≤ 256
+pub all_few : (c : LinkSettings) (packets : List PlainPacket) (t : Side) → AreAccepted c packets t → waits t.near.outgoing ≤ 256
+    → waits (all_put c packets t).near.outgoing ≤ 256
 all_few c [] t all few = few
 all_few c (p ∷ packets) t all few = all_few c packets (put_on c p t) all.1 (put_few c (spelling_of p) t.near (room_of t.near all.0 few))
 
@@ -92,13 +101,15 @@ true_false : true ≡ false → ⊥
 true_false e = cc
 
 -- where the link is up the layer need not rest
-up_kept : PutTells → (c : Settings) (t : Side) (s : Putting) (entries : List StationEntry) → is_up t.near.phase ≡ true → waits t.near.outgoing ≤ 256 → AreAccepted (link_settings c) s.put t → IsKept (with_puts c t s entries).near
+up_kept : PutTells → (c : Settings) (t : Side) (s : Putting) (entries : List StationEntry) → is_up t.near.phase ≡ true → waits t.near.outgoing ≤ 256
+    → AreAccepted (link_settings c) s.put t → IsKept (with_puts c t s entries).near
 up_kept tells c t s entries up few all = record {
   few = all_few (link_settings c) s.put t all few;
   rests = λ is. absurd (true_false (sym (all_up tells (link_settings c) s.put t up) ∙ is));
 }
 
-answer_kept : PutTells → (c : Settings) (t : Side) (next : Layer) (owed : Option PlainPacket) (entries : List StationEntry) → is_up t.near.phase ≡ true → waits t.near.outgoing < 256
+answer_kept : PutTells → (c : Settings) (t : Side) (next : Layer) (owed : Option PlainPacket) (entries : List StationEntry) → is_up t.near.phase ≡ true
+    → waits t.near.outgoing < 256
     → IsKept (with_puts c t (rounds (view_of (link_settings c) t.near) (layer_settings c) (begin next owed)) entries).near
 answer_kept tells c t next owed entries up low =
     up_kept tells c t (rounds (view_of (link_settings c) t.near) (layer_settings c) (begin next owed)) entries up (omega (arith, low))
@@ -131,10 +142,15 @@ follows_kept tells c s k kept g = by k.packet refl k.notes.down refl k.notes.up 
         → IsKept (with_puts c k.side (layer_at view lc c.wide s.layer p d u) []).near
     by p is_p d is_d true is_u =
         let new : k.side.near ≡ fresh = g.tells.fresh_up is_u in
-        answer_kept tells c k.side (goes_up lc).next (goes_up lc).owed [] (ap (λ (x : LinkStation). is_up x.phase) new) (subst (λ (x : LinkStation). waits x.outgoing < 256) (sym new) (omega arith))
-    by p is_p (Some reason) is_d false is_u = record { few = empty_few k.side.near (ap (λ (l : Lists). l.given) (g.tells.dropped reason is_d is_u)); rests = λ is. refl }
+        answer_kept tells c k.side (goes_up lc).next (goes_up lc).owed [] (ap (λ (x : LinkStation). is_up x.phase) new)
+        (subst (λ (x : LinkStation). waits x.outgoing < 256) (sym new) (omega arith))
+    by p is_p (Some reason) is_d false is_u = record {
+      few = empty_few k.side.near (ap (λ (l : Lists). l.given) (g.tells.dropped reason is_d is_u));
+      rests = λ is. refl;
+    }
     by (Some octets) is_p None is_d false is_u =
-        answer_kept tells c k.side (layer_answer lc c.wide s.layer octets).next (layer_answer lc c.wide s.layer octets).owed [] (g.up octets is_p) (g.room octets is_p)
+        answer_kept tells c k.side (layer_answer lc c.wide s.layer octets).next (layer_answer lc c.wide s.layer octets).owed [] (g.up octets is_p)
+        (g.room octets is_p)
     by None is_p None is_d false is_u =
         record { few = g.few (noted None false is_d is_u); rests = λ is. kept.rests (sym (g.tells.stays (noted None false is_d is_u)) ∙ is) }
 
@@ -176,7 +192,8 @@ take_keeps laws c octets s few =
 pub timer_none : (c : LinkSettings) (s : LinkStation) → (timer_step c s).packet ≡ None
 timer_none c s = test (nat_lt s.tries c.retries)
   where
-    test : (b : Bool) → (let k : LinkStep = if b then quiet (asks_again s.phase (with_near (alone s) (record s { tries = s.tries + 1 }))) else leaves Retries (alone s) in k.packet) ≡ None
+    test : (b : Bool) → (let k : LinkStep = if b then quiet (asks_again s.phase (with_near (alone s) (record s { tries = s.tries + 1 })))
+        else leaves Retries (alone s) in k.packet) ≡ None
     test true = refl
     test false = refl
 
@@ -184,7 +201,8 @@ timer_keeps : LinkLaws → (c : LinkSettings) (s : LinkStation) → waits s.outg
 timer_keeps laws c s few = hands_nothing s (timer_step c s) (timer_none c s) (laws.timer c s) (λ quiet. le_trans ((laws.timer_continues c s).waits quiet) few)
 
 connect_keeps : LinkLaws → (c : LinkSettings) (s : LinkStation) → s.phase ≡ Down → waits s.outgoing ≤ 256 → LinkKeeps s (connect_step c s)
-connect_keeps laws c s down few = hands_nothing s (connect_step c s) refl (laws.connect c s down) (λ quiet. le_trans (ended_lower c.window (link_connects (alone s)).side) few)
+connect_keeps laws c s down few = hands_nothing s (connect_step c s) refl (laws.connect c s down)
+    (λ quiet. le_trans (ended_lower c.window (link_connects (alone s)).side) few)
 
 disconnect_keeps : LinkLaws → (c : LinkSettings) (s : LinkStation) → LinkKeeps s (disconnect_step c s)
 disconnect_keeps laws c s =
@@ -192,10 +210,12 @@ disconnect_keeps laws c s =
     (λ quiet. le_trans (ended_lower c.window (link_disconnects (alone s)).side) (omega arith))
 
 abandon_keeps : LinkLaws → (c : LinkSettings) (s : LinkStation) → LinkKeeps s (abandon_step c s)
-abandon_keeps laws c s = hands_nothing s (abandon_step c s) refl (laws.abandon c s) (λ quiet. le_trans (ended_lower c.window (with_near (alone s) (with_nothing Down s.tries))) (omega arith))
+abandon_keeps laws c s = hands_nothing s (abandon_step c s) refl (laws.abandon c s)
+    (λ quiet. le_trans (ended_lower c.window (with_near (alone s) (with_nothing Down s.tries))) (omega arith))
 
 relink_keeps : LinkLaws → (c : LinkSettings) (s : LinkStation) → LinkKeeps s (relink_step c s)
-relink_keeps laws c s = hands_nothing s (relink_step c s) refl (laws.relink c s) (λ quiet. le_trans (ended_lower c.window (link_relinks (alone s)).side) (omega arith))
+relink_keeps laws c s = hands_nothing s (relink_step c s) refl (laws.relink c s)
+    (λ quiet. le_trans (ended_lower c.window (link_relinks (alone s)).side) (omega arith))
 
 -- ---- the calls
 
@@ -211,7 +231,8 @@ is_down Closed e = absurd (none_some link_error.Closed e)
 
 pub connect_kept : LinkLaws → ConnectKeeps
 connect_kept laws c s kept = unless_kept (connect_refusal s.link.phase) (follows c s.layer (connect_step (link_settings c) s.link))
-    (λ none. follows_kept laws.put c s (connect_step (link_settings c) s.link) kept (connect_keeps laws (link_settings c) s.link (is_down s.link.phase none) kept.few))
+    (λ none. follows_kept laws.put c s (connect_step (link_settings c) s.link) kept
+    (connect_keeps laws (link_settings c) s.link (is_down s.link.phase none) kept.few))
 
 pub timer_kept : LinkLaws → TimerKeeps
 timer_kept laws c s kept = unless_kept (timer_refusal s.link) (follows c s.layer (timer_step (link_settings c) s.link))
@@ -220,7 +241,8 @@ timer_kept laws c s kept = unless_kept (timer_refusal s.link) (follows c s.layer
 pub receive_kept : LinkLaws → ReceiveKeeps
 receive_kept laws c s octets kept = test (abandons c s)
   where
-    test : (b : Bool) → (let k : LinkStep = if b then abandon_step (link_settings c) s.link else take_step (link_settings c) octets s.link in IsKept (follows c s.layer k).near)
+    test : (b : Bool) → (let k : LinkStep = if b then abandon_step (link_settings c) s.link else take_step (link_settings c) octets s.link in
+        IsKept (follows c s.layer k).near)
     test true = follows_kept laws.put c s (abandon_step (link_settings c) s.link) kept (abandon_keeps laws (link_settings c) s.link)
     test false = follows_kept laws.put c s (take_step (link_settings c) octets s.link) kept (take_keeps laws (link_settings c) octets s.link kept.few)
 
@@ -229,7 +251,8 @@ below n low differ = omega (arith, low, (λ (e : n ≡ 256). true_false (sym (eq
 
 pub request_kept : PutTells → RequestKeeps
 request_kept tells c s request kept =
-    where_holds KeptBy (may_ask c.wide request) (requests_of c s.link s.layer view request) (λ e. tt) (at (is_up s.link.phase) refl (layer_outcome lc full s.layer request) refl)
+    where_holds KeptBy (may_ask c.wide request) (requests_of c s.link s.layer view request) (λ e. tt)
+    (at (is_up s.link.phase) refl (layer_outcome lc full s.layer request) refl)
   where
     lc : LayerSettings
     lc = layer_settings c
@@ -240,9 +263,11 @@ request_kept tells c s request kept =
     view : LinkView
     view = view_of (link_settings c) s.link
 
-    accepted : (next : Layer) (packet : Option PlainPacket) → is_up s.link.phase ≡ true → layer_outcome lc full s.layer request ≡ Accepted next packet → AreAccepted (link_settings c) (option_to_list packet) (alone s.link)
+    accepted : (next : Layer) (packet : Option PlainPacket) → is_up s.link.phase ≡ true → layer_outcome lc full s.layer request ≡ Accepted next packet
+        → AreAccepted (link_settings c) (option_to_list packet) (alone s.link)
     accepted next None up found = tt
-    accepted next (Some p) up found = begin_accepted (link_settings c) (alone s.link) (Some p) up (below (waits s.link.outgoing) kept.few (has_room lc full s.layer request next p found))
+    accepted next (Some p) up found = begin_accepted (link_settings c) (alone s.link) (Some p) up
+        (below (waits s.link.outgoing) kept.few (has_room lc full s.layer request next p found))
 
     at : (b : Bool) → is_up s.link.phase ≡ b → (o : LayerOutcome) → layer_outcome lc full s.layer request ≡ o
         → KeptBy (did c (alone s.link) (entries_of_outcome lc s.layer request o) (if b then went view lc o else Refuses layer_error.NotUp))
@@ -260,10 +285,13 @@ kept_led entries (Some e) step kept = tt
 pub command_kept : LinkLaws → GivenKeeps → CommandKeeps
 command_kept laws gives c s (Requests request) kept = request_kept laws.put c s (said_by c.say_sizes s.layer request) kept
 command_kept laws gives c s (RequestsWith given request) kept = gives c s given (said_by c.say_sizes s.layer request) kept
-command_kept laws gives c s Connects kept = kept_led (connect_asked ∷ []) (connect_refusal s.link.phase) (follows c s.layer (connect_step (link_settings c) s.link)) (connect_kept laws c s kept)
-command_kept laws gives c s Disconnects kept = unless_kept (disconnect_refusal s.link.phase) (led_by (disconnect_asked ∷ []) (follows c s.layer (disconnect_step (link_settings c) s.link)))
+command_kept laws gives c s Connects kept = kept_led (connect_asked ∷ []) (connect_refusal s.link.phase)
+    (follows c s.layer (connect_step (link_settings c) s.link)) (connect_kept laws c s kept)
+command_kept laws gives c s Disconnects kept = unless_kept (disconnect_refusal s.link.phase)
+    (led_by (disconnect_asked ∷ []) (follows c s.layer (disconnect_step (link_settings c) s.link)))
     (λ none. follows_kept laws.put c s (disconnect_step (link_settings c) s.link) kept (disconnect_keeps laws (link_settings c) s.link))
 command_kept laws gives c s Probes kept = unless_kept (probe_refusal s.link.phase) (follows c s.layer (timer_step (link_settings c) s.link))
     (λ none. follows_kept laws.put c s (timer_step (link_settings c) s.link) kept (timer_keeps laws (link_settings c) s.link kept.few))
-command_kept laws gives c s Relinks kept = unless_kept (relink_refusal s.link.phase) (led_by (relink_asked ∷ []) (follows c s.layer (relink_step (link_settings c) s.link)))
+command_kept laws gives c s Relinks kept = unless_kept (relink_refusal s.link.phase)
+    (led_by (relink_asked ∷ []) (follows c s.layer (relink_step (link_settings c) s.link)))
     (λ none. follows_kept laws.put c s (relink_step (link_settings c) s.link) kept (relink_keeps laws (link_settings c) s.link))

@@ -1,6 +1,6 @@
 -- What holds of a request that may be asked, and of its refusals, holds of each request.
 use Rattle.std.proofs.Common.{◌≡◌, ℕ, Bool, true, false, refl, subst}
-use Rattle.x25_circuit.specs.Calling.{Request, Calls, Accepts, Clears, Sends, Interrupts, Resets, SaysReady, SaysNotReady}
+use Rattle.x25_circuit.specs.Calling.{Request, Calls, Accepts, Sends}
 use Rattle.x25_layer.specs.Calls.{Asks, asks_memory}
 use Rattle.x25_station.specs.declared.error.StationError.{StationError}
 use Rattle.x25_station.specs.Command.{may_ask}

@@ -1,11 +1,12 @@
 -- Pulls of data packets keep the names of all stretches, the packet sizes and windows of all calls, and how many messages
 -- are unconfirmed.
-use Rattle.std.proofs.Common.{◌≡◌, ℕ, zero, suc, List, [], ◌∷◌, ◌++◌, ◌%◌, Option, Some, None, Bool, true, false, ◌&&◌, ◌+◌, nat_lt, length, ◌==◌, if◌then◌else◌, drop, refl, ap, sym, ◌∙◌}
+use Rattle.std.proofs.Common.{◌≡◌, ℕ, zero, suc, List, [], ◌∷◌, ◌++◌, ◌%◌, Option, Some, None, Bool, true, false, ◌&&◌, ◌+◌, nat_lt, length, ◌==◌}
+use Rattle.std.proofs.Common.{if◌then◌else◌, drop, refl, ap, sym, ◌∙◌}
 use Rattle.std.proofs.lemmas.Bool.{eqb-true}
 use Rattle.std.proofs.lemmas.List.{append_assoc}
 use Rattle.x25_packet.specs.Packet.{PlainPacket}
 use Rattle.x25_circuit.specs.declared.state.State.{State}
-use Rattle.x25_circuit.specs.declared.state.State.TheVariants.{Free, Calling, Arriving, Collision, Open, Resetting, Clearing}
+use Rattle.x25_circuit.specs.declared.state.State.TheVariants.{Open}
 use Rattle.x25_circuit.specs.declared.params.Params.{Params}
 use Rattle.x25_circuit.specs.Circuit.{CircuitSettings, Circuit, Talk, talking, outgoing, is_open_in, unconfirmed}
 use Rattle.x25_circuit.specs.Message.{Piece, asked_in}
@@ -25,19 +26,33 @@ record Kept : Type 0 where
   unconfirmed : ℕ
 
 abbrev kept_in : ℕ → Circuit → Kept
-kept_in restarts x = record { name = record { restarts = restarts; clears = x.clears; resets = x.resets }; params = x.params; state = x.state; unconfirmed = unconfirmed x }
+kept_in restarts x = record {
+  name = record { restarts = restarts; clears = x.clears; resets = x.resets };
+  params = x.params;
+  state = x.state;
+  unconfirmed = unconfirmed x;
+}
 
 abbrev kept_of : Layer → ℕ → Kept
 kept_of l h = kept_in l.restarts (l.circuits h)
 
 -- a packet that waited is one that was sent
-open_counts : (n : ℕ) (c : CircuitSettings) (x : Circuit) (t : Talk) (rest : List Piece) → asked_in (drop t.acked (t.sent ++ rest)) ≡ unconfirmed x → kept_in n (pull_open c x t rest).next ≡ kept_in n x
+open_counts : (n : ℕ) (c : CircuitSettings) (x : Circuit) (t : Talk) (rest : List Piece) → asked_in (drop t.acked (t.sent ++ rest)) ≡ unconfirmed x
+    → kept_in n (pull_open c x t rest).next ≡ kept_in n x
 open_counts n c x t [] same = refl
 open_counts n c x t (piece ∷ rest) same = test (t.peer_ready && nat_lt (length t.sent) (t.acked + (outgoing x).window))
   where
     moved : Pulled
     moved = record {
-      next = talking x (record { sent = t.sent ++ piece ∷ []; taken = t.taken; acked = t.acked; rest = rest; int_out = t.int_out; peer_ready = t.peer_ready; own_ready = t.own_ready });
+      next = talking x (record {
+        sent = t.sent ++ piece ∷ [];
+        taken = t.taken;
+        acked = t.acked;
+        rest = rest;
+        int_out = t.int_out;
+        peer_ready = t.peer_ready;
+        own_ready = t.own_ready;
+      });
       packet = Some (data_packet (length t.sent % 8) (length t.taken % 8) piece);
     }
 
@@ -51,7 +66,8 @@ state_counts : (n : ℕ) (c : CircuitSettings) (x : Circuit) (state : State) →
 state_counts n c x Open = open_counts n c x x.talk x.talk.rest refl
 state_counts n c x state = refl
 
-put_kept : (n : ℕ) (circuits : ℕ → Circuit) (k : ℕ) (next : Circuit) (h : ℕ) → kept_in n next ≡ kept_in n (circuits k) → kept_in n (put_at circuits k next h) ≡ kept_in n (circuits h)
+put_kept : (n : ℕ) (circuits : ℕ → Circuit) (k : ℕ) (next : Circuit) (h : ℕ) → kept_in n next ≡ kept_in n (circuits k) → kept_in n (put_at circuits k next h)
+    ≡ kept_in n (circuits h)
 put_kept n circuits k next h same = test (h == k) refl
   where
     test : (b : Bool) → (h == k) ≡ b → kept_in n (if b then next else circuits h) ≡ kept_in n (circuits h)
@@ -59,16 +75,19 @@ put_kept n circuits k next h same = test (h == k) refl
     test false is = refl
 
 pulled_kept : (c : LayerSettings) (l : Layer) (k h : ℕ) → kept_of (layer_pulled c l k).next h ≡ kept_of l h
-pulled_kept c l k h = put_kept l.restarts l.circuits k (pulled c.circuit (l.circuits k)).next h (state_counts l.restarts c.circuit (l.circuits k) (l.circuits k).state)
+pulled_kept c l k h = put_kept l.restarts l.circuits k (pulled c.circuit (l.circuits k)).next h
+    (state_counts l.restarts c.circuit (l.circuits k) (l.circuits k).state)
 
-with_kept : (s : Putting) (p : LayerPulled) (o : Option PlainPacket) (h : ℕ) → kept_of p.next h ≡ kept_of s.layer h → kept_of (with_pulled s p o).layer h ≡ kept_of s.layer h
+with_kept : (s : Putting) (p : LayerPulled) (o : Option PlainPacket) (h : ℕ) → kept_of p.next h ≡ kept_of s.layer h → kept_of (with_pulled s p o).layer h
+    ≡ kept_of s.layer h
 with_kept s p None h same = refl
 with_kept s p (Some packet) h same = same
 
 one_kept : (link : LinkView) (c : LayerSettings) (k : ℕ) (s : Putting) (h : ℕ) → kept_of (pull_one link c k s).layer h ≡ kept_of s.layer h
 one_kept link c k s h = test (nat_lt (link.waits s.put) 8)
   where
-    test : (b : Bool) → (let t : Putting = if b then with_pulled s (layer_pulled c s.layer k) (layer_pulled c s.layer k).packet else s in kept_of t.layer h) ≡ kept_of s.layer h
+    test : (b : Bool) → (let t : Putting = if b then with_pulled s (layer_pulled c s.layer k) (layer_pulled c s.layer k).packet else s in kept_of t.layer h)
+        ≡ kept_of s.layer h
     test true = with_kept s (layer_pulled c s.layer k) (layer_pulled c s.layer k).packet h (pulled_kept c s.layer k h)
     test false = refl
 
@@ -92,5 +111,6 @@ rounds_params link c s h = ap (λ (k : Kept). k.params) (rounds_kept link c s h)
 pub rounds_open : (link : LinkView) (c : LayerSettings) (s : Putting) (h : ℕ) → is_open_at c (rounds link c s).layer h ≡ is_open_at c s.layer h
 rounds_open link c s h = ap (λ (k : Kept). if is_channel c.channels h then is_open_in k.state else false) (rounds_kept link c s h)
 
-pub rounds_unconfirmed : (link : LinkView) (c : LayerSettings) (s : Putting) (h : ℕ) → unconfirmed ((rounds link c s).layer.circuits h) ≡ unconfirmed (s.layer.circuits h)
+pub rounds_unconfirmed : (link : LinkView) (c : LayerSettings) (s : Putting) (h : ℕ) → unconfirmed ((rounds link c s).layer.circuits h)
+    ≡ unconfirmed (s.layer.circuits h)
 rounds_unconfirmed link c s h = ap (λ (k : Kept). k.unconfirmed) (rounds_kept link c s h)

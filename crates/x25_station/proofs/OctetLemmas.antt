@@ -18,7 +18,8 @@ of_circuits (u ∷ us) =
     rw (sum_by-cons circuit_octets u us, sum_by-cons part_octets u us) (omega (arith, one, rest))
 
 -- where each makes memory for so many
-of_parts : (n : ℕ) (us : List circuit_code.Circuit) → ((k : ℕ) (u : circuit_code.Circuit) → slice_get us k ≡ Some u → part_octets u ≡ n) → sum_by part_octets us ≡ n * length us
+of_parts : (n : ℕ) (us : List circuit_code.Circuit) → ((k : ℕ) (u : circuit_code.Circuit) → slice_get us k ≡ Some u → part_octets u ≡ n)
+    → sum_by part_octets us ≡ n * length us
 of_parts n [] each = sym (mul-zero n)
 of_parts n (u ∷ us) each =
     let one : part_octets u ≡ n = each 0 u refl in
@@ -36,6 +37,7 @@ few_in_all c v s fits =
     let n : ℕ = length v.layer.circuits.items in
     let all : octets_held v ≤ 236539 + (589815 + c.channels.message) * n =
     rw (add-mul 589815 c.channels.message n)
-    (subst (λ (m : ℕ). octets_held v ≤ 236539 + (589815 * n + m)) (of_parts c.channels.message v.layer.circuits.items (λ k u is. (fits.layer.circuits k u is).longest))
+    (subst (λ (m : ℕ). octets_held v ≤ 236539 + (589815 * n + m))
+    (of_parts c.channels.message v.layer.circuits.items (λ k u is. (fits.layer.circuits k u is).longest))
     (few_octets v)) in
     subst (λ (m : ℕ). octets_held v ≤ 236539 + (589815 + c.channels.message) * m) fits.layer.channels all

@@ -5,7 +5,7 @@ use Rattle.x25_frame.specs.Spelling.{spelling_of}
 use Rattle.x25_link.specs.declared.error.LinkError.{LinkError}
 use Rattle.x25_link.specs.declared.error.LinkError.TheVariants as link_error
 use Rattle.x25_link.specs.declared.phase.Phase.{Phase}
-use Rattle.x25_link.specs.declared.phase.Phase.TheVariants.{Down, Waiting, Up, Closed}
+use Rattle.x25_link.specs.declared.phase.Phase.TheVariants.{Down, Up, Closed}
 use Rattle.x25_link.specs.Station.{LinkStation}
 use Rattle.x25_link.specs.Link as link
 use Rattle.x25_link.specs.code.FitsLink.{ShownLink}
@@ -26,25 +26,30 @@ use Rattle.x25_station.proofs.ResultLemmas.{ok_err, err_is}
 
 -- ---- an accepted call, which the link may refuse
 
-pub leaves_unless : {manner : Manner} (c : Settings) (l : ShownLink) (y : layer_code.Layer) (o : Option LinkError) (step : Step) → KeptBy (unless o step) → (IsKept step.near → FitsParts c manner l y step.near)
+pub leaves_unless : {manner : Manner} (c : Settings) (l : ShownLink) (y : layer_code.Layer) (o : Option LinkError) (step : Step) → KeptBy (unless o step)
+    → (IsKept step.near → FitsParts c manner l y step.near)
     → LeavesParts {T = Unit} c manner l y (Ok tt) (unless o step)
 leaves_unless c l y None step kept fits = fits kept
 leaves_unless c l y (Some e) step kept fits = tt
 
-pub sends_unless : (c : Settings) (r : code_step.Step) (o : Option LinkError) (step : Step) → r.frames ≡ map (spelling_of c.role) step.out → Sends {T = Unit} c r (Ok tt) (unless o step)
+pub sends_unless : (c : Settings) (r : code_step.Step) (o : Option LinkError) (step : Step) → r.frames ≡ map (spelling_of c.role) step.out
+    → Sends {T = Unit} c r (Ok tt) (unless o step)
 sends_unless c r None step frames = frames
 sends_unless c r (Some e) step frames = tt
 
-pub enters_unless : (r : code_step.Step) (o : Option LinkError) (step : Step) → map plain_entry r.entries.items ≡ step.entries → Enters {T = Unit} r (Ok tt) (unless o step)
+pub enters_unless : (r : code_step.Step) (o : Option LinkError) (step : Step) → map plain_entry r.entries.items ≡ step.entries
+    → Enters {T = Unit} r (Ok tt) (unless o step)
 enters_unless r None step entries = entries
 enters_unless r (Some e) step entries = tt
 
 -- ---- so that the station stands for some state again
-pub leaves_some : {manner : Manner} (c : Settings) (l : ShownLink) (y : layer_code.Layer) (o : Outcome) → LeavesParts {T = Unit} c manner l y (Ok tt) o → Refuses {T = Unit} (Ok tt) o → (d : Settings) × (s : Station) × FitsParts d manner l y s
+pub leaves_some : {manner : Manner} (c : Settings) (l : ShownLink) (y : layer_code.Layer) (o : Outcome) → LeavesParts {T = Unit} c manner l y (Ok tt) o
+    → Refuses {T = Unit} (Ok tt) o → (d : Settings) × (s : Station) × FitsParts d manner l y s
 leaves_some c l y (Did step) fits none = (c, step.near, fits)
 leaves_some c l y (Refused e) fits none = absurd none
 
-pub still_meant : {manner told : Manner} (l m : ShownLink) (y z : layer_code.Layer) → AreMeant manner l y → ((c : Settings) (s : Station) → FitsParts c manner l y s → (d : Settings) × (t : Station) × FitsParts d told m z t) → AreMeant told m z
+pub still_meant : {manner told : Manner} (l m : ShownLink) (y z : layer_code.Layer) → AreMeant manner l y
+    → ((c : Settings) (s : Station) → FitsParts c manner l y s → (d : Settings) × (t : Station) × FitsParts d told m z t) → AreMeant told m z
 still_meant l m y z h f = ∥∥₁_map h (λ w. f w.0 w.1 w.2)
 
 -- ---- the link's refusal
@@ -61,7 +66,8 @@ abbrev pub IsNamed : Option LinkError → Type 0
 IsNamed None = Unit {0}
 IsNamed (Some e) = of_link e ≡ error.Link e
 
-pub refused_only : (T U : Type 0) (e : LinkError) (found : StationError) (o : Option LinkError) (step : Step) → IsNamed o → found ≡ of_link e → (let x : Result T LinkError = Err e in link.RefusesOnly o x)
+pub refused_only : (T U : Type 0) (e : LinkError) (found : StationError) (o : Option LinkError) (step : Step) → IsNamed o → found ≡ of_link e
+    → (let x : Result T LinkError = Err e in link.RefusesOnly o x)
     → (let x : Result U StationError = Err found in RefusesOnly x (unless o step))
 refused_only T U e found None step named is h = absurd (never_ok h)
 refused_only T U e found (Some x) step named is h = ap (λ y. Err y) (is ∙ ap of_link (err_is T LinkError e x h) ∙ named)
@@ -70,7 +76,8 @@ pub goes : {T : Type 0} (k : T) (o : Option LinkError) (step : Step) → link.Re
 goes k None step h = tt
 goes k (Some e) step h = absurd (ok_err k e h)
 
-pub refused : (T U : Type 0) (e : LinkError) (found : StationError) (o : Option LinkError) (step : Step) → IsNamed o → found ≡ of_link e → (let x : Result T LinkError = Err e in link.RefusesOnly o x)
+pub refused : (T U : Type 0) (e : LinkError) (found : StationError) (o : Option LinkError) (step : Step) → IsNamed o → found ≡ of_link e
+    → (let x : Result T LinkError = Err e in link.RefusesOnly o x)
     → (let x : Result U StationError = Err found in Refuses x (unless o step))
 refused T U e found None step named is h = absurd (never_ok h)
 refused T U e found (Some x) step named is h = is ∙ ap of_link (err_is T LinkError e x h) ∙ named

@@ -1,19 +1,23 @@
 -- What a packet confirms is what its P(R) acknowledges.
-use Rattle.std.proofs.Common.{◌≡◌, ◌⊎◌, inl, inr, ℕ, zero, suc, ◌+◌, ◌-◌, ◌≤◌, List, [], ◌∷◌, ◌++◌, length, take, drop, Option, Some, None, Result, Ok, Err, Bool, true, false, ◌==◌, nat_le, if◌then◌else◌, refl, ap, ap₂, sym, subst, ◌∙◌, arith}
+use Rattle.std.proofs.Common.{◌≡◌, ◌⊎◌, inl, inr, ℕ, zero, suc, ◌+◌, ◌-◌, ◌≤◌, List, [], ◌∷◌, ◌++◌, length, take, drop, Option, Some, None, Result, Ok, Err}
+use Rattle.std.proofs.Common.{Bool, true, false, ◌==◌, nat_le, if◌then◌else◌, refl, ap, ap₂, sym, subst, ◌∙◌, arith}
 use Rattle.std.proofs.lemmas.Bool.{eqb-true}
 use Rattle.std.proofs.lemmas.Bool.Decides.{nat_tests}
 use Rattle.x25_packet.specs.declared.error.PacketError.{PacketError}
-use Rattle.x25_packet.specs.Packet.{PlainPacket, call, accept, clear, clear_conf, user_data, rr, rnr, interrupt, interrupt_conf, reset, reset_conf, restart, restart_conf}
+use Rattle.x25_packet.specs.Packet.{PlainPacket, call, accept, clear, clear_conf, user_data, rr, rnr, interrupt, interrupt_conf, reset, reset_conf, restart}
+use Rattle.x25_packet.specs.Packet.{restart_conf}
 use Rattle.x25_packet.specs.Reading.{channel_in}
 use Rattle.x25_packet.specs.Spelling.{longest_user}
 use Rattle.x25_packet.specs.Taking.{read_in}
 use Rattle.x25_window.specs.code.Modulo.{resolved}
 use Rattle.x25_circuit.specs.declared.state.State.{State}
-use Rattle.x25_circuit.specs.declared.state.State.TheVariants.{Free, Calling, Arriving, Collision, Open, Resetting, Clearing}
+use Rattle.x25_circuit.specs.declared.state.State.TheVariants.{Open}
 use Rattle.x25_circuit.specs.Circuit.{CircuitSettings, Circuit, Talk, is_open, is_open_in, incoming as terms_in}
 use Rattle.x25_circuit.specs.Message.{Piece, piece_of, asked_in}
-use Rattle.x25_circuit.specs.Hearing.{Answer, answers, undecoded, row_call, row_accept, row_clear, row_clear_conf, row_reset, row_reset_conf, row_data, row_undecoded, request_in, unless, data_ground, number_ground, takes, hears_status, confirms}
-use Rattle.x25_layer.specs.Layer.{LayerSettings, Layer, LayerAnswer, LayerNotice, on_channel, restarted, restart_done, layer_fault, is_channel, put_at, answers_on, drops, answers_ready, answers_restarting, answers_in, undecoded_in}
+use Rattle.x25_circuit.specs.Hearing.{Answer, answers, undecoded, row_call, row_accept, row_clear, row_clear_conf, row_reset, row_reset_conf, row_data}
+use Rattle.x25_circuit.specs.Hearing.{row_undecoded, request_in, unless, data_ground, number_ground, takes, hears_status, confirms}
+use Rattle.x25_layer.specs.Layer.{LayerSettings, Layer, LayerAnswer, LayerNotice, on_channel, restarted, restart_done, layer_fault, is_channel, put_at}
+use Rattle.x25_layer.specs.Layer.{answers_on, drops, answers_ready, answers_restarting, answers_in, undecoded_in}
 use Rattle.x25_station.specs.Confirming.{named_by}
 use Rattle.x25_layer.specs.Receiving.{answer_to, undecoded_at}
 use Rattle.x25_layer.specs.code.FitsLayer.{is_open_at}
@@ -82,7 +86,8 @@ within_number n m other is = by (nat_le n m) refl is
     by true e none = grind (arith, nat_tests)
     by false e none = absurd (cc)
 
-acked_to : (x : Circuit) (t : Talk) (pr : ℕ) → x.talk.sent ≡ t.sent → x.talk.rest ≡ t.rest → t.acked ≡ resolved x.talk.acked pr → resolved x.talk.acked pr ≤ length x.talk.sent → Stays x.talk t
+acked_to : (x : Circuit) (t : Talk) (pr : ℕ) → x.talk.sent ≡ t.sent → x.talk.rest ≡ t.rest → t.acked ≡ resolved x.talk.acked pr → resolved x.talk.acked pr
+    ≤ length x.talk.sent → Stays x.talk t
 acked_to x t pr sent rest acked within = record {
   sent = sym sent;
   rest = sym rest;
@@ -98,11 +103,13 @@ module _ (c : CircuitSettings) (x : Circuit) where
 
   data_goes : (ps pr : ℕ) (piece : Piece) → GoesOn x (unless c x (data_ground c.longest (terms_in x).size x.talk ps pr piece) (takes x x.talk pr piece)).next
   data_goes ps pr piece = unless_goes (data_ground c.longest (terms_in x).size x.talk ps pr piece) (takes x x.talk pr piece)
-      (λ none opened behind clears resets. acked_to x (takes x x.talk pr piece).next.talk pr refl refl refl (within_number (resolved x.talk.acked pr) (length x.talk.sent) _ none))
+      (λ none opened behind clears resets. acked_to x (takes x x.talk pr piece).next.talk pr refl refl refl
+      (within_number (resolved x.talk.acked pr) (length x.talk.sent) _ none))
 
   status_goes : (ready : Bool) (pr : ℕ) → GoesOn x (unless c x (number_ground x.talk pr) (hears_status x x.talk ready pr)).next
   status_goes ready pr = unless_goes (number_ground x.talk pr) (hears_status x x.talk ready pr)
-      (λ none opened behind clears resets. acked_to x (hears_status x x.talk ready pr).next.talk pr refl refl refl (within_number (resolved x.talk.acked pr) (length x.talk.sent) None none))
+      (λ none opened behind clears resets. acked_to x (hears_status x x.talk ready pr).next.talk pr refl refl refl
+      (within_number (resolved x.talk.acked pr) (length x.talk.sent) None none))
 
   confirms_goes : (b : Bool) → GoesOn x (confirms c x x.talk b).next
   confirms_goes true = λ opened behind clears resets. record { sent = refl; rest = refl; further = omega arith; within = inr refl }
@@ -113,7 +120,8 @@ module _ (c : CircuitSettings) (x : Circuit) where
   in_open row go opened behind clears resets = subst (λ (s : State). GoesOn x (row s).next) (sym (open_is x.state opened)) go opened behind clears resets
 
   answers_goes : (v : PlainPacket) → GoesOn x (answers c x v).next
-  answers_goes (call h called calling facilities user) = in_open (λ s. row_call c x s (request_in called calling facilities user)) (closed_goes x (row_call c x Open (request_in called calling facilities user)).next refl)
+  answers_goes (call h called calling facilities user) = in_open (λ s. row_call c x s (request_in called calling facilities user))
+      (closed_goes x (row_call c x Open (request_in called calling facilities user)).next refl)
   answers_goes (accept h facilities) = in_open (λ s. row_accept c x s facilities) (closed_goes x (row_accept c x Open facilities).next refl)
   answers_goes (clear h cause diagnostic) = in_open (λ s. row_clear x s cause diagnostic) (closed_goes x (row_clear x Open cause diagnostic).next refl)
   answers_goes (clear_conf h) = in_open (λ s. row_clear_conf c x s) (closed_goes x (row_clear_conf c x Open).next refl)
@@ -140,14 +148,16 @@ at_goes circuits k h next go = by (h == k) refl
     by false is = same_goes (circuits h)
 
 module _ (c : LayerSettings) (restarts : ℕ) (circuits : ℕ → Circuit) (h : ℕ) where
-  on_goes : (b : Bool) (k : ℕ) (a : Answer) → GoesOn (circuits k) a.next → GoesOn (circuits h) ((if b then answers_on restarts circuits k a else drops false restarts circuits).next.circuits h)
+  on_goes : (b : Bool) (k : ℕ) (a : Answer) → GoesOn (circuits k) a.next
+      → GoesOn (circuits h) ((if b then answers_on restarts circuits k a else drops false restarts circuits).next.circuits h)
   on_goes true k a go = at_goes circuits k h a.next go
   on_goes false k a go = same_goes (circuits h)
 
   ready_goes : (v : PlainPacket) → GoesOn (circuits h) ((answers_ready c restarts circuits v).next.circuits h)
   ready_goes (restart cause diagnostic) = closed_goes (circuits h) ((answers_ready c restarts circuits (restart cause diagnostic)).next.circuits h) refl
   ready_goes restart_conf = closed_goes (circuits h) ((answers_ready c restarts circuits restart_conf).next.circuits h) refl
-  ready_goes (call k called calling facilities user) = on_goes (is_channel c.channels k) k _ (answers_goes c.circuit (circuits k) (call k called calling facilities user))
+  ready_goes (call k called calling facilities user) = on_goes (is_channel c.channels k) k
+      _ (answers_goes c.circuit (circuits k) (call k called calling facilities user))
   ready_goes (accept k facilities) = on_goes (is_channel c.channels k) k _ (answers_goes c.circuit (circuits k) (accept k facilities))
   ready_goes (clear k cause diagnostic) = on_goes (is_channel c.channels k) k _ (answers_goes c.circuit (circuits k) (clear k cause diagnostic))
   ready_goes (clear_conf k) = on_goes (is_channel c.channels k) k _ (answers_goes c.circuit (circuits k) (clear_conf k))
@@ -185,13 +195,16 @@ answer_goes c wide l octets h = by (read_in wide (longest_user c.circuit.long_da
 
 -- ---- so many are confirmed
 
-counted : (t u : Talk) → Stays t u → asked_in (drop t.acked (t.sent ++ t.rest)) - asked_in (drop u.acked (u.sent ++ u.rest)) ≡ asked_in (drop t.acked (take u.acked t.sent))
+counted : (t u : Talk) → Stays t u → asked_in (drop t.acked (t.sent ++ t.rest)) - asked_in (drop u.acked (u.sent ++ u.rest))
+    ≡ asked_in (drop t.acked (take u.acked t.sent))
 counted t u s = ap₂ (λ (ps qs : List Piece). asked_in (drop t.acked (t.sent ++ t.rest)) - asked_in (drop u.acked (ps ++ qs))) s.sent s.rest ∙ by s.within
   where
-    by : (u.acked ≤ length t.sent) ⊎ (u.acked ≡ t.acked) → asked_in (drop t.acked (t.sent ++ t.rest)) - asked_in (drop u.acked (t.sent ++ t.rest)) ≡ asked_in (drop t.acked (take u.acked t.sent))
+    by : (u.acked ≤ length t.sent) ⊎ (u.acked ≡ t.acked) → asked_in (drop t.acked (t.sent ++ t.rest)) - asked_in (drop u.acked (t.sent ++ t.rest))
+        ≡ asked_in (drop t.acked (take u.acked t.sent))
     by (inl low) =
         let parts = split t.acked u.acked (t.sent ++ t.rest) s.further in
-        let same : asked_in (drop t.acked (take u.acked (t.sent ++ t.rest))) ≡ asked_in (drop t.acked (take u.acked t.sent)) = ap (λ (ps : List Piece). asked_in (drop t.acked ps)) (take_within u.acked t.sent t.rest low) in
+        let same : asked_in (drop t.acked (take u.acked (t.sent ++ t.rest))) ≡ asked_in (drop t.acked (take u.acked t.sent)) =
+        ap (λ (ps : List Piece). asked_in (drop t.acked ps)) (take_within u.acked t.sent t.rest low) in
         omega (arith, parts, same)
     by (inr same) =
         ap (λ (n : ℕ). asked_in (drop t.acked (t.sent ++ t.rest)) - asked_in (drop n (t.sent ++ t.rest))) same
@@ -205,7 +218,8 @@ open_at c l h is = by (is_channel c.channels h) is
     by true e = e
     by false e = absurd (true_false (sym e))
 
-passes : (c : LayerSettings) (l next : Layer) (h : ℕ) → GoesOn (l.circuits h) (next.circuits h) → goes_on c l next h ≡ true → Passes (l.circuits h).talk (next.circuits h).talk (confirmed c l next h)
+passes : (c : LayerSettings) (l next : Layer) (h : ℕ) → GoesOn (l.circuits h) (next.circuits h) → goes_on c l next h ≡ true
+    → Passes (l.circuits h).talk (next.circuits h).talk (confirmed c l next h)
 passes c l next h go is =
     let a = and_both (is_open_at c l h) _ is in
     let b = and_both (is_open_at c next h) (same_name (name_of l h) (name_of next h)) a.1 in
@@ -231,12 +245,14 @@ confirms_true c l next h n is = by (goes_on c l next h) refl
     by true on = record { goes = on; under = refl; as_many = is; some = omega arith }
     by false on = let none = ended c l next h on in absurd (omega (arith, is, none))
 
-behind_true : (c : LayerSettings) (wide : Bool) (l next : Layer) (h count : ℕ) (b : PlainBeside) (o : Option ℕ) → count ≡ confirmed_by c wide l next h → AreTrueOf c l next (entries_behind next h count (entries_beside b o))
+behind_true : (c : LayerSettings) (wide : Bool) (l next : Layer) (h count : ℕ) (b : PlainBeside) (o : Option ℕ) → count ≡ confirmed_by c wide l next h
+    → AreTrueOf c l next (entries_behind next h count (entries_beside b o))
 behind_true c wide l next h zero b o is = beside_true c l next b o
 behind_true c true l next h (suc n) b o is = (confirms_true c l next h n is, tt)
 behind_true c false l next h (suc n) b o is = absurd (omega (arith, is))
 
-told_true : (c : LayerSettings) (l next : Layer) (notices : List LayerNotice) (others : List StationEntry) → AreTrueOf c l next others → AreTrueOf c l next (station_told next notices ++ others)
+told_true : (c : LayerSettings) (l next : Layer) (notices : List LayerNotice) (others : List StationEntry) → AreTrueOf c l next others
+    → AreTrueOf c l next (station_told next notices ++ others)
 told_true c l next [] others rest = rest
 told_true c l next (on_channel h notice ∷ notices) others rest = (tt, told_true c l next notices others rest)
 told_true c l next (restarted cause diagnostic ∷ notices) others rest = (tt, told_true c l next notices others rest)
@@ -246,4 +262,5 @@ told_true c l next (layer_fault diagnostic ∷ notices) others rest = (tt, told_
 pub told_confirmed : ToldIsConfirmed
 told_confirmed c wide l octets =
     let a : LayerAnswer = layer_answer c wide l octets in
-    told_true c l a.next a.notices _ (behind_true c wide l a.next (named_by octets) (confirmed_by c wide l a.next (named_by octets)) (beside_in wide octets) (bringing a.notices) refl)
+    told_true c l a.next a.notices _ (behind_true c wide l a.next (named_by octets) (confirmed_by c wide l a.next (named_by octets)) (beside_in wide octets)
+    (bringing a.notices) refl)

@@ -1,5 +1,5 @@
 -- What a pull behind a step leaves, and what it sends.
-use Rattle.std.proofs.Common.{Bool, true, false, ◌≡◌, List, [], ◌∷◌, ◌++◌, map, ◌==◌, Result, Ok, Err, OnErr, IsErrOf, ℕ, ◌<◌, ◌≤◌, length, arith, refl, ap, sym, subst, ◌∙◌}
+use Rattle.std.proofs.Common.{true, false, ◌≡◌, List, [], ◌∷◌, ◌++◌, map, ◌==◌, Result, Ok, Err, OnErr, IsErrOf, ℕ, refl, ap, sym, subst, ◌∙◌}
 use Rattle.std.specs.Prelude.{◌≢◌}
 use Rattle.std.proofs.Math.Path.{fun_ext}
 use Rattle.std.proofs.lemmas.List.{append-nil, append_assoc}
@@ -56,7 +56,8 @@ seen_behind before x = ap (λ (f : List PlainPacket → ℕ). record { is_up = u
 
 -- ---- what was pulled
 
-fits_of : {manner : Manner} (c : Settings) (n : ShownLink) (z : layer_code.Layer) (s : Station) (o : Outcome) → LeavesParts {T = Unit} c manner n z (Ok tt) o → Refuses {T = Unit} (Ok tt) o → FitsParts c manner n z (pulled_of s o).near
+fits_of : {manner : Manner} (c : Settings) (n : ShownLink) (z : layer_code.Layer) (s : Station) (o : Outcome) → LeavesParts {T = Unit} c manner n z (Ok tt) o
+    → Refuses {T = Unit} (Ok tt) o → FitsParts c manner n z (pulled_of s o).near
 fits_of c n z s (Did step) fits none = fits
 fits_of c n z s (Refused e) fits none = absurd none
 
@@ -64,7 +65,8 @@ abbrev start : Settings → Station → LinkState
 start c s = kept_of (link_settings c) (alone s.link)
 
 -- behind the frames that were there stand those of the packets
-after_pull : (c : Settings) (before : List (List ℕ)) (m : ShownLink) (packets : List PlainPacket) (s : Station) → FitsWhole m (after_all (behind before (start c s)) packets)
+after_pull : (c : Settings) (before : List (List ℕ)) (m : ShownLink) (packets : List PlainPacket) (s : Station)
+    → FitsWhole m (after_all (behind before (start c s)) packets)
     → FitsWhole m (behind before (kept_of (link_settings c) (all_put (link_settings c) packets (alone s.link))))
 after_pull c before m packets s fits = subst (λ (x : LinkState). FitsWhole m x)
     (puts_behind before (start c s) packets ∙ ap (behind before) (put_by_put (link_settings c) packets (alone s.link))) fits
@@ -74,7 +76,9 @@ made_did : {T : Type 0} (u : T) (c : Settings) (before : List (List ℕ)) (s : S
 made_did u c before s m entries (Went p) link = (after_pull c before m p.put s link).kept
 made_did u c before s m entries (LayerRefuses e) link = absurd (ok_err u e link)
 
-leaves_did : {T : Type 0} {manner : Manner} (u : T) (c : Settings) → manner ≡ manner_of c → (before : List (List ℕ)) (s : Station) (m n : ShownLink) (z : layer_code.Layer) (entries : List StationEntry) (a : Answered) → LayerGives (layer_settings c) z (Ok u) a
+leaves_did : {T : Type 0} {manner : Manner} (u : T) (c : Settings) → manner ≡ manner_of c
+    → (before : List (List ℕ)) (s : Station) (m n : ShownLink) (z : layer_code.Layer) (entries : List StationEntry) (a : Answered)
+    → LayerGives (layer_settings c) z (Ok u) a
     → LinkGives m (behind before (start c s)) (Ok u) a → n.station ≡ m.station → n.frames ≡ [] → KeptBy (did c (alone s.link) entries a)
     → LeavesParts {T = Unit} c manner n z (Ok tt) (did c (alone s.link) entries a)
 leaves_did u c as_set before s m n z entries (Went p) layer link same none kept = record {
@@ -96,7 +100,8 @@ abbrev none_pulled : Station → Step
 none_pulled s = record { near = s; out = []; entries = [] }
 
 -- where it was no want of memory, nothing is done
-none_of : (s : Station) (e : LayerError) (found : StationError) (o : Outcome) → found ≡ of_layer e → e ≢ layer_error.NoMemory → (let r : Result Unit StationError = Err found in Refuses r o) → pulled_of s o ≡ none_pulled s
+none_of : (s : Station) (e : LayerError) (found : StationError) (o : Outcome) → found ≡ of_layer e → e ≢ layer_error.NoMemory
+    → (let r : Result Unit StationError = Err found in Refuses r o) → pulled_of s o ≡ none_pulled s
 none_of s e found (Did step) is other exactly = absurd (other (memory_is e (sym is ∙ exactly)))
 none_of s e found (Refused x) is other exactly = refl
 
@@ -108,7 +113,8 @@ no_lack e missing is = false_true (missing (ap (λ (x : LayerError). let r : Res
     false_true h = cc
 
 -- The link l is given frames, and is g then; the layer pulls, and leaves m; and the frames are taken, which leaves n.
-module _ (c : Settings) (l g : ShownLink) (y : layer_code.Layer) (s : Station) (manner : Manner) (fits : FitsParts c manner l y s) (same : g.station ≡ l.station) where
+module _ (c : Settings) (l g : ShownLink) (y : layer_code.Layer) (s : Station) (manner : Manner) (fits : FitsParts c manner l y s)
+    (same : g.station ≡ l.station) where
   abbrev before : List (List ℕ)
   before = g.frames
 
@@ -116,7 +122,8 @@ module _ (c : Settings) (l g : ShownLink) (y : layer_code.Layer) (s : Station) (
   answer = answered_by c s PullsAll
 
   abbrev entries : List StationEntry
-  entries = entries_of_outcome (layer_settings c) s.layer PullsAll (layer_outcome (layer_settings c) (waiting_after (link_settings c) s.link [] == 256) s.layer PullsAll)
+  entries = entries_of_outcome (layer_settings c) s.layer PullsAll
+      (layer_outcome (layer_settings c) (waiting_after (link_settings c) s.link [] == 256) s.layer PullsAll)
 
   given : FitsWhole g (behind before (start c s))
   given = record { link = taken_link (link_settings c) l g s.link same fits.link; kept = sym (append-nil before) }
@@ -124,7 +131,8 @@ module _ (c : Settings) (l g : ShownLink) (y : layer_code.Layer) (s : Station) (
   seen : seen_at (behind before (start c s)) ≡ view_of (link_settings c) s.link
   seen = seen_behind before (start c s) ∙ same_view (link_settings c) (alone s.link)
 
-  layer_gives : {T : Type 0} (result : Result T LayerError) (z : layer_code.Layer) → Layers g y z result PullsAll → LayerGives (layer_settings c) z result answer
+  layer_gives : {T : Type 0} (result : Result T LayerError) (z : layer_code.Layer) → Layers g y z result PullsAll
+      → LayerGives (layer_settings c) z result answer
   layer_gives result z layers = subst (λ (view : LinkView). LayerGives (layer_settings c) z result (calls view (layer_settings c) s.layer PullsAll)) seen
       (layers (layer_settings c) s.layer (behind before (start c s)) fits.layer given)
 
@@ -135,18 +143,21 @@ module _ (c : Settings) (l g : ShownLink) (y : layer_code.Layer) (s : Station) (
   pulled_made : {T : Type 0} (u : T) (m : ShownLink) → Links g m y (Ok u) PullsAll → m.frames ≡ before ++ map (spelling_of c.role) (pulled c s).out
   pulled_made u m links = made_did u c before s m entries answer (link_gives (Ok u) m links)
 
-  pulled_fits : {T : Type 0} (u : T) (m n : ShownLink) (z : layer_code.Layer) → Layers g y z (Ok u) PullsAll → Links g m y (Ok u) PullsAll → n.station ≡ m.station → n.frames ≡ [] → KeptBy (requests c s PullsAll)
+  pulled_fits : {T : Type 0} (u : T) (m n : ShownLink) (z : layer_code.Layer) → Layers g y z (Ok u) PullsAll → Links g m y (Ok u) PullsAll → n.station
+      ≡ m.station → n.frames ≡ [] → KeptBy (requests c s PullsAll)
       → FitsParts c manner n z (pulled c s).near
   pulled_fits u m n z layers links same none kept =
       let layer = layer_gives (Ok u) z layers in
-      fits_of c n z s (requests c s PullsAll) (leaves_did u c fits.same before s m n z entries answer layer (link_gives (Ok u) m links) same none kept) (goes_did u c s.link z entries answer layer)
+      fits_of c n z s (requests c s PullsAll) (leaves_did u c fits.same before s m n z entries answer layer (link_gives (Ok u) m links) same none kept)
+      (goes_did u c s.link z entries answer layer)
 
   -- ---- a refusal: nothing is done
 
   still_made : (m : ShownLink) → ((x : LinkState) → FitsWhole g x → FitsWhole m x) → m.frames ≡ before
   still_made m stays = (stays (behind before (start c s)) given).kept ∙ append-nil before
 
-  still_fits : (m n : ShownLink) (z : layer_code.Layer) → FitsLayer (layer_settings c) z s.layer → ((x : LinkState) → FitsWhole g x → FitsWhole m x) → n.station ≡ m.station → n.frames ≡ [] → FitsParts c manner n z s
+  still_fits : (m n : ShownLink) (z : layer_code.Layer) → FitsLayer (layer_settings c) z s.layer → ((x : LinkState) → FitsWhole g x → FitsWhole m x)
+      → n.station ≡ m.station → n.frames ≡ [] → FitsParts c manner n z s
   still_fits m n z layer stays same none = record {
     link = taken_link (link_settings c) m n s.link same (stays (behind before (start c s)) given).link;
     layer = layer;
@@ -155,24 +166,30 @@ module _ (c : Settings) (l g : ShownLink) (y : layer_code.Layer) (s : Station) (
     same = fits.same;
   }
 
-  nothing_done : (e : LayerError) (z : layer_code.Layer) → e ≢ layer_error.NoMemory → (let x : Result Unit LayerError = Err e in Layers g y z x PullsAll) → pulled c s ≡ none_pulled s
+  nothing_done : (e : LayerError) (z : layer_code.Layer) → e ≢ layer_error.NoMemory → (let x : Result Unit LayerError = Err e in Layers g y z x PullsAll)
+      → pulled c s ≡ none_pulled s
   nothing_done e z named layers =
       let x : Result Unit LayerError = Err e in
       none_of s e (of_layer e) (requests c s PullsAll) refl named
-      (refused_did Unit Unit e (of_layer e) c s.link z entries answer (calls_named (view_of (link_settings c) s.link) (layer_settings c) s.layer PullsAll) refl (layer_gives x z layers))
+      (refused_did Unit Unit e (of_layer e) c s.link z entries answer (calls_named (view_of (link_settings c) s.link) (layer_settings c) s.layer PullsAll) refl
+      (layer_gives x z layers))
 
-  pub pulls_fit : (result : Result Unit LayerError) (m n : ShownLink) (z : layer_code.Layer) → Layers g y z result PullsAll → Links g m y result PullsAll → (IsErrOf result layer_error.NoMemory → false ≡ true)
-      → OnErr result (FitsLayer (layer_settings c) z s.layer) → ((x : LinkState) → FitsWhole g x → OnErr result (FitsWhole m x)) → n.station ≡ m.station → n.frames ≡ [] → KeptBy (requests c s PullsAll)
+  pub pulls_fit : (result : Result Unit LayerError) (m n : ShownLink) (z : layer_code.Layer) → Layers g y z result PullsAll → Links g m y result PullsAll
+      → (IsErrOf result layer_error.NoMemory → false ≡ true)
+      → OnErr result (FitsLayer (layer_settings c) z s.layer) → ((x : LinkState) → FitsWhole g x → OnErr result (FitsWhole m x)) → n.station ≡ m.station
+      → n.frames ≡ [] → KeptBy (requests c s PullsAll)
       → FitsParts c manner n z (pulled c s).near
   pulls_fit (Ok u) m n z layers links missing layer stays same none kept = pulled_fits u m n z layers links same none kept
   pulls_fit (Err e) m n z layers links missing layer stays same none kept =
       subst (λ (step : Step). FitsParts c manner n z step.near) (sym (nothing_done e z (no_lack e missing) layers)) (still_fits m n z layer stays same none)
 
-  pub pulls_made : (result : Result Unit LayerError) (m : ShownLink) (z : layer_code.Layer) → Layers g y z result PullsAll → Links g m y result PullsAll → (IsErrOf result layer_error.NoMemory → false ≡ true)
+  pub pulls_made : (result : Result Unit LayerError) (m : ShownLink) (z : layer_code.Layer) → Layers g y z result PullsAll → Links g m y result PullsAll
+      → (IsErrOf result layer_error.NoMemory → false ≡ true)
       → ((x : LinkState) → FitsWhole g x → OnErr result (FitsWhole m x)) → m.frames ≡ before ++ map (spelling_of c.role) (pulled c s).out
   pulls_made (Ok u) m z layers links missing stays = pulled_made u m links
   pulls_made (Err e) m z layers links missing stays =
-      still_made m stays ∙ sym (append-nil before) ∙ ap (λ (step : Step). before ++ map (spelling_of c.role) step.out) (sym (nothing_done e z (no_lack e missing) layers))
+      still_made m stays ∙ sym (append-nil before)
+      ∙ ap (λ (step : Step). before ++ map (spelling_of c.role) step.out) (sym (nothing_done e z (no_lack e missing) layers))
 
 -- ---- a pull that is asked for
 
@@ -180,7 +197,8 @@ pub goes_on : (o : Outcome) → Refuses {T = Unit} (Ok tt) o → RefusesOnly {T 
 goes_on (Did step) goes = refl
 goes_on (Refused e) goes = absurd goes
 
-pub never_lacks : (found : StationError) (e : LayerError) (o : Outcome) → found ≡ of_layer e → ((let x : Result Unit LayerError = Err e in IsErrOf x layer_error.NoMemory) → false ≡ true)
+pub never_lacks : (found : StationError) (e : LayerError) (o : Outcome) → found ≡ of_layer e
+    → ((let x : Result Unit LayerError = Err e in IsErrOf x layer_error.NoMemory) → false ≡ true)
     → (let r : Result Unit StationError = Err found in Refuses r o → RefusesOnly r o)
 never_lacks found e (Did step) is missing exactly = absurd (no_lack e missing (memory_is e (sym is ∙ exactly)))
 never_lacks found e (Refused x) is missing exactly = ap (λ y. Err y) exactly

@@ -1,5 +1,6 @@
 -- What the layer puts in a step the link accepts.
-use Rattle.std.proofs.Common.{◌≡◌, ℕ, zero, suc, ◌<◌, List, [], ◌∷◌, ◌++◌, Option, Some, None, Bool, true, false, not, nat_lt, ◌==◌, if◌then◌else◌, option_to_list, refl, sym, ap, subst, ◌∙◌, arith}
+use Rattle.std.proofs.Common.{◌≡◌, ℕ, zero, suc, ◌<◌, List, [], ◌∷◌, ◌++◌, Option, Some, None, Bool, true, false, not, nat_lt, ◌==◌, if◌then◌else◌}
+use Rattle.std.proofs.Common.{option_to_list, refl, sym, ap, subst, ◌∙◌, arith}
 use Rattle.std.proofs.lemmas.Bool.{eqb-true, ltb-true}
 use Rattle.x25_packet.specs.Packet.{PlainPacket}
 use Rattle.x25_packet.specs.Spelling.{spelling_of}
@@ -55,7 +56,8 @@ pull_accepted tells c t lc h s up all = test (nat_lt (waiting_after c t.near s.p
         let fewer : waits (all_put c s.put t).near.outgoing < 8 = subst (λ (x : LinkStation). waits x.outgoing < 8) (sym same) low in
         accepted_append c s.put (p ∷ []) t all (accepts (all_put c s.put t).near (all_up tells c s.put t up) (omega (arith, fewer)), tt)
 
-    test : (b : Bool) → nat_lt (waiting_after c t.near s.put) 8 ≡ b → AreAccepted c (let n : Putting = if b then with_pulled s (layer_pulled lc s.layer h) (layer_pulled lc s.layer h).packet else s in n.put) t
+    test : (b : Bool) → nat_lt (waiting_after c t.near s.put) 8 ≡ b
+        → AreAccepted c (let n : Putting = if b then with_pulled s (layer_pulled lc s.layer h) (layer_pulled lc s.layer h).packet else s in n.put) t
     test true is = given (layer_pulled lc s.layer h).packet (ltb-true _ _ is)
     test false is = all
 
@@ -67,13 +69,15 @@ round_accepted tells c t lc (suc n) s up all = pull_accepted tells c t lc (suc n
 rounds_of_accepted : PutTells → (k : ℕ) (c : LinkSettings) (t : Side) (lc : LayerSettings) (s : Putting) → is_up t.near.phase ≡ true → AreAccepted c s.put t
     → AreAccepted c (rounds_of k (view_of c t.near) lc s).put t
 rounds_of_accepted tells zero c t lc s up all = all
-rounds_of_accepted tells (suc k) c t lc s up all = rounds_of_accepted tells k c t lc (round (view_of c t.near) lc lc.channels.count s) up (round_accepted tells c t lc lc.channels.count s up all)
+rounds_of_accepted tells (suc k) c t lc s up all = rounds_of_accepted tells k c t lc (round (view_of c t.near) lc lc.channels.count s) up
+    (round_accepted tells c t lc lc.channels.count s up all)
 
 pub rounds_accepted : PutTells → (c : LinkSettings) (t : Side) (lc : LayerSettings) (s : Putting) → is_up t.near.phase ≡ true → AreAccepted c s.put t
     → AreAccepted c (rounds (view_of c t.near) lc s).put t
 rounds_accepted tells c t lc s = rounds_of_accepted tells (backlog s.layer.circuits lc.channels.count) c t lc s
 
 -- what is owed, and the rounds behind it
-pub begin_accepted : (c : LinkSettings) (t : Side) (owed : Option PlainPacket) → is_up t.near.phase ≡ true → waits t.near.outgoing < 256 → AreAccepted c (option_to_list owed) t
+pub begin_accepted : (c : LinkSettings) (t : Side) (owed : Option PlainPacket) → is_up t.near.phase ≡ true → waits t.near.outgoing < 256
+    → AreAccepted c (option_to_list owed) t
 begin_accepted c t None up low = tt
 begin_accepted c t (Some p) up low = (accepts t.near up low, tt)

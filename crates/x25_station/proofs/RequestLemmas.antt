@@ -7,9 +7,10 @@ use Rattle.x25_circuit.specs.declared.state.State.TheVariants.{Free, Calling, Ar
 use Rattle.x25_circuit.specs.Circuit.{CircuitSettings, Talk, Circuit, outgoing, waits}
 use Rattle.x25_circuit.specs.Message.{cut}
 use Rattle.x25_circuit.specs.declared.error.CircuitError.TheVariants as circuit
-use Rattle.x25_circuit.specs.Calling.{Outcome, Done, Refused, Request, Calls, Accepts, Clears, Sends, Interrupts, Resets, SaysReady, SaysNotReady, keeps_on, send_open, send_in, outcome}
+use Rattle.x25_circuit.specs.Calling.{Outcome, Done, Refused, Request, Sends, keeps_on, send_open, send_in, outcome}
 use Rattle.x25_layer.specs.Layer.{LayerSettings, Layer, is_channel}
-use Rattle.x25_layer.specs.Calls.{LayerRequest, Asks, Dials, Restarts, PullsAll, LayerOutcome, Accepted, Declined, free_channel, puts_at_once, if_at_once, outcome_on, dialled, outcome_in, outcome_ready, layer_outcome}
+use Rattle.x25_layer.specs.Calls.{LayerRequest, Asks, Dials, Restarts, PullsAll, LayerOutcome, Accepted, Declined, free_channel, puts_at_once, if_at_once}
+use Rattle.x25_layer.specs.Calls.{outcome_on, dialled, outcome_in, outcome_ready, layer_outcome}
 use Rattle.x25_layer.specs.declared.error.LayerError.TheVariants as error
 
 -- nothing is put at once
@@ -33,10 +34,19 @@ by_if true u v p q = p
 by_if false u v p q = q
 
 send_open_none : (c : CircuitSettings) (x : Circuit) (q : Marks) (user : List ℕ) → GivesNone (send_open c x x.talk q user)
-send_open_none c x q user = by_if (nat_le (length user) c.longest) _ (Refused circuit.TooLong) (by_if (nat_lt (waits x) 8) (keeps_on x (sending c x q user) None) (Refused circuit.Full) tt tt) tt
+send_open_none c x q user = by_if (nat_le (length user) c.longest) _ (Refused circuit.TooLong)
+    (by_if (nat_lt (waits x) 8) (keeps_on x (sending c x q user) None) (Refused circuit.Full) tt tt) tt
   where
     sending : CircuitSettings → Circuit → Marks → List ℕ → Talk
-    sending c x q user = record { sent = x.talk.sent; taken = x.talk.taken; acked = x.talk.acked; rest = x.talk.rest ++ cut (outgoing x).size q user; int_out = x.talk.int_out; peer_ready = x.talk.peer_ready; own_ready = x.talk.own_ready }
+    sending c x q user = record {
+      sent = x.talk.sent;
+      taken = x.talk.taken;
+      acked = x.talk.acked;
+      rest = x.talk.rest ++ cut (outgoing x).size q user;
+      int_out = x.talk.int_out;
+      peer_ready = x.talk.peer_ready;
+      own_ready = x.talk.own_ready;
+    }
 
 send_none : (c : CircuitSettings) (x : Circuit) (q : Marks) (user : List ℕ) → GivesNone (outcome c x (Sends q user))
 send_none c x q user = at x.state
@@ -58,12 +68,14 @@ if_channel false u none = tt
 
 asks_none : (c : LayerSettings) (restarts : ℕ) (circuits : ℕ → Circuit) (h : ℕ) (request : Request)
     → PutsNone (if_at_once (puts_at_once request) true (outcome_on restarts circuits h (outcome c.circuit (circuits h) request)))
-asks_none c restarts circuits h (Sends q user) = on_none restarts circuits h (outcome c.circuit (circuits h) (Sends q user)) (send_none c.circuit (circuits h) q user)
+asks_none c restarts circuits h (Sends q user) = on_none restarts circuits h (outcome c.circuit (circuits h) (Sends q user))
+    (send_none c.circuit (circuits h) q user)
 asks_none c restarts circuits h v = tt
 
 ready_none : (c : LayerSettings) (restarts : ℕ) (circuits : ℕ → Circuit) (request : LayerRequest) → PutsNone (outcome_ready c true restarts circuits request)
 ready_none c restarts circuits (Asks h request) =
-    if_channel (is_channel c.channels h) (if_at_once (puts_at_once request) true (outcome_on restarts circuits h (outcome c.circuit (circuits h) request))) (asks_none c restarts circuits h request)
+    if_channel (is_channel c.channels h) (if_at_once (puts_at_once request) true (outcome_on restarts circuits h (outcome c.circuit (circuits h) request)))
+    (asks_none c restarts circuits h request)
 ready_none c restarts circuits (Dials called calling user proposal) = by (free_channel c.circuit.role circuits c.channels)
   where
     by : (o : Option ℕ) → PutsNone (dialled c true restarts circuits o called calling user proposal)
@@ -80,6 +92,7 @@ full_none c l request = by l.restarting
     by false = ready_none c l.restarts l.circuits request
 
 -- a packet is put at once only where fewer wait
-pub has_room : (c : LayerSettings) (is_full : Bool) (l : Layer) (request : LayerRequest) (next : Layer) (p : PlainPacket) → layer_outcome c is_full l request ≡ Accepted next (Some p) → is_full ≡ false
+pub has_room : (c : LayerSettings) (is_full : Bool) (l : Layer) (request : LayerRequest) (next : Layer) (p : PlainPacket) → layer_outcome c is_full l request
+    ≡ Accepted next (Some p) → is_full ≡ false
 has_room c true l request next p found = absurd (subst (λ (o : LayerOutcome). PutsNone o) found (full_none c l request))
 has_room c false l request next p found = refl

@@ -1,5 +1,6 @@
 -- A message is refused exactly where its channel has no room for one more.
-use Rattle.std.proofs.Common.{◌≡◌, ◌∙◌, ℕ, ◌-◌, ◌≤◌, ◌==◌, Bool, true, false, not, List, [], length, Option, nat_lt, if◌then◌else◌, refl, sym, ap, arith, le-leb}
+use Rattle.std.proofs.Common.{◌≡◌, ◌∙◌, ℕ, ◌-◌, ◌≤◌, ◌==◌, Bool, true, false, not, List, [], length, Option, nat_lt, if◌then◌else◌, refl, sym, ap, arith}
+use Rattle.std.proofs.Common.{le-leb}
 use Rattle.std.proofs.lemmas.Bool.Decides.{nat_tests}
 use Rattle.x25_packet.specs.Packet.{PlainPacket}
 use Rattle.x25_packet.specs.declared.marks.Marks.{Marks}
@@ -50,7 +51,8 @@ in_layer c is_full false restarts circuits h q user = at (is_channel c.channels 
     at true = on_circuit restarts circuits h o
     at false = refl
 
-over_link : (view : LinkView) (c : LayerSettings) (up : Bool) (o : LayerOutcome) (e : LayerError) → refuses (if up then went view c o else Refuses e) ≡ (if up then declines o else true)
+over_link : (view : LinkView) (c : LayerSettings) (up : Bool) (o : LayerOutcome) (e : LayerError) → refuses (if up then went view c o else Refuses e)
+    ≡ (if up then declines o else true)
 over_link view c true (Accepted next packet) e = refl
 over_link view c true (Declined f) e = refl
 over_link view c false o e = refl
@@ -64,12 +66,14 @@ eight_less w = grind (arith, nat_tests)
 
 -- a message that isn't too long
 by_circuit : (w : ℕ) (next : Circuit) (packet : Option PlainPacket) (is_short has_room : Bool) → is_short ≡ true → ((8 - w) == 0) ≡ not has_room
-    → ((8 - w) == 0) ≡ fails (if is_short then (if has_room then Done next packet else CircuitRefuses circuit_error.Full) else CircuitRefuses circuit_error.TooLong)
+    → ((8 - w) == 0) ≡ fails (if is_short then (if has_room then Done next packet else CircuitRefuses circuit_error.Full)
+    else CircuitRefuses circuit_error.TooLong)
 by_circuit w next packet true true short is = is
 by_circuit w next packet true false short is = is
 by_circuit w next packet false has_room short is = absurd (cc)
 
-in_circuit : (c : CircuitSettings) (x : Circuit) (q : Marks) (user : List ℕ) → length user ≤ c.longest → (message_room x == 0) ≡ fails (outcome c x (Sends q user))
+in_circuit : (c : CircuitSettings) (x : Circuit) (q : Marks) (user : List ℕ) → length user ≤ c.longest → (message_room x == 0)
+    ≡ fails (outcome c x (Sends q user))
 in_circuit c x q user short = at x.state
   where
     at : (state : State) → ((if is_open_in state then 8 - waits x else 0) == 0) ≡ fails (send_in c x state q user)
@@ -82,13 +86,15 @@ in_circuit c x q user short = at x.state
     at Clearing = refl
 
 no_room : (up restarting configured : Bool) (n : ℕ) (is : Bool) → (n == 0) ≡ is
-    → ((if up then (if restarting then 0 else if configured then n else 0) else 0) == 0) ≡ (if up then (if restarting then true else if configured then is else true) else true)
+    → ((if up then (if restarting then 0 else if configured then n else 0) else 0) == 0)
+    ≡ (if up then (if restarting then true else if configured then is else true) else true)
 no_room false restarting configured n is e = refl
 no_room true true configured n is e = refl
 no_room true false false n is e = refl
 no_room true false true n is e = e
 
-pub room_is_what_is_taken : (c : Settings) (s : Station) (h : ℕ) (q : Marks) (user : List ℕ) → may_mark c.wide q ≡ true → length user ≤ c.channels.message → (room c s h == 0) ≡ is_refused (requests c s (Asks h (Sends q user)))
+pub room_is_what_is_taken : (c : Settings) (s : Station) (h : ℕ) (q : Marks) (user : List ℕ) → may_mark c.wide q ≡ true → length user ≤ c.channels.message
+    → (room c s h == 0) ≡ is_refused (requests c s (Asks h (Sends q user)))
 room_is_what_is_taken c s h q user may short =
     let lc = layer_settings c in
     let up = is_up s.link.phase in

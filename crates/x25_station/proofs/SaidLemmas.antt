@@ -27,7 +27,8 @@ said_so a b params same = ap (λ (says : Bool). record { params = params; says_a
 
 -- a proposal that was made
 pub made : (v : Proposal) (params : Params) (says : Bool) → v.params ≡ params → v.says_all ≡ says → record { params = params; says_all = says } ≡ v
-made v params says e f = ap (λ (p : Params). record { params = p; says_all = says }) (sym e) ∙ ap (λ (b : Bool). record { params = v.params; says_all = b }) (sym f)
+made v params says e f = ap (λ (p : Params). record { params = p; says_all = says }) (sym e)
+    ∙ ap (λ (b : Bool). record { params = v.params; says_all = b }) (sym f)
 
 pub none_of : (o : Option Params) → ((p : Params) → o ≡ Some p → ⊥) → o ≡ None
 none_of None other = refl
@@ -63,7 +64,9 @@ module _ (c : Settings) (s : Station) (h : ℕ) (nowhere : is_channel c.channels
     where
       by : (b : Bool) → outcome_in lc full b s.layer.restarts s.layer.circuits (Asks h request) ≡ declined b
       by true = refl
-      by false = ap (λ (there : Bool). if there then if_at_once (puts_at_once request) full (outcome_on s.layer.restarts s.layer.circuits h (outcome lc.circuit (s.layer.circuits h) request)) else Declined layer_error.NoSuchChannel) nowhere
+      by false = ap (λ (there : Bool). if there
+          then if_at_once (puts_at_once request) full (outcome_on s.layer.restarts s.layer.circuits h (outcome lc.circuit (s.layer.circuits h) request))
+          else Declined layer_error.NoSuchChannel) nowhere
 
   no_entry : (request : Request) (b : Bool) → entries_of_outcome lc s.layer (Asks h request) (declined b) ≡ []
   unfolding declined

@@ -1,5 +1,6 @@
 -- A station whose link is up asks, or its link is at rest.
-use Rattle.std.proofs.Common.{◌≡◌, ℕ, ◌+◌, ◌≤◌, ◌==◌, List, [], ◌∷◌, ◌++◌, length, Bool, true, false, not, ◌||◌, ◌&&◌, if◌then◌else◌, nat_lt, Option, Some, None, refl, sym, ap, subst, ◌∙◌, arith}
+use Rattle.std.proofs.Common.{◌≡◌, ℕ, ◌+◌, ◌≤◌, ◌==◌, List, [], ◌∷◌, ◌++◌, length, Bool, true, false, not, ◌||◌, ◌&&◌, if◌then◌else◌, nat_lt, Option, Some}
+use Rattle.std.proofs.Common.{None, refl, sym, ap, subst, ◌∙◌, arith}
 use Rattle.std.proofs.lemmas.Bool.{true≢false, eqb-true, and_parts}
 use Rattle.std.proofs.lemmas.List.{length-append}
 use Rattle.x25_frame.specs.Frame.{disc}
@@ -14,7 +15,8 @@ use Rattle.x25_link.specs.declared.phase.Reason.TheVariants.{Retries, Counts}
 use Rattle.x25_link.specs.Outgoing.{no_packet, Outgoing, added, waits}
 use Rattle.x25_link.specs.Station.{LinkSettings, LinkStation, Side, is_up, with_near, with_nothing, sends}
 use Rattle.x25_link.specs.Hearing.{LinkStep, other}
-use Rattle.x25_link.specs.Link.{alone, put_step, take_step, timer_refusal, timer_step, connect_refusal, connect_step, disconnect_refusal, disconnect_step, abandon_step, probe_refusal, relink_refusal, relink_step, timer_runs, is_idle, connects as link_connects}
+use Rattle.x25_link.specs.Link.{alone, put_step, take_step, timer_refusal, timer_step, connect_refusal, connect_step, disconnect_refusal, disconnect_step}
+use Rattle.x25_link.specs.Link.{abandon_step, probe_refusal, relink_refusal, relink_step, timer_runs, is_idle, connects as link_connects}
 use Rattle.x25_link.specs.laws.NoteLaw.{Tells, TakeTells, TimerTells, AbandonTells}
 use Rattle.x25_link.specs.laws.RestLaw.{HasSaidAll, TakeSaysAll, PutSaysAll, TimerSaysAll, ConnectSaysAll, DisconnectSaysAll, AbandonSaysAll, NoTimerIsIdle}
 use Rattle.x25_link.specs.laws.SetUp.{RelinkIsTwoSteps}
@@ -75,7 +77,8 @@ ending_sound k None input s step stays = stays.sound
 ending_sound k (Some reason) input s step ends = subst (λ (x : Outgoing). IsSound k x) (sym ends.outgoing) (none_sound k)
 
 -- a step that tells what became of the link
-sound_by : (k : ℕ) (s : LinkStation) (step : LinkStep) → Tells s step → (is_up s.phase ≡ true → IsSound k step.side.near.outgoing) → is_up step.side.near.phase ≡ true → IsSound k step.side.near.outgoing
+sound_by : (k : ℕ) (s : LinkStation) (step : LinkStep) → Tells s step → (is_up s.phase ≡ true → IsSound k step.side.near.outgoing) → is_up step.side.near.phase
+    ≡ true → IsSound k step.side.near.outgoing
 sound_by k s step tells running up = by step.notes.down refl step.notes.up refl
   where
     noted : (o : Option Reason) (b : Bool) → step.notes.down ≡ o → step.notes.up ≡ b → step.notes ≡ record { down = o; up = b }
@@ -94,7 +97,8 @@ module _ (laws : LinkSettles) (c : LinkSettings) (small : c.window ≤ 7) where
   put_settled : (packet : List ℕ) (s : LinkStation) → Settled c.window s → Settled c.window (put_step c packet s).side.near
   put_settled packet s h = record {
     said = laws.put_says c packet s small h.said.low;
-    sound = λ up. (let was : is_up s.phase ≡ true = sym (ap is_up (put_lasts c packet s).phase) ∙ up in (laws.put c packet s (record { up = was; sound = h.sound was })).sound);
+    sound = λ up. (let was : is_up s.phase ≡ true = sym (ap is_up (put_lasts c packet s).phase) ∙ up in
+        (laws.put c packet s (record { up = was; sound = h.sound was })).sound);
   }
 
   all_settled : (packets : List PlainPacket) (t : Side) → Settled c.window t.near → Settled c.window (all_put c packets t).near
@@ -111,7 +115,8 @@ module _ (laws : LinkSettles) (c : LinkSettings) (small : c.window ≤ 7) where
   timer_settled s h = record {
     said = laws.timer_says c s small h.said.low;
     sound = sound_by c.window s (timer_step c s) (laws.timer_tells c s)
-        (λ up. ending_sound c.window (if nat_lt s.tries c.retries then None else Some Retries) nothing s (timer_step c s) (laws.timer c s (record { up = up; sound = h.sound up })));
+        (λ up. ending_sound c.window (if nat_lt s.tries c.retries then None else Some Retries) nothing s (timer_step c s)
+        (laws.timer c s (record { up = up; sound = h.sound up })));
   }
 
   take_settled : (octets : List ℕ) (s : LinkStation) → Settled c.window s → Settled c.window (take_step c octets s).side.near
@@ -120,13 +125,15 @@ module _ (laws : LinkSettles) (c : LinkSettings) (small : c.window ≤ 7) where
       record {
         said = laws.take_says c octets s small h.said.low;
         sound = sound_by c.window s (take_step c octets s) (laws.take_tells c octets s)
-            (λ up. ending_sound c.window (ending_of read (window_of c.window s)) (brought_by read) s (take_step c octets s) (laws.take c octets s (record { up = up; sound = h.sound up }) read refl));
+            (λ up. ending_sound c.window (ending_of read (window_of c.window s)) (brought_by read) s (take_step c octets s)
+            (laws.take c octets s (record { up = up; sound = h.sound up }) read refl));
       }
 
   abandon_settled : (s : LinkStation) → Settled c.window s → Settled c.window (abandon_step c s).side.near
   abandon_settled s h = record {
     said = laws.abandon_says c s;
-    sound = sound_by c.window s (abandon_step c s) (laws.abandon_tells c s) (λ up. ending_sound c.window (Some Counts) nothing s (abandon_step c s) (laws.abandon c s (record { up = up; sound = h.sound up })));
+    sound = sound_by c.window s (abandon_step c s) (laws.abandon_tells c s)
+        (λ up. ending_sound c.window (Some Counts) nothing s (abandon_step c s) (laws.abandon c s (record { up = up; sound = h.sound up })));
   }
 
   connect_settled : (s : LinkStation) → s.outgoing.acked ≤ s.outgoing.place → Settled c.window (connect_step c s).side.near
@@ -138,7 +145,8 @@ module _ (laws : LinkSettles) (c : LinkSettings) (small : c.window ≤ 7) where
   disconnect_settled : (s : LinkStation) → Settled c.window (disconnect_step c s).side.near
   disconnect_settled s = record {
     said = laws.disconnect_says c s;
-    sound = sound_out c.window Closed (disconnect_step c s).side.near refl (ended_lasts c.window (sends (disc true) (with_near (alone s) (with_nothing Closed s.tries)))).phase;
+    sound = sound_out c.window Closed (disconnect_step c s).side.near refl
+        (ended_lasts c.window (sends (disc true) (with_near (alone s) (with_nothing Closed s.tries)))).phase;
   }
 
   relink_settled : (s : LinkStation) → Settled c.window (relink_step c s).side.near
@@ -151,7 +159,8 @@ module _ (laws : LinkSettles) (c : Settings) (s : Station) (small : c.window ≤
   behind t n entries h = let all = all_settled laws (link_settings c) small n.put t h in record { said = all.said; sound = all.sound }
 
   follows_settled : (k : LinkStep) → Settled c.window k.side.near → IsSettled c (follows c s.layer k).near
-  follows_settled k h = behind k.side (layer_at (view_of (link_settings c) k.side.near) (layer_settings c) c.wide s.layer k.packet k.notes.down k.notes.up) (follows c s.layer k).entries h
+  follows_settled k h = behind k.side (layer_at (view_of (link_settings c) k.side.near) (layer_settings c) c.wide s.layer k.packet k.notes.down k.notes.up)
+      (follows c s.layer k).entries h
 
   unless_settled : (o : Option LinkError) (step : Step) → IsSettled c step.near → SettledBy c (unless o step)
   unless_settled None step h = h
@@ -161,8 +170,10 @@ module _ (laws : LinkSettles) (c : Settings) (s : Station) (small : c.window ≤
   went_settled entries (Went n) h = behind (alone s.link) n entries h
   went_settled entries (Refuses e) h = tt
 
-  gave_settled : (g : PlainGiven) (taken : Bool) (entries : List StationEntry) (a : Answered) → Settled c.window s.link → SettledBy c (gave c g taken (alone s.link) entries a)
-  gave_settled g true entries (Went n) h = let all = all_given_settled laws (link_settings c) small g n.put (alone s.link) h in record { said = all.said; sound = all.sound }
+  gave_settled : (g : PlainGiven) (taken : Bool) (entries : List StationEntry) (a : Answered) → Settled c.window s.link
+      → SettledBy c (gave c g taken (alone s.link) entries a)
+  gave_settled g true entries (Went n) h = let all = all_given_settled laws (link_settings c) small g n.put (alone s.link) h in
+      record { said = all.said; sound = all.sound }
   gave_settled g false entries (Went n) h = tt
   gave_settled g taken entries (Refuses e) h = tt
 
@@ -180,26 +191,33 @@ stays_settled laws c s (timer.Comes octets) small h = test (abandons c s)
     test false = follows_settled laws c s small (take_step lc octets s.link) (take_settled laws lc small octets s.link link)
 stays_settled laws c s timer.Fires small h =
     let lc : LinkSettings = link_settings c in
-    unless_settled laws c s small (timer_refusal s.link) (follows c s.layer (timer_step lc s.link)) (follows_settled laws c s small (timer_step lc s.link) (timer_settled laws lc small s.link (record { said = h.said; sound = h.sound })))
+    unless_settled laws c s small (timer_refusal s.link) (follows c s.layer (timer_step lc s.link))
+    (follows_settled laws c s small (timer_step lc s.link) (timer_settled laws lc small s.link (record { said = h.said; sound = h.sound })))
 stays_settled laws c s (timer.Asks (Requests request)) small h =
     let said = said_by c.say_sizes s.layer request in
     let view = view_of (link_settings c) s.link in
-    where_holds (SettledBy c) (may_ask c.wide said) (requests_of c s.link s.layer view said) (λ e. tt) (went_settled laws c s small _ (calls view (layer_settings c) s.layer said) (record { said = h.said; sound = h.sound }))
+    where_holds (SettledBy c) (may_ask c.wide said) (requests_of c s.link s.layer view said) (λ e. tt)
+    (went_settled laws c s small _ (calls view (layer_settings c) s.layer said) (record { said = h.said; sound = h.sound }))
 stays_settled laws c s (timer.Asks (RequestsWith given request)) small h =
     let said = said_by c.say_sizes s.layer request in
-    gave_settled laws c s small given (is_taken c given said) _ (calls (view_given (link_settings c) given s.link) (layer_settings c) s.layer said) (record { said = h.said; sound = h.sound })
+    gave_settled laws c s small given (is_taken c given said) _ (calls (view_given (link_settings c) given s.link) (layer_settings c) s.layer said)
+    (record { said = h.said; sound = h.sound })
 stays_settled laws c s (timer.Asks Connects) small h =
     let lc : LinkSettings = link_settings c in
-    unless_settled laws c s small (connect_refusal s.link.phase) (led_by (connect_asked ∷ []) (follows c s.layer (connect_step lc s.link))) (follows_settled laws c s small (connect_step lc s.link) (connect_settled laws lc small s.link h.said.low))
+    unless_settled laws c s small (connect_refusal s.link.phase) (led_by (connect_asked ∷ []) (follows c s.layer (connect_step lc s.link)))
+    (follows_settled laws c s small (connect_step lc s.link) (connect_settled laws lc small s.link h.said.low))
 stays_settled laws c s (timer.Asks Disconnects) small h =
     let lc : LinkSettings = link_settings c in
-    unless_settled laws c s small (disconnect_refusal s.link.phase) (led_by (disconnect_asked ∷ []) (follows c s.layer (disconnect_step lc s.link))) (follows_settled laws c s small (disconnect_step lc s.link) (disconnect_settled laws lc small s.link))
+    unless_settled laws c s small (disconnect_refusal s.link.phase) (led_by (disconnect_asked ∷ []) (follows c s.layer (disconnect_step lc s.link)))
+    (follows_settled laws c s small (disconnect_step lc s.link) (disconnect_settled laws lc small s.link))
 stays_settled laws c s (timer.Asks Probes) small h =
     let lc : LinkSettings = link_settings c in
-    unless_settled laws c s small (probe_refusal s.link.phase) (follows c s.layer (timer_step lc s.link)) (follows_settled laws c s small (timer_step lc s.link) (timer_settled laws lc small s.link (record { said = h.said; sound = h.sound })))
+    unless_settled laws c s small (probe_refusal s.link.phase) (follows c s.layer (timer_step lc s.link))
+    (follows_settled laws c s small (timer_step lc s.link) (timer_settled laws lc small s.link (record { said = h.said; sound = h.sound })))
 stays_settled laws c s (timer.Asks Relinks) small h =
     let lc : LinkSettings = link_settings c in
-    unless_settled laws c s small (relink_refusal s.link.phase) (led_by (relink_asked ∷ []) (follows c s.layer (relink_step lc s.link))) (follows_settled laws c s small (relink_step lc s.link) (relink_settled laws lc small s.link))
+    unless_settled laws c s small (relink_refusal s.link.phase) (led_by (relink_asked ∷ []) (follows c s.layer (relink_step lc s.link)))
+    (follows_settled laws c s small (relink_step lc s.link) (relink_settled laws lc small s.link))
 
 pub new_is_settled : NewIsSettled
 new_is_settled c = record { said = record { low = omega arith; settled = refl; calm = refl }; sound = λ up. absurd (true≢false (sym up)) }
@@ -214,7 +232,8 @@ settled_asks laws c s least h up = test (runs s) refl
 -- ---- what is pulled
 
 -- a packet more is handed down: one waits, or isn't acknowledged
-module _ (k : ℕ) (s t : LinkStation) (same : Lasts s t) (sound : is_up s.phase ≡ true → IsSound k s.outgoing) (more : length s.outgoing.given + 1 ≤ length t.outgoing.given) where
+module _ (k : ℕ) (s t : LinkStation) (same : Lasts s t) (sound : is_up s.phase ≡ true → IsSound k s.outgoing)
+    (more : length s.outgoing.given + 1 ≤ length t.outgoing.given) where
   not_idle : is_idle t ≡ true → ⊥
   not_idle is =
       let parts = and_parts (is_up t.phase) (waits t.outgoing == 0 && t.outgoing.acked == t.outgoing.sent) is in
@@ -231,7 +250,8 @@ module _ (k : ℕ) (s t : LinkStation) (same : Lasts s t) (sound : is_up s.phase
   not_at_rest : (ran : Bool) → (is_idle t && not ran) ≡ true → ⊥
   not_at_rest ran is = not_idle (and_parts (is_idle t) (not ran) is).0
 
-no_entry : (c : Settings) (l : Layer) (full busy : Bool) → entries_of_outcome (layer_settings c) l PullsAll (outcome_in (layer_settings c) full busy l.restarts l.circuits PullsAll) ≡ []
+no_entry : (c : Settings) (l : Layer) (full busy : Bool)
+    → entries_of_outcome (layer_settings c) l PullsAll (outcome_in (layer_settings c) full busy l.restarts l.circuits PullsAll) ≡ []
 no_entry c l full true = refl
 no_entry c l full false = refl
 
@@ -244,16 +264,19 @@ pulls_go_on c s h = by (is_up s.link.phase) s.layer.restarting refl
     entries : List StationEntry
     entries = entries_of_outcome (layer_settings c) s.layer PullsAll (layer_outcome (layer_settings c) (waits s.link.outgoing == 256) s.layer PullsAll)
 
-    rests : (packets : List PlainPacket) → (let t : LinkStation = (all_put lc packets (alone s.link)).near in (is_idle t && not (timer_runs t.phase t)) ≡ true → is_at_rest s ≡ true)
+    rests : (packets : List PlainPacket)
+        → (let t : LinkStation = (all_put lc packets (alone s.link)).near in (is_idle t && not (timer_runs t.phase t)) ≡ true → is_at_rest s ≡ true)
     rests [] is = is
     rests (p ∷ packets) is =
         let t : Side = with_near (alone s.link) (record s.link { outgoing = added (spelling_of p) s.link.outgoing }) in
         let u : Side = put_on lc p (alone s.link) in
         let v : LinkStation = (all_put lc packets u).near in
-        let one : length (s.link.outgoing.given ++ spelling_of p ∷ []) ≡ length s.link.outgoing.given + 1 = length-append s.link.outgoing.given (spelling_of p ∷ []) in
+        let one : length (s.link.outgoing.given ++ spelling_of p ∷ []) ≡ length s.link.outgoing.given + 1 =
+        length-append s.link.outgoing.given (spelling_of p ∷ []) in
         let first = (ended_lasts lc.window t).given in
         let then_rest = (all_put_lasts lc packets u).given in
-        absurd (not_at_rest c.window s.link v (all_put_lasts lc (p ∷ packets) (alone s.link)) h.sound (omega (arith, one, first, then_rest)) (timer_runs v.phase v) is)
+        absurd (not_at_rest c.window s.link v (all_put_lasts lc (p ∷ packets) (alone s.link)) h.sound (omega (arith, one, first, then_rest))
+        (timer_runs v.phase v) is)
 
     view : LinkView
     view = view_of lc s.link
@@ -265,7 +288,9 @@ pulls_go_on c s h = by (is_up s.link.phase) s.layer.restarting refl
     nothing_pulled e = record { told = refl; restarting = refl; awaits = λ k. refl; acked = refl; rests = λ is. is }
 
     by : (up busy : Bool) → s.layer.restarting ≡ busy
-        → GoesOn c s (pulled_of s (did c (alone s.link) entries (if up then went view (layer_settings c) (outcome_in (layer_settings c) full busy s.layer.restarts s.layer.circuits PullsAll) else Refuses layer_error.NotUp)))
+        → GoesOn c s (pulled_of s (did c (alone s.link) entries
+        (if up then went view (layer_settings c) (outcome_in (layer_settings c) full busy s.layer.restarts s.layer.circuits PullsAll)
+        else Refuses layer_error.NotUp)))
     by false busy is = nothing_pulled layer_error.NotUp
     by true true is = nothing_pulled layer_error.Restarting
     by true false is =

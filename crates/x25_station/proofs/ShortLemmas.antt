@@ -3,20 +3,24 @@ use Rattle.std.proofs.Common.{◌≡◌, ℕ, ◌<◌, ◌≤◌, List, [], ◌�
 use Rattle.x25_bits.specs.declared.role.Role.{Role}
 use Rattle.x25_bits.specs.declared.role.Role.TheVariants.{Dte, Dce}
 use Rattle.x25_packet.specs.declared.error.PacketError.{PacketError}
-use Rattle.x25_packet.specs.Packet.{PlainPacket, call, accept, clear, clear_conf, user_data, rr, rnr, interrupt, interrupt_conf, reset, reset_conf, restart, restart_conf}
+use Rattle.x25_packet.specs.Packet.{PlainPacket, call, accept, clear, clear_conf, user_data, rr, rnr, interrupt, interrupt_conf, reset, reset_conf, restart}
+use Rattle.x25_packet.specs.Packet.{restart_conf}
 use Rattle.x25_packet.specs.Spelling.{IsInRange, longest_user}
 use Rattle.x25_packet.specs.Reading.{channel_in}
 use Rattle.x25_packet.specs.Taking.{read_in}
 use Rattle.x25_packet.specs.laws.TakingLaw.{TakesInRange}
 use Rattle.x25_circuit.specs.declared.state.State.{State}
-use Rattle.x25_circuit.specs.declared.state.State.TheVariants.{Free, Calling, Arriving, Collision, Open, Resetting, Clearing}
+use Rattle.x25_circuit.specs.declared.state.State.TheVariants.{Free, Calling, Collision, Open, Resetting, Clearing}
 use Rattle.x25_circuit.specs.declared.params.Params.{Params}
 use Rattle.x25_circuit.specs.Params.{default_params, may_answer, said_in}
 use Rattle.x25_circuit.specs.Circuit.{CircuitSettings, Circuit, Talk, incoming}
 use Rattle.x25_circuit.specs.Message.{Message, piece_of, no_part, joining, completed}
 use Rattle.x25_circuit.specs.Notice.{CallRequest, PlainNotice, connected, deliveries}
-use Rattle.x25_circuit.specs.Hearing.{Answer, answers, undecoded, collides, goes, clears_for, connects, row_call, row_accept, row_clear, row_clear_conf, row_reset, row_reset_conf, row_open, row_data, row_undecoded, unless, data_ground, number_ground, takes, hears_status, confirms}
-use Rattle.x25_layer.specs.Layer.{LayerSettings, Layer, LayerAnswer, is_channel, notices_on, answers_on, drops, answers_ready, answers_restarting, answers_in, undecoded_in}
+use Rattle.x25_circuit.specs.Hearing.{Answer, answers, undecoded, collides, goes, clears_for, connects, row_call, row_accept, row_clear, row_clear_conf}
+use Rattle.x25_circuit.specs.Hearing.{row_reset, row_reset_conf, row_open, row_data, row_undecoded, unless, data_ground, number_ground, takes, hears_status}
+use Rattle.x25_circuit.specs.Hearing.{confirms}
+use Rattle.x25_layer.specs.Layer.{LayerSettings, Layer, LayerAnswer, is_channel, notices_on, answers_on, drops, answers_ready, answers_restarting, answers_in}
+use Rattle.x25_layer.specs.Layer.{undecoded_in}
 use Rattle.x25_layer.specs.Receiving.{undecoded_at, answer_to}
 use Rattle.x25_station.specs.Receiving.{IsShort, AreTellable}
 
@@ -45,7 +49,8 @@ collides_short : (role : Role) (x : Circuit) (request : CallRequest) → length 
 collides_short Dte x request short = tt
 collides_short Dce x request short = (tt, (short, tt))
 
-call_short : (c : CircuitSettings) (x : Circuit) (state : State) (request : CallRequest) → length request.user ≤ 128 → AreShort (row_call c x state request).notices
+call_short : (c : CircuitSettings) (x : Circuit) (state : State) (request : CallRequest) → length request.user ≤ 128
+    → AreShort (row_call c x state request).notices
 call_short c x Free request short = (short, tt)
 call_short c x Calling request short = collides_short c.role x request short
 call_short c x Clearing request short = tt
@@ -103,7 +108,8 @@ IsOfData packet = ⊥
 
 open_short : (c : CircuitSettings) (x : Circuit) (t : Talk) (p : PlainPacket) → IsOfData p → IsShortPacket p → AreShort (row_open c x t p).notices
 open_short c x t (user_data channel q m ps pr user) kind short =
-    unless_short c x (data_ground c.longest (incoming x).size t ps pr (piece_of q m user)) (takes x t pr (piece_of q m user)) (deliveries_short (completed (joining no_part t.taken) (piece_of q m user)))
+    unless_short c x (data_ground c.longest (incoming x).size t ps pr (piece_of q m user)) (takes x t pr (piece_of q m user))
+    (deliveries_short (completed (joining no_part t.taken) (piece_of q m user)))
 open_short c x t (rr channel pr) kind short = unless_short c x (number_ground t pr) (hears_status x t true pr) tt
 open_short c x t (rnr channel pr) kind short = unless_short c x (number_ground t pr) (hears_status x t false pr) tt
 open_short c x t (interrupt channel user) kind short = (short, tt)
@@ -117,7 +123,8 @@ data_short c x Clearing p kind short = tt
 data_short c x state p kind short = (tt, tt)
 
 answers_short : (c : CircuitSettings) (x : Circuit) (p : PlainPacket) → IsShortPacket p → AreShort (answers c x p).notices
-answers_short c x (call channel called calling facilities user) short = call_short c x x.state (record { called = called; calling = calling; user = user; params = said_in default_params facilities }) short
+answers_short c x (call channel called calling facilities user) short =
+    call_short c x x.state (record { called = called; calling = calling; user = user; params = said_in default_params facilities }) short
 answers_short c x (accept channel facilities) short = accept_short c x x.state facilities
 answers_short c x (clear channel cause diagnostic) short = clear_short x x.state cause diagnostic
 answers_short c x (clear_conf channel) short = clear_conf_short c x x.state
@@ -134,7 +141,8 @@ undecoded_short c x state e = (tt, tt)
 
 -- ---- the layer
 
-on_tellable : (c : LayerSettings) (h : ℕ) (notices : List PlainNotice) → is_channel c.channels h ≡ true → AreShort notices → AreTellable c (notices_on h notices)
+on_tellable : (c : LayerSettings) (h : ℕ) (notices : List PlainNotice) → is_channel c.channels h ≡ true → AreShort notices
+    → AreTellable c (notices_on h notices)
 on_tellable c h [] configured short = tt
 on_tellable c h (notice ∷ notices) configured short = ((configured, short.0), on_tellable c h notices configured short.1)
 
@@ -142,7 +150,8 @@ if_tellable : (c : LayerSettings) (h restarts : ℕ) (circuits : ℕ → Circuit
     → AreTellable c (let d : LayerAnswer = if is_channel c.channels h then answers_on restarts circuits h a else drops false restarts circuits in d.notices)
 if_tellable c h restarts circuits a short = test (is_channel c.channels h) refl
   where
-    test : (b : Bool) → is_channel c.channels h ≡ b → AreTellable c (let d : LayerAnswer = if b then answers_on restarts circuits h a else drops false restarts circuits in d.notices)
+    test : (b : Bool) → is_channel c.channels h ≡ b
+        → AreTellable c (let d : LayerAnswer = if b then answers_on restarts circuits h a else drops false restarts circuits in d.notices)
     test true is = on_tellable c h a.notices is short
     test false is = tt
 
@@ -150,20 +159,31 @@ ready_tellable : (c : LayerSettings) (n : ℕ) (f : ℕ → Circuit) (p : PlainP
 ready_tellable c n f (restart cause diagnostic) short = (tt, tt)
 ready_tellable c n f restart_conf short = (tt, tt)
 ready_tellable c n f (call channel called calling facilities user) short =
-    if_tellable c channel n f (answers c.circuit (f channel) (call channel called calling facilities user)) (answers_short c.circuit (f channel) (call channel called calling facilities user) short)
-ready_tellable c n f (accept channel facilities) short = if_tellable c channel n f (answers c.circuit (f channel) (accept channel facilities)) (answers_short c.circuit (f channel) (accept channel facilities) short)
+    if_tellable c channel n f (answers c.circuit (f channel) (call channel called calling facilities user))
+    (answers_short c.circuit (f channel) (call channel called calling facilities user) short)
+ready_tellable c n f (accept channel facilities) short = if_tellable c channel n f (answers c.circuit (f channel) (accept channel facilities))
+    (answers_short c.circuit (f channel) (accept channel facilities) short)
 ready_tellable c n f (clear channel cause diagnostic) short =
-    if_tellable c channel n f (answers c.circuit (f channel) (clear channel cause diagnostic)) (answers_short c.circuit (f channel) (clear channel cause diagnostic) short)
-ready_tellable c n f (clear_conf channel) short = if_tellable c channel n f (answers c.circuit (f channel) (clear_conf channel)) (answers_short c.circuit (f channel) (clear_conf channel) short)
+    if_tellable c channel n f (answers c.circuit (f channel) (clear channel cause diagnostic))
+    (answers_short c.circuit (f channel) (clear channel cause diagnostic) short)
+ready_tellable c n f (clear_conf channel) short = if_tellable c channel n f (answers c.circuit (f channel) (clear_conf channel))
+    (answers_short c.circuit (f channel) (clear_conf channel) short)
 ready_tellable c n f (user_data channel q m ps pr user) short =
-    if_tellable c channel n f (answers c.circuit (f channel) (user_data channel q m ps pr user)) (answers_short c.circuit (f channel) (user_data channel q m ps pr user) short)
-ready_tellable c n f (rr channel pr) short = if_tellable c channel n f (answers c.circuit (f channel) (rr channel pr)) (answers_short c.circuit (f channel) (rr channel pr) short)
-ready_tellable c n f (rnr channel pr) short = if_tellable c channel n f (answers c.circuit (f channel) (rnr channel pr)) (answers_short c.circuit (f channel) (rnr channel pr) short)
-ready_tellable c n f (interrupt channel user) short = if_tellable c channel n f (answers c.circuit (f channel) (interrupt channel user)) (answers_short c.circuit (f channel) (interrupt channel user) short)
-ready_tellable c n f (interrupt_conf channel) short = if_tellable c channel n f (answers c.circuit (f channel) (interrupt_conf channel)) (answers_short c.circuit (f channel) (interrupt_conf channel) short)
+    if_tellable c channel n f (answers c.circuit (f channel) (user_data channel q m ps pr user))
+    (answers_short c.circuit (f channel) (user_data channel q m ps pr user) short)
+ready_tellable c n f (rr channel pr) short = if_tellable c channel n f (answers c.circuit (f channel) (rr channel pr))
+    (answers_short c.circuit (f channel) (rr channel pr) short)
+ready_tellable c n f (rnr channel pr) short = if_tellable c channel n f (answers c.circuit (f channel) (rnr channel pr))
+    (answers_short c.circuit (f channel) (rnr channel pr) short)
+ready_tellable c n f (interrupt channel user) short = if_tellable c channel n f (answers c.circuit (f channel) (interrupt channel user))
+    (answers_short c.circuit (f channel) (interrupt channel user) short)
+ready_tellable c n f (interrupt_conf channel) short = if_tellable c channel n f (answers c.circuit (f channel) (interrupt_conf channel))
+    (answers_short c.circuit (f channel) (interrupt_conf channel) short)
 ready_tellable c n f (reset channel cause diagnostic) short =
-    if_tellable c channel n f (answers c.circuit (f channel) (reset channel cause diagnostic)) (answers_short c.circuit (f channel) (reset channel cause diagnostic) short)
-ready_tellable c n f (reset_conf channel) short = if_tellable c channel n f (answers c.circuit (f channel) (reset_conf channel)) (answers_short c.circuit (f channel) (reset_conf channel) short)
+    if_tellable c channel n f (answers c.circuit (f channel) (reset channel cause diagnostic))
+    (answers_short c.circuit (f channel) (reset channel cause diagnostic) short)
+ready_tellable c n f (reset_conf channel) short = if_tellable c channel n f (answers c.circuit (f channel) (reset_conf channel))
+    (answers_short c.circuit (f channel) (reset_conf channel) short)
 
 restarting_tellable : (c : LayerSettings) (n : ℕ) (f : ℕ → Circuit) (p : PlainPacket) → AreTellable c (answers_restarting n f p).notices
 restarting_tellable c n f (restart cause diagnostic) = (tt, tt)
@@ -182,9 +202,11 @@ at_tellable : (c : LayerSettings) (l : Layer) (e : PacketError) (o : Option ℕ)
 at_tellable c l e None = tt
 at_tellable c l e (Some h) = undecoded_tellable c l.restarting l.restarts l.circuits h e
 
-pub told_tellable : TakesInRange → (wide : Bool) (c : LayerSettings) (l : Layer) (octets : List ℕ) → All (λ octet. octet < 256) octets → AreTellable c (answer_to c l octets (read_in wide (longest_user c.circuit.long_data) octets)).notices
+pub told_tellable : TakesInRange → (wide : Bool) (c : LayerSettings) (l : Layer) (octets : List ℕ) → All (λ octet. octet < 256) octets
+    → AreTellable c (answer_to c l octets (read_in wide (longest_user c.circuit.long_data) octets)).notices
 told_tellable law wide c l octets bytes = by (read_in wide (longest_user c.circuit.long_data) octets) refl
   where
     by : (r : Result PlainPacket PacketError) → read_in wide (longest_user c.circuit.long_data) octets ≡ r → AreTellable c (answer_to c l octets r).notices
-    by (Ok p) is = in_tellable c l.restarting l.restarts l.circuits p (range_short p (law wide (longest_user c.circuit.long_data) p octets (user_short c.circuit.long_data) bytes is))
+    by (Ok p) is = in_tellable c l.restarting l.restarts l.circuits p
+        (range_short p (law wide (longest_user c.circuit.long_data) p octets (user_short c.circuit.long_data) bytes is))
     by (Err e) is = at_tellable c l e (channel_in octets)

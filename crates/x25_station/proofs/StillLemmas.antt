@@ -1,6 +1,7 @@
 -- No step of a station makes an answer awaited anew, and the end of a wait is told; where none is given clear and
 -- restart lead on.
-use Rattle.std.proofs.Common.{◌≡◌, ℕ, ◌<◌, ◌≤◌, ◌==◌, ◌⊎◌, inl, inr, List, [], ◌∷◌, ◌++◌, Bool, true, false, ◌||◌, if◌then◌else◌, Option, Some, None, refl, sym, ap, subst, ◌∙◌, arith}
+use Rattle.std.proofs.Common.{◌≡◌, ℕ, ◌<◌, ◌≤◌, ◌==◌, ◌⊎◌, inl, inr, List, [], ◌∷◌, ◌++◌, Bool, true, false, ◌||◌, if◌then◌else◌, Option, Some, None, refl, sym}
+use Rattle.std.proofs.Common.{ap, subst, ◌∙◌, arith}
 use Rattle.std.proofs.Math.Bool.{or-true}
 use Rattle.std.proofs.lemmas.Bool.{true≢false, eqb-true, eq-eqb}
 use Rattle.std.proofs.lemmas.List.Folds.{list_any-append}
@@ -15,11 +16,12 @@ use Rattle.x25_link.specs.declared.phase.Reason.{Reason}
 use Rattle.x25_link.specs.Outgoing.{waits}
 use Rattle.x25_link.specs.Station.{Side, is_up}
 use Rattle.x25_link.specs.Hearing.{LinkStep}
-use Rattle.x25_link.specs.Link.{alone, take_step, timer_refusal, timer_step, connect_refusal, connect_step, disconnect_refusal, disconnect_step, abandon_step, probe_refusal, relink_refusal, relink_step}
+use Rattle.x25_link.specs.Link.{alone, take_step, timer_refusal, timer_step, connect_refusal, connect_step, disconnect_refusal, disconnect_step, abandon_step}
+use Rattle.x25_link.specs.Link.{probe_refusal, relink_refusal, relink_step}
 use Rattle.x25_link.specs.laws.NoteLaw.{Tells, PutTells}
 use Rattle.x25_circuit.specs.declared.awaits.Awaits.{Awaits}
 use Rattle.x25_circuit.specs.declared.state.State.{State}
-use Rattle.x25_circuit.specs.declared.state.State.TheVariants.{Free, Calling, Arriving, Collision, Open, Resetting, Clearing}
+use Rattle.x25_circuit.specs.declared.state.State.TheVariants.{Free, Calling, Collision, Resetting, Clearing}
 use Rattle.x25_circuit.specs.Awaits.{awaited_in}
 use Rattle.x25_circuit.specs.Calling.{Clears, does, clear_in}
 use Rattle.x25_circuit.specs.Circuit.{CircuitSettings, Circuit, entered}
@@ -33,16 +35,20 @@ use Rattle.x25_layer.specs.code.FitsLayer.{awaited_at}
 use Rattle.x25_station.specs.Command.{Requests, RequestsWith, Connects, Disconnects, Probes, Relinks, said_by, may_ask}
 use Rattle.x25_station.specs.Config.{Settings, link_settings, layer_settings}
 use Rattle.x25_station.specs.Beside.{beside_in}
-use Rattle.x25_station.specs.Entry.{StationEntry, of_channel, restart_asked, connect_asked, disconnect_asked, relink_asked, link_up, link_down, was_restarted, restart_confirmed, at_fault, came_beside, was_diagnosed, was_confirmed, entries_down, entries_up, station_asked, bringing, entries_beside, entries_behind}
+use Rattle.x25_station.specs.Entry.{StationEntry, of_channel, restart_asked, connect_asked, disconnect_asked, relink_asked, link_up, link_down, was_restarted}
+use Rattle.x25_station.specs.Entry.{restart_confirmed, at_fault, came_beside, was_diagnosed, was_confirmed, entries_down, entries_up, station_asked, bringing}
+use Rattle.x25_station.specs.Entry.{entries_beside, entries_behind}
 use Rattle.x25_given.specs.Given.{PlainGiven}
 use Rattle.x25_station.specs.Giving.{view_given, is_taken}
 use Rattle.x25_station.specs.Station.{Station, view_of}
-use Rattle.x25_station.specs.Step.{Step, Outcome, Did, Refused, with_puts, layer_at, layer_answer, confirmed_by, entries_of_answer, follows, led_by, unless, abandons, entries_heard, entries_of_outcome, did, requests, with_given, gave, gives, requests_of, where_asked}
+use Rattle.x25_station.specs.Step.{Step, Outcome, Did, Refused, with_puts, layer_at, layer_answer, confirmed_by, entries_of_answer, follows, led_by, unless}
+use Rattle.x25_station.specs.Step.{abandons, entries_heard, entries_of_outcome, did, requests, with_given, gave, gives, requests_of, where_asked}
 use Rattle.x25_station.specs.Timer.{is_of_link, tells_link}
 use Rattle.x25_station.specs.laws.TimerLaw as timer
 use Rattle.x25_station.specs.laws.EndLaw.{is_answered_on, is_left_on, IsTold, EndIsTold}
 use Rattle.x25_station.specs.laws.WayOutLaw.{rank_in, rank_of, rank, ClearLeadsOn, RestartLeadsOn, AwaitsStill, LeadsOn, NothingLeadsBack}
-use Rattle.x25_station.proofs.AwaitLemmas.{Kind, in_call, in_collision, in_reset, in_clear, state_of, awaits_in, EndsOn, LayerMoves, OutcomeMoves, answer_moves, asked_moves, SameStates, rounds_same, moves_on}
+use Rattle.x25_station.proofs.AwaitLemmas.{Kind, in_call, in_collision, in_reset, in_clear, state_of, awaits_in, EndsOn, LayerMoves, OutcomeMoves, answer_moves}
+use Rattle.x25_station.proofs.AwaitLemmas.{asked_moves, SameStates, rounds_same, moves_on}
 use Rattle.x25_station.proofs.KeepLemmas.{LinkLaws}
 use Rattle.x25_station.proofs.PutLemmas.{all_up}
 use Rattle.x25_station.proofs.UnheardLemmas.{all_given_last}
@@ -73,7 +79,8 @@ module _ (c : Settings) (s : Station) (h : ℕ) where
   abbrev Leads : Station → List StationEntry → Type 0
   Leads next entries = AwaitsStill c s next h ⊎ ((rank c next h < rank c s h) × EndsOn h (awaited_at lc s.layer h) (rank c next h) entries)
 
-  leads : (next : Station) (entries : List StationEntry) → is_up s.link.phase ≡ true → is_up next.link.phase ≡ true → LayerMoves lc h s.layer next.layer entries → Leads next entries
+  leads : (next : Station) (entries : List StationEntry) → is_up s.link.phase ≡ true → is_up next.link.phase ≡ true
+      → LayerMoves lc h s.layer next.layer entries → Leads next entries
   leads next entries up is (inl e) = inl (record { up = is; restarting = e.0; awaits = e.1 })
   leads next entries up is (inr x) =
       let here : Phase → ℕ = λ p. rank_of p next.layer.restarting (awaited_at lc next.layer h) in
@@ -108,7 +115,8 @@ module _ (c : Settings) (s : Station) (h : ℕ) where
     high_up = subst (λ (p : Phase). 2 ≤ rank_of p s.layer.restarting (awaited_at lc s.layer h)) (up_is s.link.phase up) high
 
     -- what the layer puts behind a step of the link
-    put_leads : (t : Side) (next : Layer) (owed : Option PlainPacket) (entries : List StationEntry) → is_up t.near.phase ≡ true → LayerMoves lc h s.layer next entries
+    put_leads : (t : Side) (next : Layer) (owed : Option PlainPacket) (entries : List StationEntry) → is_up t.near.phase ≡ true
+        → LayerMoves lc h s.layer next entries
         → Leads (with_puts c t (rounds (view_of (link_settings c) t.near) lc (begin next owed)) entries).near entries
     put_leads t next owed entries is moved =
         let n : Putting = rounds (view_of (link_settings c) t.near) lc (begin next owed) in
@@ -116,7 +124,8 @@ module _ (c : Settings) (s : Station) (h : ℕ) where
         (moves_on lc h s.layer next n.layer entries moved (rounds_same (view_of (link_settings c) t.near) lc (begin next owed)))
 
     -- a step of the link
-    follow_leads : (k : LinkStep) → Tells s.link k → tells_link (follows c s.layer k).entries ≡ false → Leads (follows c s.layer k).near (follows c s.layer k).entries
+    follow_leads : (k : LinkStep) → Tells s.link k → tells_link (follows c s.layer k).entries ≡ false
+        → Leads (follows c s.layer k).near (follows c s.layer k).entries
     follow_leads k t quiet = by k.packet k.notes.down refl k.notes.up refl quiet
       where
         view : LinkView
@@ -125,17 +134,22 @@ module _ (c : Settings) (s : Station) (h : ℕ) where
         noted : (o : Option Reason) (b : Bool) → k.notes.down ≡ o → k.notes.up ≡ b → k.notes ≡ record { down = o; up = b }
         noted o b p q = ap (λ (x : Option Reason). record { down = x; up = k.notes.up }) p ∙ ap (λ (x : Bool). record { down = o; up = x }) q
 
-        by : (p : Option (List ℕ)) (d : Option Reason) → k.notes.down ≡ d → (u : Bool) → k.notes.up ≡ u → tells_link ((entries_down d ++ entries_up u) ++ entries_heard lc c.wide s.layer p d u) ≡ false
-            → Leads (with_puts c k.side (layer_at view lc c.wide s.layer p d u) []).near ((entries_down d ++ entries_up u) ++ entries_heard lc c.wide s.layer p d u)
+        by : (p : Option (List ℕ)) (d : Option Reason) → k.notes.down ≡ d → (u : Bool) → k.notes.up ≡ u
+            → tells_link ((entries_down d ++ entries_up u) ++ entries_heard lc c.wide s.layer p d u) ≡ false
+            → Leads (with_puts c k.side (layer_at view lc c.wide s.layer p d u) []).near
+            ((entries_down d ++ entries_up u) ++ entries_heard lc c.wide s.layer p d u)
         by p (Some reason) is_d u is_u none = absurd (true≢false none)
         by p None is_d true is_u none = absurd (true≢false none)
         by (Some octets) None is_d false is_u none =
             let a : LayerAnswer = layer_answer lc c.wide s.layer octets in
             leads_more (with_puts c k.side (layer_at view lc c.wide s.layer (Some octets) None false) []).near (entries_of_answer a)
-            (entries_behind a.next (named_by octets) (confirmed_by lc c.wide s.layer a.next (named_by octets)) (entries_beside (beside_in c.wide octets) (bringing a.notices)))
-            (put_leads k.side a.next a.owed (entries_of_answer a) (t.stays (noted None false is_d is_u) ∙ up) (answer_moves lc h s.layer octets (read_in c.wide (longest_user c.long_data) octets) high_up))
+            (entries_behind a.next (named_by octets) (confirmed_by lc c.wide s.layer a.next (named_by octets))
+            (entries_beside (beside_in c.wide octets) (bringing a.notices)))
+            (put_leads k.side a.next a.owed (entries_of_answer a) (t.stays (noted None false is_d is_u) ∙ up)
+            (answer_moves lc h s.layer octets (read_in c.wide (longest_user c.long_data) octets) high_up))
         by None None is_d false is_u none =
-            leads (with_puts c k.side (layer_at view lc c.wide s.layer None None false) []).near [] up (t.stays (noted None false is_d is_u) ∙ up) (inl (refl, refl))
+            leads (with_puts c k.side (layer_at view lc c.wide s.layer None None false) []).near [] up (t.stays (noted None false is_d is_u) ∙ up)
+            (inl (refl, refl))
 
     -- a request of the layer
     request_leads : (request : LayerRequest) → Goes (requests c s request)
@@ -157,7 +171,8 @@ module _ (c : Settings) (s : Station) (h : ℕ) where
 
     -- and one with something given beside its packet
     given_leads : (g : PlainGiven) (request : LayerRequest) → Goes (gives c s g request)
-    given_leads g request = at (is_taken c g request) (is_up s.link.phase) refl (layer_outcome lc full s.layer request) (asked_moves lc h full s.layer request high_up)
+    given_leads g request = at (is_taken c g request) (is_up s.link.phase) refl (layer_outcome lc full s.layer request)
+        (asked_moves lc h full s.layer request high_up)
       where
         full : Bool
         full = waits s.link.outgoing == 256
@@ -180,25 +195,31 @@ module _ (c : Settings) (s : Station) (h : ℕ) where
     unless_leads None step go = go
     unless_leads (Some e) step go = tt
 
-    not_asked : (entries : List StationEntry) → Goes (unless (connect_refusal s.link.phase) (led_by entries (follows c s.layer (connect_step (link_settings c) s.link))))
-    not_asked entries = subst (λ (p : Phase). Goes (unless (connect_refusal p) (led_by entries (follows c s.layer (connect_step (link_settings c) s.link))))) (sym (up_is s.link.phase up)) tt
+    not_asked : (entries : List StationEntry)
+        → Goes (unless (connect_refusal s.link.phase) (led_by entries (follows c s.layer (connect_step (link_settings c) s.link))))
+    not_asked entries = subst (λ (p : Phase). Goes (unless (connect_refusal p) (led_by entries (follows c s.layer (connect_step (link_settings c) s.link)))))
+        (sym (up_is s.link.phase up)) tt
 
 goes_on : LinkLaws → (c : Settings) (s : Station) (h : ℕ) (event : timer.StationEvent) → 2 ≤ rank c s h → Goes c s h (timer.outcome c s event)
 goes_on laws c s h timer.Fires high =
-    unless_leads c s h laws.put high (timer_refusal s.link) (follows c s.layer (timer_step (link_settings c) s.link)) (follow_leads c s h laws.put high (timer_step (link_settings c) s.link) (laws.timer (link_settings c) s.link))
+    unless_leads c s h laws.put high (timer_refusal s.link) (follows c s.layer (timer_step (link_settings c) s.link))
+    (follow_leads c s h laws.put high (timer_step (link_settings c) s.link) (laws.timer (link_settings c) s.link))
 goes_on laws c s h (timer.Comes octets) high = test (abandons c s)
   where
-    test : (b : Bool) → (let k : LinkStep = if b then abandon_step (link_settings c) s.link else take_step (link_settings c) octets s.link in Goes c s h (Did (follows c s.layer k)))
+    test : (b : Bool) → (let k : LinkStep = if b then abandon_step (link_settings c) s.link else take_step (link_settings c) octets s.link in
+        Goes c s h (Did (follows c s.layer k)))
     test true = follow_leads c s h laws.put high (abandon_step (link_settings c) s.link) (laws.abandon (link_settings c) s.link)
     test false = follow_leads c s h laws.put high (take_step (link_settings c) octets s.link) (laws.take (link_settings c) octets s.link)
 goes_on laws c s h (timer.Asks (Requests request)) high = request_leads c s h laws.put high (said_by c.say_sizes s.layer request)
 goes_on laws c s h (timer.Asks (RequestsWith given request)) high = given_leads c s h laws.put high given (said_by c.say_sizes s.layer request)
 goes_on laws c s h (timer.Asks Connects) high = not_asked c s h laws.put high (connect_asked ∷ [])
 goes_on laws c s h (timer.Asks Disconnects) high =
-    unless_leads c s h laws.put high (disconnect_refusal s.link.phase) (led_by (disconnect_asked ∷ []) (follows c s.layer (disconnect_step (link_settings c) s.link)))
+    unless_leads c s h laws.put high (disconnect_refusal s.link.phase)
+    (led_by (disconnect_asked ∷ []) (follows c s.layer (disconnect_step (link_settings c) s.link)))
     (follow_leads c s h laws.put high (disconnect_step (link_settings c) s.link) (laws.disconnect (link_settings c) s.link))
 goes_on laws c s h (timer.Asks Probes) high =
-    unless_leads c s h laws.put high (probe_refusal s.link.phase) (follows c s.layer (timer_step (link_settings c) s.link)) (follow_leads c s h laws.put high (timer_step (link_settings c) s.link) (laws.timer (link_settings c) s.link))
+    unless_leads c s h laws.put high (probe_refusal s.link.phase) (follows c s.layer (timer_step (link_settings c) s.link))
+    (follow_leads c s h laws.put high (timer_step (link_settings c) s.link) (laws.timer (link_settings c) s.link))
 goes_on laws c s h (timer.Asks Relinks) high =
     unless_leads c s h laws.put high (relink_refusal s.link.phase) (led_by (relink_asked ∷ []) (follows c s.layer (relink_step (link_settings c) s.link)))
     (follow_leads c s h laws.put high (relink_step (link_settings c) s.link) (laws.relink (link_settings c) s.link))
@@ -219,7 +240,8 @@ link_answers : (h : ℕ) (awaits : Awaits) (entries : List StationEntry) → tel
 link_answers h awaits [] is = absurd (true≢false (sym is))
 link_answers h awaits (entry ∷ entries) is = by entry is (λ later. link_answers h awaits entries later)
   where
-    behind : (e : StationEntry) → list_any (is_answered_on h awaits) entries ≡ true → (is_answered_on h awaits e || list_any (is_answered_on h awaits) entries) ≡ true
+    behind : (e : StationEntry) → list_any (is_answered_on h awaits) entries ≡ true → (is_answered_on h awaits e || list_any (is_answered_on h awaits) entries)
+        ≡ true
     behind e later = ap (λ (b : Bool). is_answered_on h awaits e || b) later ∙ or-true (is_answered_on h awaits e)
 
     by : (e : StationEntry) → (is_of_link e || tells_link entries) ≡ true → (tells_link entries ≡ true → list_any (is_answered_on h awaits) entries ≡ true)
@@ -271,7 +293,8 @@ rank_is c t h r x up restarting state =
     ∙ ap (λ (y : State). rank_of Up r (awaits_in (is_channel c.channels h) y)) state
 
 -- an accepted request of the layer, where fewer than 256 packets wait
-module _ (tells : PutTells) (c : Settings) (s : Station) (request : LayerRequest) (next : Layer) (packet : Option PlainPacket) (up : is_up s.link.phase ≡ true) (low : waits s.link.outgoing < 256)
+module _ (tells : PutTells) (c : Settings) (s : Station) (request : LayerRequest) (next : Layer) (packet : Option PlainPacket) (up : is_up s.link.phase ≡ true)
+    (low : waits s.link.outgoing < 256)
     (is : layer_outcome (layer_settings c) false s.layer request ≡ Accepted next packet) where
   abbrev put : Putting
   put = rounds (view_of (link_settings c) s.link) (layer_settings c) (begin next packet)
@@ -284,11 +307,14 @@ module _ (tells : PutTells) (c : Settings) (s : Station) (request : LayerRequest
       let lc : LayerSettings = layer_settings c in
       let view : LinkView = view_of (link_settings c) s.link in
       ap (λ (b : Bool). where_asked b (requests_of c s.link s.layer view request)) may
-      ∙ ap (λ (b : Bool). did c (alone s.link) (entries_of_outcome lc s.layer request (layer_outcome lc (waits s.link.outgoing == 256) s.layer request)) (if b then went view lc (layer_outcome lc (waits s.link.outgoing == 256) s.layer request) else Refuses layer_error.NotUp)) up
-      ∙ ap (λ (b : Bool). did c (alone s.link) (entries_of_outcome lc s.layer request (layer_outcome lc b s.layer request)) (went view lc (layer_outcome lc b s.layer request))) (not_full (waits s.link.outgoing) low)
+      ∙ ap (λ (b : Bool). did c (alone s.link) (entries_of_outcome lc s.layer request (layer_outcome lc (waits s.link.outgoing == 256) s.layer request))
+      (if b then went view lc (layer_outcome lc (waits s.link.outgoing == 256) s.layer request) else Refuses layer_error.NotUp)) up
+      ∙ ap (λ (b : Bool). did c (alone s.link) (entries_of_outcome lc s.layer request (layer_outcome lc b s.layer request))
+      (went view lc (layer_outcome lc b s.layer request))) (not_full (waits s.link.outgoing) low)
       ∙ ap (λ (o : LayerOutcome). did c (alone s.link) (entries_of_outcome lc s.layer request o) (went view lc o)) is
 
-  accepted_rank : (h : ℕ) (r : Bool) (x : State) → next.restarting ≡ r → (next.circuits h).state ≡ x → rank c accepted_step.near h ≡ rank_of Up r (awaits_in (is_channel c.channels h) x)
+  accepted_rank : (h : ℕ) (r : Bool) (x : State) → next.restarting ≡ r → (next.circuits h).state ≡ x → rank c accepted_step.near h
+      ≡ rank_of Up r (awaits_in (is_channel c.channels h) x)
   accepted_rank h r x restarting state =
       let same : SameStates next put.layer = rounds_same (view_of (link_settings c) s.link) (layer_settings c) (begin next packet) in
       rank_is c accepted_step.near h r x (all_up tells (link_settings c) put.put (alone s.link) up) (same.0 ∙ restarting) (same.1 h ∙ state)
@@ -317,7 +343,8 @@ oldest Up false true Resetting is = record { phase = refl; ready = refl; configu
 oldest Up false true Clearing is = not_four 3 (omega arith) is
 oldest Up false true x is = not_four 0 (omega arith) is
 
-clears_it : (c : CircuitSettings) (x : Circuit) (k : Kind) → rank_in (awaited_in (state_of k)) ≡ 4 → clear_in c x (state_of k) 0 0 ≡ does x Clearing default_params false (clear 1 0 0)
+clears_it : (c : CircuitSettings) (x : Circuit) (k : Kind) → rank_in (awaited_in (state_of k)) ≡ 4 → clear_in c x (state_of k) 0 0
+    ≡ does x Clearing default_params false (clear 1 0 0)
 clears_it c x in_call is = refl
 clears_it c x in_collision is = refl
 clears_it c x in_reset is = refl

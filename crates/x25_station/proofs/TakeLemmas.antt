@@ -26,17 +26,26 @@ use Rattle.x25_station.specs.Receiving.{CanPut}
 free_of : (c : LinkSettings) (l : ShownLink) (s : LinkStation) → FitsLink c l s → waiting_of l ≡ waits s.outgoing
 free_of c l s fits = link_waits l (record { settings = c; station = s; kept = l.frames }) (record { link = fits; kept = refl })
 
-can_put : (c : Settings) (l : ShownLink) (s : LinkStation) → FitsLink (link_settings c) l s → length l.frames ≤ 9 → is_up s.phase ≡ true → waits s.outgoing < 256 → CanPut l
+can_put : (c : Settings) (l : ShownLink) (s : LinkStation) → FitsLink (link_settings c) l s → length l.frames ≤ 9 → is_up s.phase ≡ true
+    → waits s.outgoing < 256 → CanPut l
 can_put c l s fits few up low =
     let same = free_of (link_settings c) l s fits in
-    record { up = ap is_up fits.near.phase ∙ up; free = omega (arith, same, low); longest = (let n : limit_of l ≡ 4099 = fits.near.longest in omega (arith, n)); places = omega (arith, few) }
+    record {
+      up = ap is_up fits.near.phase ∙ up;
+      free = omega (arith, same, low);
+      longest = (let n : limit_of l ≡ 4099 = fits.near.longest in omega (arith, n));
+      places = omega (arith, few);
+    }
 
-pub up_can_put : TakeTells → (c : Settings) (l : ShownLink) (octets : List ℕ) (s : LinkStation) → FitsLink (link_settings c) l (take_step (link_settings c) octets s).side.near → length l.frames ≤ 9 → (take_step (link_settings c) octets s).notes.up ≡ true → CanPut l
+pub up_can_put : TakeTells → (c : Settings) (l : ShownLink) (octets : List ℕ) (s : LinkStation)
+    → FitsLink (link_settings c) l (take_step (link_settings c) octets s).side.near → length l.frames ≤ 9 → (take_step (link_settings c) octets s).notes.up
+    ≡ true → CanPut l
 up_can_put tells c l octets s fits few up =
     let new : (take_step (link_settings c) octets s).side.near ≡ fresh = (tells (link_settings c) octets s).fresh_up up in
     can_put c l _ fits few (ap (λ (x : LinkStation). is_up x.phase) new) (subst (λ (x : LinkStation). waits x.outgoing < 256) (sym new) (omega arith))
 
-pub handed_can_put : TakeTells → TakeHandsUp → (c : Settings) (l : ShownLink) (octets : List ℕ) (s : LinkStation) (p : List ℕ) → FitsLink (link_settings c) l (take_step (link_settings c) octets s).side.near → length l.frames ≤ 9
+pub handed_can_put : TakeTells → TakeHandsUp → (c : Settings) (l : ShownLink) (octets : List ℕ) (s : LinkStation) (p : List ℕ)
+    → FitsLink (link_settings c) l (take_step (link_settings c) octets s).side.near → length l.frames ≤ 9
     → (take_step (link_settings c) octets s).packet ≡ Some p → CanPut l
 handed_can_put tells hands c l octets s p fits few is =
     let h = hands (link_settings c) octets s in
@@ -45,7 +54,8 @@ handed_can_put tells hands c l octets s p fits few is =
 
 -- ---- of any state that the station stands for
 
-pub put_by_meaning : {manner : Manner} (l m : ShownLink) (y : layer_code.Layer) → AreMeant manner l y → ((c : Settings) (s : Station) → FitsParts c manner l y s → CanPut m) → CanPut m
+pub put_by_meaning : {manner : Manner} (l m : ShownLink) (y : layer_code.Layer) → AreMeant manner l y
+    → ((c : Settings) (s : Station) → FitsParts c manner l y s → CanPut m) → CanPut m
 put_by_meaning l m y h f = record {
   up = ∥∥₁_elim h (hlevel props) (λ w. (f w.0 w.1 w.2).up);
   free = ∥∥₁_elim h (hlevel props) (λ w. (f w.0 w.1 w.2).free);
@@ -53,13 +63,16 @@ put_by_meaning l m y h f = record {
   places = ∥∥₁_elim h (hlevel props) (λ w. (f w.0 w.1 w.2).places);
 }
 
-pub least_by_meaning : {manner : Manner} (l : ShownLink) (y : layer_code.Layer) (a b : ℕ) → AreMeant manner l y → ((c : Settings) (s : Station) → FitsParts c manner l y s → a ≤ b) → a ≤ b
+pub least_by_meaning : {manner : Manner} (l : ShownLink) (y : layer_code.Layer) (a b : ℕ) → AreMeant manner l y
+    → ((c : Settings) (s : Station) → FitsParts c manner l y s → a ≤ b) → a ≤ b
 least_by_meaning l y a b h f = ∥∥₁_elim h (hlevel props) (λ w. f w.0 w.1 w.2)
 
-pub up_by_meaning : {manner : Manner} (l : ShownLink) (y : layer_code.Layer) (b : Bool) → AreMeant manner l y → ((c : Settings) (s : Station) → FitsParts c manner l y s → b ≡ true) → b ≡ true
+pub up_by_meaning : {manner : Manner} (l : ShownLink) (y : layer_code.Layer) (b : Bool) → AreMeant manner l y
+    → ((c : Settings) (s : Station) → FitsParts c manner l y s → b ≡ true) → b ≡ true
 up_by_meaning l y b h f = ∥∥₁_elim h (hlevel props) (λ w. f w.0 w.1 w.2)
 
-pub handed_was_up : TakeHandsUp → (c : Settings) (l : ShownLink) (octets : List ℕ) (s : LinkStation) (p : List ℕ) → FitsLink (link_settings c) l s → (take_step (link_settings c) octets s).packet ≡ Some p → up_of l ≡ true
+pub handed_was_up : TakeHandsUp → (c : Settings) (l : ShownLink) (octets : List ℕ) (s : LinkStation) (p : List ℕ) → FitsLink (link_settings c) l s
+    → (take_step (link_settings c) octets s).packet ≡ Some p → up_of l ≡ true
 handed_was_up hands c l octets s p fits is = ap is_up fits.near.phase ∙ ap is_up ((hands (link_settings c) octets s).up p is)
 
 -- ---- few frames are made, and a packet is handed up or not

@@ -13,23 +13,28 @@ use Rattle.x25_station.specs.Receiving.{IsTellable, AreTellable}
 abbrev pub told_first : ℕ → Layer → Bool → List StationEntry
 told_first h l b = if b then entry_told l (on_channel h collided) ∷ [] else []
 
-pub told_both : (l : Layer) (h : ℕ) (b : Bool) (o : Option Notice) (n : Notice) (before mid after : List StationEntry) → o ≡ Some n → mid ≡ before ++ told_first h l b → after ≡ mid ++ entry_told l (on_channel h (plain_notice n)) ∷ []
+pub told_both : (l : Layer) (h : ℕ) (b : Bool) (o : Option Notice) (n : Notice) (before mid after : List StationEntry) → o ≡ Some n → mid ≡ before
+    ++ told_first h l b → after ≡ mid ++ entry_told l (on_channel h (plain_notice n)) ∷ []
     → after ≡ before ++ station_told l (notices_on h (notices_of b o))
-told_both l h b o n before mid after is first second = second ∙ ap (λ (es : List StationEntry). es ++ entry_told l (on_channel h (plain_notice n)) ∷ []) first ∙ at b ∙ ap (λ (x : Option Notice). before ++ station_told l (notices_on h (notices_of b x))) (sym is)
+told_both l h b o n before mid after is first second = second ∙ ap (λ (es : List StationEntry). es ++ entry_told l (on_channel h (plain_notice n)) ∷ []) first
+    ∙ at b ∙ ap (λ (x : Option Notice). before ++ station_told l (notices_on h (notices_of b x))) (sym is)
   where
-    at : (b : Bool) → (before ++ told_first h l b) ++ entry_told l (on_channel h (plain_notice n)) ∷ [] ≡ before ++ station_told l (notices_on h (notices_of b (Some n)))
+    at : (b : Bool) → (before ++ told_first h l b) ++ entry_told l (on_channel h (plain_notice n)) ∷ [] ≡ before
+        ++ station_told l (notices_on h (notices_of b (Some n)))
     at true = append_assoc before (entry_told l (on_channel h collided) ∷ []) (entry_told l (on_channel h (plain_notice n)) ∷ [])
     at false = append_assoc before [] (entry_told l (on_channel h (plain_notice n)) ∷ [])
 
 -- each of them may be told
-pub notice_tellable : (c : LayerSettings) (h : ℕ) (b : Bool) (o : Option Notice) (n : Notice) → o ≡ Some n → AreTellable c (notices_on h (notices_of b o)) → IsTellable c (on_channel h (plain_notice n))
+pub notice_tellable : (c : LayerSettings) (h : ℕ) (b : Bool) (o : Option Notice) (n : Notice) → o ≡ Some n → AreTellable c (notices_on h (notices_of b o))
+    → IsTellable c (on_channel h (plain_notice n))
 notice_tellable c h b o n is all = at b (subst (λ (x : Option Notice). AreTellable c (notices_on h (notices_of b x))) is all)
   where
     at : (b : Bool) → AreTellable c (notices_on h (notices_of b (Some n))) → IsTellable c (on_channel h (plain_notice n))
     at true x = x.1.0
     at false x = x.0
 
-pub first_tellable : (c : LayerSettings) (h : ℕ) (b : Bool) (o : Option Notice) → b ≡ true → AreTellable c (notices_on h (notices_of b o)) → IsTellable c (on_channel h collided)
+pub first_tellable : (c : LayerSettings) (h : ℕ) (b : Bool) (o : Option Notice) → b ≡ true → AreTellable c (notices_on h (notices_of b o))
+    → IsTellable c (on_channel h collided)
 first_tellable c h b o is all = (subst (λ (x : Bool). AreTellable c (notices_on h (notices_of x o))) is all).0
 
 -- what is told stands under the names alone

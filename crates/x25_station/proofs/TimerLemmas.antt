@@ -1,12 +1,13 @@
 -- A deadline that is held by what T1 becomes stands exactly while T1 runs, and T1 begins anew where it is due to.
-use Rattle.std.proofs.Common.{◌≡◌, ◌+◌, ◌≤◌, inl, inr, Bool, true, false, not, ◌||◌, if◌then◌else◌, List, [], ◌∷◌, Option, Some, None, refl, sym, ap, ◌∙◌, arith}
+use Rattle.std.proofs.Common.{◌≡◌, ◌+◌, ◌≤◌, inl, inr, Bool, true, false, not, ◌||◌, if◌then◌else◌, List, [], ◌∷◌, Option, Some, None, refl, sym, ap, ◌∙◌}
+use Rattle.std.proofs.Common.{arith}
 use Rattle.std.specs.Prelude.{nat_lt}
 use Rattle.std.proofs.lemmas.Bool.{true≢false, le-ltb, lt-ltb}
 use Rattle.std.proofs.Math.Bool.{or-true}
 use Rattle.x25_link.specs.declared.error.LinkError.{LinkError}
 use Rattle.x25_link.specs.declared.error.LinkError.TheVariants as link_error
 use Rattle.x25_link.specs.declared.phase.Phase.{Phase}
-use Rattle.x25_link.specs.declared.phase.Phase.TheVariants.{Down, Waiting, Up, Closed}
+use Rattle.x25_link.specs.declared.phase.Phase.TheVariants.{Up}
 use Rattle.x25_link.specs.declared.phase.Reason.TheVariants.{Retries}
 use Rattle.x25_link.specs.Station.{LinkSettings, Side, with_near}
 use Rattle.x25_link.specs.Hearing.{LinkStep, quiet, leaves}
@@ -18,7 +19,8 @@ use Rattle.x25_given.specs.Given.{PlainGiven}
 use Rattle.x25_station.specs.declared.error.StationError.TheVariants as error
 use Rattle.x25_station.specs.Command.{Command, Requests, RequestsWith, Connects, Disconnects, Probes, Relinks, said_by, may_ask}
 use Rattle.x25_station.specs.Config.{Settings, link_settings, layer_settings}
-use Rattle.x25_station.specs.Entry.{StationEntry, of_channel, restart_asked, connect_asked, disconnect_asked, relink_asked, link_up, link_down, was_restarted, restart_confirmed, at_fault, came_beside, was_diagnosed, was_confirmed}
+use Rattle.x25_station.specs.Entry.{StationEntry, of_channel, restart_asked, connect_asked, disconnect_asked, relink_asked, link_up, link_down, was_restarted}
+use Rattle.x25_station.specs.Entry.{restart_confirmed, at_fault, came_beside, was_diagnosed, was_confirmed}
 use Rattle.x25_station.specs.Giving as giving
 use Rattle.x25_station.specs.Giving.{view_given}
 use Rattle.x25_station.specs.Station.{Station, view_of}
@@ -82,14 +84,16 @@ pull_is_heeded c s first stands is = pulled_heeded first (runs s) (runs (pulled 
 
 -- the end of the link's step, and then what the layer puts, acknowledge no more
 pub follows_acked : (c : Settings) (l : Layer) (k : LinkStep) → (follows c l k).near.link.outgoing.acked ≡ k.side.near.outgoing.acked
-follows_acked c l k = (all_put_lasts (link_settings c) (layer_at (view_of (link_settings c) k.side.near) (layer_settings c) c.wide l k.packet k.notes.down k.notes.up).put k.side).acked
+follows_acked c l k = (all_put_lasts (link_settings c)
+    (layer_at (view_of (link_settings c) k.side.near) (layer_settings c) c.wide l k.packet k.notes.down k.notes.up).put k.side).acked
 
 abbrev pub HearsNone : Station → Outcome → Type 0
 HearsNone s (Did step) = is_acknowledged s.link step.near.link ≡ false
 HearsNone s (Refused e) = Unit {0}
 
 -- a step of the link that acknowledges no more
-followed : (c : Settings) (s : Station) (k : LinkStep) → k.side.near.outgoing.acked ≤ s.link.outgoing.acked → is_acknowledged s.link (follows c s.layer (closed_by c.window k)).near.link ≡ false
+followed : (c : Settings) (s : Station) (k : LinkStep) → k.side.near.outgoing.acked ≤ s.link.outgoing.acked
+    → is_acknowledged s.link (follows c s.layer (closed_by c.window k)).near.link ≡ false
 followed c s k few =
     let put = follows_acked c s.layer (closed_by c.window k) in
     let same = (ended_lasts c.window k.side).acked in
@@ -103,7 +107,8 @@ did_none : (c : Settings) (s : Station) (entries : List StationEntry) (a : Answe
 did_none c s entries (Went p) = let same = (all_put_lasts (link_settings c) p.put (alone s.link)).acked in le-ltb _ _ (omega (arith, same))
 did_none c s entries (Refuses e) = tt
 
-gave_none : (c : Settings) (s : Station) (g : PlainGiven) (taken : Bool) (entries : List StationEntry) (a : Answered) → HearsNone s (gave c g taken (alone s.link) entries a)
+gave_none : (c : Settings) (s : Station) (g : PlainGiven) (taken : Bool) (entries : List StationEntry) (a : Answered)
+    → HearsNone s (gave c g taken (alone s.link) entries a)
 gave_none c s g true entries (Went p) = let same = (all_given_last (link_settings c) g p.put (alone s.link)).acked in le-ltb _ _ (omega (arith, same))
 gave_none c s g false entries (Went p) = tt
 gave_none c s g taken entries (Refuses e) = tt
@@ -123,7 +128,8 @@ fired_few c t = by (nat_lt t.near.tries c.retries)
     by false = omega arith
 
 pub fired_none : (c : Settings) (s : Station) → HearsNone s (fires c s)
-fired_none c s = unless_none s (timer_refusal s.link) _ (followed c s (link.fires (link_settings c) (alone s.link)) (fired_few (link_settings c) (alone s.link)))
+fired_none c s = unless_none s (timer_refusal s.link)
+    _ (followed c s (link.fires (link_settings c) (alone s.link)) (fired_few (link_settings c) (alone s.link)))
 
 pub connected_none : (c : Settings) (s : Station) → HearsNone s (connects c s)
 connected_none c s = unless_none s (connect_refusal s.link.phase) _ (followed c s (link.connects (alone s.link)) (omega arith))
@@ -132,13 +138,15 @@ pub asked_none : (c : Settings) (s : Station) (command : Command) → HearsNone 
 asked_none c s (Requests request) =
     let said = said_by c.say_sizes s.layer request in
     let view = view_of (link_settings c) s.link in
-    where_holds (HearsNone s) (may_ask c.wide said) (requests_of c s.link s.layer view said) (λ e. tt) (did_none c s _ (calls view (layer_settings c) s.layer said))
+    where_holds (HearsNone s) (may_ask c.wide said) (requests_of c s.link s.layer view said) (λ e. tt)
+    (did_none c s _ (calls view (layer_settings c) s.layer said))
 asked_none c s (RequestsWith given request) =
     let said = said_by c.say_sizes s.layer request in
     gave_none c s given (giving.is_taken c given said) _ (calls (view_given (link_settings c) given s.link) (layer_settings c) s.layer said)
 asked_none c s Connects = unless_none s (connect_refusal s.link.phase) _ (followed c s (link.connects (alone s.link)) (omega arith))
 asked_none c s Disconnects = unless_none s (disconnect_refusal s.link.phase) _ (followed c s (link.disconnects (alone s.link)) (omega arith))
-asked_none c s Probes = unless_none s (probe_refusal s.link.phase) _ (followed c s (link.fires (link_settings c) (alone s.link)) (fired_few (link_settings c) (alone s.link)))
+asked_none c s Probes = unless_none s (probe_refusal s.link.phase)
+    _ (followed c s (link.fires (link_settings c) (alone s.link)) (fired_few (link_settings c) (alone s.link)))
 asked_none c s Relinks = unless_none s (relink_refusal s.link.phase) _ (followed c s (link.relinks (alone s.link)) (omega arith))
 
 -- ---- where T1 is due to begin anew
@@ -188,4 +196,5 @@ due_pulled first true true begins on = begins refl
 due_pulled first false true begins on = refl
 
 pub begins_behind_pull : law.BeginsBehindPull
-begins_behind_pull c s event step is is_so on = due_pulled (law.timer s event (Did step)) (runs step.near) (runs (pulled c step.near).near) (begins_where_due c s event step is is_so) on
+begins_behind_pull c s event step is is_so on = due_pulled (law.timer s event (Did step)) (runs step.near) (runs (pulled c step.near).near)
+    (begins_where_due c s event step is is_so) on

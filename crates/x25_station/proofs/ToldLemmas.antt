@@ -4,7 +4,8 @@ use Rattle.std.proofs.lemmas.Option.{none-some, same_Some}
 use Rattle.x25_handshakes.specs.laws.Names.{Name}
 
 -- a channel is open only where it is configured
-pub open_named : (configured opened : Bool) (name : Name) (o : Option Name) → (if configured then opened else false) ≡ true → o ≡ (if configured then Some name else None)
+pub open_named : (configured opened : Bool) (name : Name) (o : Option Name) → (if configured then opened else false) ≡ true → o
+    ≡ (if configured then Some name else None)
     → o ≡ (let is_open : Bool = if configured then opened else false in if is_open then Some name else None)
 open_named true true name o is e = e
 open_named true false name o is e = absurd (true_false (sym is))

@@ -30,10 +30,12 @@ put_behind c wide s k o notes = layer_at (view_of (link_settings c) k.side.near)
 
 -- ---- whether a count is at its most where the link is up, by what the two say of it
 
-pub abandoned : (c : Settings) (s : Station) {up full : Bool} → up ≡ is_up s.link.phase → full ≡ is_full (layer_settings c) s.layer → (up && full) ≡ true → abandons c s ≡ true
+pub abandoned : (c : Settings) (s : Station) {up full : Bool} → up ≡ is_up s.link.phase → full ≡ is_full (layer_settings c) s.layer → (up && full) ≡ true
+    → abandons c s ≡ true
 abandoned c s up full is = sym (ap₂ (λ (a b : Bool). a && b) up full) ∙ is
 
-pub not_abandoned : (c : Settings) (s : Station) {up full : Bool} → up ≡ is_up s.link.phase → full ≡ is_full (layer_settings c) s.layer → (up && full) ≡ false → abandons c s ≡ false
+pub not_abandoned : (c : Settings) (s : Station) {up full : Bool} → up ≡ is_up s.link.phase → full ≡ is_full (layer_settings c) s.layer → (up && full) ≡ false
+    → abandons c s ≡ false
 not_abandoned c s up full is = sym (ap₂ (λ (a b : Bool). a && b) up full) ∙ is
 
 pub and_left : (a b : Bool) → (a && b) ≡ true → a ≡ true
@@ -43,12 +45,16 @@ and_left false b is = is
 pub not_full : (up full : Bool) → up ≡ true → (up && full) ≡ false → full ≡ false
 not_full up full is both = sym (ap (λ (a : Bool). a && full) is) ∙ both
 
-pub takes_on : (c : Settings) (s : Station) (octets : List ℕ) → abandons c s ≡ false → receives c s octets ≡ follows c s.layer (take_step (link_settings c) octets s.link)
-takes_on c s octets on = ap (λ (b : Bool). follows c s.layer (if b then abandon_step (link_settings c) s.link else take_step (link_settings c) octets s.link)) on
+pub takes_on : (c : Settings) (s : Station) (octets : List ℕ) → abandons c s ≡ false → receives c s octets
+    ≡ follows c s.layer (take_step (link_settings c) octets s.link)
+takes_on c s octets on = ap (λ (b : Bool). follows c s.layer (if b then abandon_step (link_settings c) s.link else take_step (link_settings c) octets s.link))
+    on
 
-pub gives_up : (c : Settings) (s : Station) (octets : List ℕ) → abandons c s ≡ true → (let k : LinkStep = abandon_step (link_settings c) s.link in receives c s octets ≡ downs s.layer k.side k.notes.down)
+pub gives_up : (c : Settings) (s : Station) (octets : List ℕ) → abandons c s ≡ true
+    → (let k : LinkStep = abandon_step (link_settings c) s.link in receives c s octets ≡ downs s.layer k.side k.notes.down)
 gives_up c s octets full =
-    ap (λ (b : Bool). follows c s.layer (if b then abandon_step (link_settings c) s.link else take_step (link_settings c) octets s.link)) full ∙ follows_down c s.layer (abandon_step (link_settings c) s.link) refl refl
+    ap (λ (b : Bool). follows c s.layer (if b then abandon_step (link_settings c) s.link else take_step (link_settings c) octets s.link)) full
+    ∙ follows_down c s.layer (abandon_step (link_settings c) s.link) refl refl
 
 -- ---- the step, by an answer of the link
 
@@ -58,9 +64,11 @@ record IsBehind (c : Settings) (wide : Bool) (s : Station) (k : LinkStep) (o : O
   out : (all_put (link_settings c) (put_behind c wide s k o notes).put k.side).out ≡ step.out
   entries : entries_noted notes ++ entries_heard (layer_settings c) wide s.layer o notes.down notes.up ≡ step.entries
 
-is_behind : (c : Settings) (wide : Bool) → wide ≡ c.wide → (s : Station) (k : LinkStep) (o : Option (List ℕ)) (notes : Notes) → o ≡ k.packet → notes ≡ k.notes → IsBehind c wide s k o notes (follows c s.layer k)
+is_behind : (c : Settings) (wide : Bool) → wide ≡ c.wide → (s : Station) (k : LinkStep) (o : Option (List ℕ)) (notes : Notes) → o ≡ k.packet → notes ≡ k.notes
+    → IsBehind c wide s k o notes (follows c s.layer k)
 is_behind c wide as_set s k o notes packet noted = subst (λ (b : Bool). IsBehind c b s k o notes (follows c s.layer k)) (sym as_set) (
-    subst (λ (x : Option (List ℕ)). IsBehind c c.wide s k x notes (follows c s.layer k)) (sym packet) (subst (λ (n : Notes). IsBehind c c.wide s k k.packet n (follows c s.layer k)) (sym noted) (record {
+    subst (λ (x : Option (List ℕ)). IsBehind c c.wide s k x notes (follows c s.layer k)) (sym packet)
+    (subst (λ (n : Notes). IsBehind c c.wide s k k.packet n (follows c s.layer k)) (sym noted) (record {
       link = refl;
       layer = refl;
       out = refl;
@@ -68,14 +76,18 @@ is_behind c wide as_set s k o notes packet noted = subst (λ (b : Bool). IsBehin
     })))
 
 took : {manner : Manner} (c : Settings) → manner ≡ manner_of c → (s : Station) (octets : List ℕ) (o : Option (List ℕ)) (notes : Notes) → abandons c s ≡ false
-    → (let k : LinkStep = take_step (link_settings c) octets s.link in (o ≡ k.packet) × (notes ≡ k.notes)) → IsBehind c manner.wide s (take_step (link_settings c) octets s.link) o notes (receives c s octets)
+    → (let k : LinkStep = take_step (link_settings c) octets s.link in (o ≡ k.packet) × (notes ≡ k.notes))
+    → IsBehind c manner.wide s (take_step (link_settings c) octets s.link) o notes (receives c s octets)
 took {manner} c as_set s octets o notes on same =
     let k : LinkStep = take_step (link_settings c) octets s.link in
-    subst (λ (step : Step). IsBehind c manner.wide s k o notes step) (sym (takes_on c s octets on)) (is_behind c manner.wide (ap (λ (m : Manner). m.wide) as_set) s k o notes same.0 same.1)
+    subst (λ (step : Step). IsBehind c manner.wide s k o notes step) (sym (takes_on c s octets on))
+    (is_behind c manner.wide (ap (λ (m : Manner). m.wide) as_set) s k o notes same.0 same.1)
 
-pub took_fits : {manner : Manner} (c : Settings) → manner ≡ manner_of c → (s : Station) (octets : List ℕ) (o : Option (List ℕ)) (notes : Notes) (m n : ShownLink) (z : layer_code.Layer) → abandons c s ≡ false
+pub took_fits : {manner : Manner} (c : Settings) → manner ≡ manner_of c
+    → (s : Station) (octets : List ℕ) (o : Option (List ℕ)) (notes : Notes) (m n : ShownLink) (z : layer_code.Layer) → abandons c s ≡ false
     → (let k : LinkStep = take_step (link_settings c) octets s.link in (o ≡ k.packet) × (notes ≡ k.notes))
-    → (let k : LinkStep = take_step (link_settings c) octets s.link in FitsWhole m (kept_of (link_settings c) (all_put (link_settings c) (put_behind c manner.wide s k o notes).put k.side)))
+    → (let k : LinkStep = take_step (link_settings c) octets s.link in
+    FitsWhole m (kept_of (link_settings c) (all_put (link_settings c) (put_behind c manner.wide s k o notes).put k.side)))
     → (let k : LinkStep = take_step (link_settings c) octets s.link in FitsLayer (layer_settings c) z (put_behind c manner.wide s k o notes).layer)
     → n.station ≡ m.station → n.frames ≡ [] → IsKept (receives c s octets).near → FitsParts c manner n z (receives c s octets).near
 took_fits c as_set s octets o notes m n z on same link layer station none kept =
@@ -88,21 +100,30 @@ took_fits c as_set s octets o notes m n z on same link layer station none kept =
       same = as_set;
     }
 
-pub took_sends : {manner : Manner} (c : Settings) → manner ≡ manner_of c → (s : Station) (octets : List ℕ) (o : Option (List ℕ)) (notes : Notes) (made : List (List ℕ)) → abandons c s ≡ false
+pub took_sends : {manner : Manner} (c : Settings) → manner ≡ manner_of c
+    → (s : Station) (octets : List ℕ) (o : Option (List ℕ)) (notes : Notes) (made : List (List ℕ)) → abandons c s ≡ false
     → (let k : LinkStep = take_step (link_settings c) octets s.link in (o ≡ k.packet) × (notes ≡ k.notes))
-    → (let k : LinkStep = take_step (link_settings c) octets s.link in made ≡ map (spelling_of c.role) (all_put (link_settings c) (put_behind c manner.wide s k o notes).put k.side).out)
+    → (let k : LinkStep = take_step (link_settings c) octets s.link in made
+    ≡ map (spelling_of c.role) (all_put (link_settings c) (put_behind c manner.wide s k o notes).put k.side).out)
     → made ≡ map (spelling_of c.role) (receives c s octets).out
-took_sends c as_set s octets o notes made on same is = is ∙ ap (λ (x : List PlainFrame). map (spelling_of c.role) x) (took c as_set s octets o notes on same).out
+took_sends c as_set s octets o notes made on same is = is
+    ∙ ap (λ (x : List PlainFrame). map (spelling_of c.role) x) (took c as_set s octets o notes on same).out
 
-pub took_enters : {manner : Manner} (c : Settings) → manner ≡ manner_of c → (s : Station) (octets : List ℕ) (o : Option (List ℕ)) (notes : Notes) (entries : List StationEntry) → abandons c s ≡ false
-    → (let k : LinkStep = take_step (link_settings c) octets s.link in (o ≡ k.packet) × (notes ≡ k.notes)) → entries ≡ entries_noted notes ++ entries_heard (layer_settings c) manner.wide s.layer o notes.down notes.up
+pub took_enters : {manner : Manner} (c : Settings) → manner ≡ manner_of c
+    → (s : Station) (octets : List ℕ) (o : Option (List ℕ)) (notes : Notes) (entries : List StationEntry) → abandons c s ≡ false
+    → (let k : LinkStep = take_step (link_settings c) octets s.link in (o ≡ k.packet) × (notes ≡ k.notes)) → entries ≡ entries_noted notes
+    ++ entries_heard (layer_settings c) manner.wide s.layer o notes.down notes.up
     → entries ≡ (receives c s octets).entries
 took_enters c as_set s octets o notes entries on same entered = entered ∙ (took c as_set s octets o notes on same).entries
 
 -- ---- what is acknowledged
 
-pub took_acknowledged : (c : Settings) (s : Station) (octets : List ℕ) → abandons c s ≡ false → acknowledges s.link (take_step (link_settings c) octets s.link) ≡ is_acknowledged s.link (receives c s octets).near.link
-took_acknowledged c s octets on = ap (λ (n : ℕ). nat_lt s.link.outgoing.acked n) (sym (ap (λ (x : Step). x.near.link.outgoing.acked) (takes_on c s octets on) ∙ follows_acked c s.layer (take_step (link_settings c) octets s.link)))
+pub took_acknowledged : (c : Settings) (s : Station) (octets : List ℕ) → abandons c s ≡ false → acknowledges s.link (take_step (link_settings c) octets s.link)
+    ≡ is_acknowledged s.link (receives c s octets).near.link
+took_acknowledged c s octets on = ap (λ (n : ℕ). nat_lt s.link.outgoing.acked n)
+    (sym (ap (λ (x : Step). x.near.link.outgoing.acked) (takes_on c s octets on) ∙ follows_acked c s.layer (take_step (link_settings c) octets s.link)))
 
-pub gave_up_acknowledged : (c : Settings) (s : Station) (octets : List ℕ) → abandons c s ≡ true → acknowledges s.link (abandon_step (link_settings c) s.link) ≡ is_acknowledged s.link (receives c s octets).near.link
-gave_up_acknowledged c s octets full = ap (λ (n : ℕ). nat_lt s.link.outgoing.acked n) (sym (ap (λ (x : Step). x.near.link.outgoing.acked) (gives_up c s octets full)))
+pub gave_up_acknowledged : (c : Settings) (s : Station) (octets : List ℕ) → abandons c s ≡ true → acknowledges s.link (abandon_step (link_settings c) s.link)
+    ≡ is_acknowledged s.link (receives c s octets).near.link
+gave_up_acknowledged c s octets full = ap (λ (n : ℕ). nat_lt s.link.outgoing.acked n)
+    (sym (ap (λ (x : Step). x.near.link.outgoing.acked) (gives_up c s octets full)))

@@ -1,5 +1,6 @@
 -- What a station asks while nothing is heard: T1 goes on, and each firing and each poll takes a try.
-use Rattle.std.proofs.Common.{◌≡◌, ℕ, zero, suc, ◌+◌, ◌<◌, ◌≤◌, List, [], ◌∷◌, ◌++◌, max, Bool, true, false, ◌||◌, ◌&&◌, if◌then◌else◌, nat_lt, length, Option, Some, None, Result, Ok, Err, refl, sym, ap, subst, ◌∙◌, arith}
+use Rattle.std.proofs.Common.{◌≡◌, ℕ, zero, suc, ◌+◌, ◌<◌, ◌≤◌, List, [], ◌∷◌, ◌++◌, max, Bool, true, false, ◌||◌, ◌&&◌, if◌then◌else◌, nat_lt, length, Option}
+use Rattle.std.proofs.Common.{Some, None, Result, Ok, Err, refl, sym, ap, subst, ◌∙◌, arith}
 use Rattle.std.proofs.lemmas.Bool.{true≢false, ltb-true, lt-ltb}
 use Rattle.std.proofs.Math.Bool.{or-true}
 use Rattle.std.proofs.lemmas.List.{length-append}
@@ -14,9 +15,11 @@ use Rattle.x25_link.specs.declared.phase.Phase.TheVariants.{Down, Waiting, Up, C
 use Rattle.x25_link.specs.declared.phase.Reason.{Reason}
 use Rattle.x25_link.specs.declared.phase.Reason.TheVariants.{Retries}
 use Rattle.x25_link.specs.Outgoing.{added}
-use Rattle.x25_link.specs.Station.{LinkSettings, LinkStation, Side, is_up, is_busy, with_near, with_nothing, sends, ready, may_send, send_next, pumped, owes_ready, ended}
+use Rattle.x25_link.specs.Station.{LinkSettings, LinkStation, Side, is_up, is_busy, with_near, with_nothing, sends, ready, may_send, send_next, pumped}
+use Rattle.x25_link.specs.Station.{owes_ready, ended}
 use Rattle.x25_link.specs.Hearing.{LinkStep, quiet, leaves, other}
-use Rattle.x25_link.specs.Link.{alone, closed_by, put_step, take_step, timer_runs, timer_refusal, timer_step, asks_again, connect_refusal, connect_step, disconnect_refusal, disconnect_step, probe_refusal, relink_refusal, relink_step, abandon_step}
+use Rattle.x25_link.specs.Link.{alone, closed_by, put_step, take_step, timer_runs, timer_refusal, timer_step, asks_again, connect_refusal, connect_step}
+use Rattle.x25_link.specs.Link.{disconnect_refusal, disconnect_step, probe_refusal, relink_refusal, relink_step, abandon_step}
 use Rattle.x25_link.specs.laws.SetUp.{TakeWaits, waiting_after, waiting_up}
 use Rattle.x25_layer.specs.code.FitsLayer.{is_full}
 use Rattle.x25_layer.specs.laws.Rounds.{Answered, Went, Refuses, calls}
@@ -55,7 +58,16 @@ lasts_on s t u p q =
     let second = q.sent in
     let here = p.given in
     let there = q.given in
-    record { phase = q.phase ∙ p.phase; tries = q.tries ∙ p.tries; acked = q.acked ∙ p.acked; recovery = q.recovery ∙ p.recovery; peer_busy = q.peer_busy ∙ p.peer_busy; sent = omega (arith, first, second); given = omega (arith, here, there) }
+    record {
+      phase = q.phase ∙ p.phase;
+      tries = q.tries ∙ p.tries;
+      acked = q.acked ∙ p.acked;
+      recovery = q.recovery ∙ p.recovery;
+      peer_busy = q.peer_busy
+          ∙ p.peer_busy;
+      sent = omega (arith, first, second);
+      given = omega (arith, here, there);
+    }
 
 if_lasts : (s : LinkStation) (b : Bool) (u v : Side) → Lasts s u.near → Lasts s v.near → (let w : Side = if b then u else v in Lasts s w.near)
 if_lasts s true u v p q = p
@@ -71,7 +83,15 @@ max_first : (a b : ℕ) → a ≤ max a b
 max_first a b = omega arith
 
 send_lasts : (t : Side) → Lasts t.near (send_next t).near
-send_lasts t = record { phase = refl; tries = refl; acked = refl; recovery = refl; peer_busy = refl; sent = max_first t.near.outgoing.sent (t.near.outgoing.place + 1); given = omega arith }
+send_lasts t = record {
+  phase = refl;
+  tries = refl;
+  acked = refl;
+  recovery = refl;
+  peer_busy = refl;
+  sent = max_first t.near.outgoing.sent (t.near.outgoing.place + 1);
+  given = omega arith;
+}
 
 pumped_lasts : (n k : ℕ) (t : Side) → Lasts t.near (pumped n k t).near
 unfolding pumped
@@ -83,7 +103,8 @@ pumped_lasts (suc n) k t =
 pub ended_lasts : (k : ℕ) (t : Side) → Lasts t.near (ended k t).near
 ended_lasts k t =
     let u : Side = pumped 7 k t in
-    if_lasts t.near (owes_ready u.near) (ready false false u) u (lasts_on t.near u.near (ready false false u).near (pumped_lasts 7 k t) (ready_lasts false false u)) (pumped_lasts 7 k t)
+    if_lasts t.near (owes_ready u.near) (ready false false u) u
+    (lasts_on t.near u.near (ready false false u).near (pumped_lasts 7 k t) (ready_lasts false false u)) (pumped_lasts 7 k t)
 
 added_lasts : (packet : List ℕ) (s : LinkStation) → Lasts s (record s { outgoing = added packet s.outgoing })
 added_lasts packet s =
@@ -97,7 +118,8 @@ put_lasts c packet s =
 
 pub all_put_lasts : (c : LinkSettings) (packets : List PlainPacket) (t : Side) → Lasts t.near (all_put c packets t).near
 all_put_lasts c [] t = lasts t.near
-all_put_lasts c (p ∷ packets) t = lasts_on t.near (put_on c p t).near (all_put c packets (put_on c p t)).near (put_lasts c (spelling_of p) t.near) (all_put_lasts c packets (put_on c p t))
+all_put_lasts c (p ∷ packets) t = lasts_on t.near (put_on c p t).near (all_put c packets (put_on c p t)).near (put_lasts c (spelling_of p) t.near)
+    (all_put_lasts c packets (put_on c p t))
 
 pub all_given_last : (c : LinkSettings) (g : PlainGiven) (packets : List PlainPacket) (t : Side) → Lasts t.near (all_given c g packets t).near
 all_given_last c g [] t = lasts t.near
@@ -113,14 +135,16 @@ runs_last Waiting s t same is = is
 runs_last Closed s t same is = is
 runs_last Up s t same is = by (nat_lt s.outgoing.acked s.outgoing.sent) refl is
   where
-    by : (b : Bool) → nat_lt s.outgoing.acked s.outgoing.sent ≡ b → (b || (s.recovery || s.peer_busy)) ≡ true → (nat_lt t.outgoing.acked t.outgoing.sent || (t.recovery || t.peer_busy)) ≡ true
+    by : (b : Bool) → nat_lt s.outgoing.acked s.outgoing.sent ≡ b → (b || (s.recovery || s.peer_busy)) ≡ true
+        → (nat_lt t.outgoing.acked t.outgoing.sent || (t.recovery || t.peer_busy)) ≡ true
     by true low e =
         let below : s.outgoing.acked < s.outgoing.sent = ltb-true _ _ low in
         let acked = same.acked in
         let sent = same.sent in
         ap (λ (b : Bool). b || (t.recovery || t.peer_busy)) (lt-ltb t.outgoing.acked t.outgoing.sent (omega (arith, below, acked, sent)))
     by false low e =
-        let flags : (t.recovery || t.peer_busy) ≡ true = ap (λ (b : Bool). b || t.peer_busy) same.recovery ∙ ap (λ (b : Bool). s.recovery || b) same.peer_busy ∙ e in
+        let flags : (t.recovery || t.peer_busy) ≡ true = ap (λ (b : Bool). b || t.peer_busy) same.recovery ∙ ap (λ (b : Bool). s.recovery || b) same.peer_busy
+        ∙ e in
         ap (λ (b : Bool). nat_lt t.outgoing.acked t.outgoing.sent || b) flags ∙ or-true (nat_lt t.outgoing.acked t.outgoing.sent)
 
 runs_in : (p : Phase) (s : LinkStation) → s.phase ≡ p → timer_runs p s ≡ true → timer_runs s.phase s ≡ true
@@ -142,7 +166,8 @@ lasts_takes c s next same =
     }
 
 -- T1 fires, or the link is polled: from a station with one try more
-asked_takes : (c : Settings) (s next : Station) (u : LinkStation) → Lasts u next.link → u.tries ≡ s.link.tries + 1 → u.outgoing.acked ≡ s.link.outgoing.acked → timer_runs u.phase u ≡ true → s.link.tries < c.retries → TakesTries c s next 1
+asked_takes : (c : Settings) (s next : Station) (u : LinkStation) → Lasts u next.link → u.tries ≡ s.link.tries + 1 → u.outgoing.acked ≡ s.link.outgoing.acked
+    → timer_runs u.phase u ≡ true → s.link.tries < c.retries → TakesTries c s next 1
 asked_takes c s next u same one acked on low =
     let tries = same.tries in
     let behind : timer_runs next.link.phase next.link ≡ true = runs_in u.phase next.link same.phase (runs_last u.phase u next.link same on) in
@@ -163,7 +188,8 @@ fired c s may = subst (TakesQuietly c s 1) (sym (timer_down c s.layer s.link)) (
     more : LinkStation
     more = record s.link { tries = s.link.tries + 1 }
 
-    asks : (p : Phase) → s.link.phase ≡ p → MayAsk p → s.link.tries < c.retries → (let t : Side = ended c.window (asks_again p (with_near (alone s.link) more)) in TakesTries c s (record { link = t.near; layer = s.layer }) 1)
+    asks : (p : Phase) → s.link.phase ≡ p → MayAsk p → s.link.tries < c.retries
+        → (let t : Side = ended c.window (asks_again p (with_near (alone s.link) more)) in TakesTries c s (record { link = t.near; layer = s.layer }) 1)
     asks Down is may low = absurd may
     asks Closed is may low = absurd may
     asks Waiting is may low =
@@ -177,7 +203,8 @@ fired c s may = subst (TakesQuietly c s 1) (sym (timer_down c s.layer s.link)) (
         (runs_in Up u is (or-true (nat_lt u.outgoing.acked u.outgoing.sent))) low
 
     by : (b : Bool) → nat_lt s.link.tries c.retries ≡ b
-        → (let k : LinkStep = closed_by c.window (if b then quiet (asks_again s.link.phase (with_near (alone s.link) more)) else leaves Retries (alone s.link)) in TakesQuietly c s 1 (downs s.layer k.side k.notes.down))
+        → (let k : LinkStep = closed_by c.window (if b then quiet (asks_again s.link.phase (with_near (alone s.link) more)) else leaves Retries (alone s.link))
+        in TakesQuietly c s 1 (downs s.layer k.side k.notes.down))
     by true low = λ quiet same. asks s.link.phase refl may (ltb-true _ _ low)
     by false low = λ quiet same. absurd (true≢false quiet)
 
@@ -196,19 +223,22 @@ not_up None false entries none = refl
 same_link : (s t : LinkStation) → t ≡ s → Lasts s t
 same_link s t is = subst (λ (x : LinkStation). Lasts s x) (sym is) (lasts s)
 
-heard_waiting : TakeWaits → (c : Settings) (s : Station) (octets : List ℕ) → s.link.phase ≡ Waiting → TakesQuietly c s 0 (follows c s.layer (take_step (link_settings c) octets s.link))
+heard_waiting : TakeWaits → (c : Settings) (s : Station) (octets : List ℕ) → s.link.phase ≡ Waiting
+    → TakesQuietly c s 0 (follows c s.layer (take_step (link_settings c) octets s.link))
 heard_waiting waits c s octets is quiet same =
     let k : LinkStep = take_step (link_settings c) octets s.link in
     let read : Result PlainFrame FrameError = frame_of (other c.role) (link_settings c).longest octets in
     let row = waits (link_settings c) octets s.link is read refl in
     let down : k.notes.up ≡ false = not_up k.notes.down k.notes.up _ quiet in
-    let near : (follows c s.layer k).near.link ≡ s.link = ap (λ (x : Step). x.near.link) (follows_down c s.layer k row.packet down) ∙ row.near ∙ nothing_heard read s.link (sym row.up ∙ down) in
+    let near : (follows c s.layer k).near.link ≡ s.link = ap (λ (x : Step). x.near.link) (follows_down c s.layer k row.packet down) ∙ row.near
+    ∙ nothing_heard read s.link (sym row.up ∙ down) in
     lasts_takes c s (follows c s.layer k).near (same_link s.link (follows c s.layer k).near.link near)
 
 heard : TakeWaits → (c : Settings) (s : Station) (octets : List ℕ) → s.link.phase ≡ Waiting → TakesQuietly c s 0 (receives c s octets)
 heard waits c s octets is =
     let no : abandons c s ≡ false = ap (λ (p : Phase). is_up p && is_full (layer_settings c) s.layer) is in
-    subst (λ (b : Bool). let k : LinkStep = if b then abandon_step (link_settings c) s.link else take_step (link_settings c) octets s.link in TakesQuietly c s 0 (follows c s.layer k)) (sym no)
+    subst (λ (b : Bool). let k : LinkStep = if b then abandon_step (link_settings c) s.link else take_step (link_settings c) octets s.link in
+    TakesQuietly c s 0 (follows c s.layer k)) (sym no)
     (heard_waiting waits c s octets is)
 
 -- ---- the events
@@ -218,11 +248,14 @@ unless_asks c s n None step go = go
 unless_asks c s n (Some e) step go = tt
 
 went_asks : (c : Settings) (s : Station) (entries : List StationEntry) (a : Answered) → AsksOn c s 0 (did c (alone s.link) entries a)
-went_asks c s entries (Went n) = λ quiet same. lasts_takes c s (with_puts c (alone s.link) n entries).near (all_put_lasts (link_settings c) n.put (alone s.link))
+went_asks c s entries (Went n) = λ quiet same. lasts_takes c s (with_puts c (alone s.link) n entries).near
+    (all_put_lasts (link_settings c) n.put (alone s.link))
 went_asks c s entries (Refuses e) = tt
 
-gave_asks : (c : Settings) (s : Station) (g : PlainGiven) (taken : Bool) (entries : List StationEntry) (a : Answered) → AsksOn c s 0 (gave c g taken (alone s.link) entries a)
-gave_asks c s g true entries (Went n) = λ quiet same. lasts_takes c s (with_given c g (alone s.link) n entries).near (all_given_last (link_settings c) g n.put (alone s.link))
+gave_asks : (c : Settings) (s : Station) (g : PlainGiven) (taken : Bool) (entries : List StationEntry) (a : Answered)
+    → AsksOn c s 0 (gave c g taken (alone s.link) entries a)
+gave_asks c s g true entries (Went n) = λ quiet same. lasts_takes c s (with_given c g (alone s.link) n entries).near
+    (all_given_last (link_settings c) g n.put (alone s.link))
 gave_asks c s g false entries (Went n) = tt
 gave_asks c s g taken entries (Refuses e) = tt
 
@@ -232,7 +265,8 @@ connect_asks c s Waiting step may = tt
 connect_asks c s Up step may = tt
 connect_asks c s Closed step may = absurd may
 
-disconnect_asks : (c : Settings) (s : Station) → MayAsk s.link.phase → TakesQuietly c s 0 (led_by (disconnect_asked ∷ []) (follows c s.layer (disconnect_step (link_settings c) s.link)))
+disconnect_asks : (c : Settings) (s : Station) → MayAsk s.link.phase
+    → TakesQuietly c s 0 (led_by (disconnect_asked ∷ []) (follows c s.layer (disconnect_step (link_settings c) s.link)))
 disconnect_asks c s may quiet same =
     let t : Side = sends (disc true) (with_near (alone s.link) (with_nothing Closed s.link.tries)) in
     let closed : s.link.phase ≡ Closed = sym same ∙ ap (λ (x : Step). x.near.link.phase) (disconnect_down c s.layer s.link) ∙ (ended_lasts c.window t).phase in
@@ -243,17 +277,22 @@ relink_asks c s quiet same = absurd (true≢false (sym (ap (λ (x : Step). tells
 
 pub unheard_asks_on : TakeWaits → UnheardAsksOn
 unheard_asks_on waits c s (timer.Comes octets) may is = heard waits c s octets is
-unheard_asks_on waits c s timer.Fires may is = unless_asks c s 1 (timer_refusal s.link) (follows c s.layer (timer_step (link_settings c) s.link)) (fired c s may)
+unheard_asks_on waits c s timer.Fires may is = unless_asks c s 1 (timer_refusal s.link) (follows c s.layer (timer_step (link_settings c) s.link))
+    (fired c s may)
 unheard_asks_on waits c s (timer.Asks (Requests request)) may is =
     let said = said_by c.say_sizes s.layer request in
     let view = view_of (link_settings c) s.link in
-    where_holds (AsksOn c s 0) (may_ask c.wide said) (requests_of c s.link s.layer view said) (λ e. tt) (went_asks c s _ (calls view (layer_settings c) s.layer said))
+    where_holds (AsksOn c s 0) (may_ask c.wide said) (requests_of c s.link s.layer view said) (λ e. tt)
+    (went_asks c s _ (calls view (layer_settings c) s.layer said))
 unheard_asks_on waits c s (timer.Asks (RequestsWith given request)) may is =
     let said = said_by c.say_sizes s.layer request in
     gave_asks c s given (is_taken c given said) _ (calls (view_given (link_settings c) given s.link) (layer_settings c) s.layer said)
-unheard_asks_on waits c s (timer.Asks Connects) may is = connect_asks c s s.link.phase (led_by (connect_asked ∷ []) (follows c s.layer (connect_step (link_settings c) s.link))) may
+unheard_asks_on waits c s (timer.Asks Connects) may is = connect_asks c s s.link.phase
+    (led_by (connect_asked ∷ []) (follows c s.layer (connect_step (link_settings c) s.link))) may
 unheard_asks_on waits c s (timer.Asks Disconnects) may is =
-    unless_asks c s 0 (disconnect_refusal s.link.phase) (led_by (disconnect_asked ∷ []) (follows c s.layer (disconnect_step (link_settings c) s.link))) (disconnect_asks c s may)
-unheard_asks_on waits c s (timer.Asks Probes) may is = unless_asks c s 1 (probe_refusal s.link.phase) (follows c s.layer (timer_step (link_settings c) s.link)) (fired c s may)
+    unless_asks c s 0 (disconnect_refusal s.link.phase) (led_by (disconnect_asked ∷ []) (follows c s.layer (disconnect_step (link_settings c) s.link)))
+    (disconnect_asks c s may)
+unheard_asks_on waits c s (timer.Asks Probes) may is = unless_asks c s 1 (probe_refusal s.link.phase) (follows c s.layer (timer_step (link_settings c) s.link))
+    (fired c s may)
 unheard_asks_on waits c s (timer.Asks Relinks) may is =
     unless_asks c s 0 (relink_refusal s.link.phase) (led_by (relink_asked ∷ []) (follows c s.layer (relink_step (link_settings c) s.link))) (relink_asks c s)

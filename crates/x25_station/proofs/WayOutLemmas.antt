@@ -4,7 +4,7 @@ use Rattle.std.proofs.lemmas.Bool.{true≢false, lt-ltb, le-ltb}
 use Rattle.x25_link.specs.declared.error.LinkError.{LinkError}
 use Rattle.x25_link.specs.declared.error.LinkError.TheVariants as error
 use Rattle.x25_link.specs.declared.phase.Phase.{Phase}
-use Rattle.x25_link.specs.declared.phase.Phase.TheVariants.{Down, Waiting, Up, Closed}
+use Rattle.x25_link.specs.declared.phase.Phase.TheVariants.{Down, Waiting, Up}
 use Rattle.x25_link.specs.declared.phase.Reason.TheVariants.{Retries}
 use Rattle.x25_link.specs.Station.{LinkStation, Side, is_up, with_nothing}
 use Rattle.x25_link.specs.Hearing.{LinkStep}
@@ -65,7 +65,8 @@ firing_leads_on timer c zero s waits all =
     record {
       last = fired_step timer c s waits;
       fired = once s (fired_step timer c s waits) (accepted timer c s waits);
-      down = ap (λ (x : LinkStation). x.phase) (near_is timer c s waits ∙ ap (λ (b : Bool). if b then record s.link { tries = suc s.link.tries } else with_nothing Down s.link.tries) last);
+      down = ap (λ (x : LinkStation). x.phase)
+          (near_is timer c s waits ∙ ap (λ (b : Bool). if b then record s.link { tries = suc s.link.tries } else with_nothing Down s.link.tries) last);
       entries = entries_are timer c s waits ∙ ap (λ (b : Bool). entries_down (if b then None else Some Retries)) last;
     }
 firing_leads_on timer c (suc n) s waits all =

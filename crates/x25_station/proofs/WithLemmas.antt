@@ -1,24 +1,25 @@
 -- A call of the layer over the link with something given beside its packet, which it has.
-use Rattle.std.proofs.Common.{◌≡◌, ℕ, List, Option, Some, None, Result, Ok, Err, OnErr, IsErrAnd, Bool, true, false, ◌&&◌, nat_le, if◌then◌else◌, refl, sym, ap, subst, ◌∙◌}
+use Rattle.std.proofs.Common.{◌≡◌, ℕ, List, Option, Some, None, Result, Ok, Err, IsErrAnd, Bool, true, false, ◌&&◌, if◌then◌else◌, refl, sym, subst}
 use Rattle.x25_packet.specs.Packet.{PlainPacket, accept, clear}
 use Rattle.x25_packet.specs.Spelling.{spelling_of}
 use Rattle.x25_link.specs.code.FitsLink.{ShownLink, LinkState, FitsWhole}
 use Rattle.x25_circuit.specs.declared.state.State.{State}
-use Rattle.x25_circuit.specs.declared.state.State.TheVariants.{Free, Calling, Arriving, Collision, Open, Resetting, Clearing}
+use Rattle.x25_circuit.specs.declared.state.State.TheVariants.{Free, Calling, Arriving, Open, Clearing}
 use Rattle.x25_circuit.specs.declared.error.CircuitError.{CircuitError}
 use Rattle.x25_circuit.specs.declared.error.CircuitError.TheVariants as circuit_error
 use Rattle.x25_circuit.specs.Cause.{may_clear_for}
 use Rattle.x25_circuit.specs.Params.{Proposal, default_params, may_answer, field_for}
 use Rattle.x25_circuit.specs.Circuit.{CircuitSettings, Circuit}
 use Rattle.x25_circuit.specs.Calling as circuit
-use Rattle.x25_circuit.specs.Calling.{Outcome, Done, Refused, Request, Calls, Accepts, Clears, Sends, Interrupts, Resets, SaysReady, SaysNotReady, outcome, call_in, accept_in, clear_in}
+use Rattle.x25_circuit.specs.Calling.{Outcome, Done, Refused, Request, Calls, Accepts, Clears, outcome, call_in, accept_in, clear_in}
 use Rattle.x25_layer.specs.declared.error.LayerError.{LayerError}
 use Rattle.x25_layer.specs.declared.error.LayerError.TheVariants as error
 use Rattle.x25_layer.specs.declared.layer.Layer as layer_code
 use Rattle.x25_layer.specs.declared.link_state.LinkState as code
 use Rattle.x25_layer.specs.Layer.{LayerSettings, Layer, is_channel}
-use Rattle.x25_layer.specs.Calls.{LayerRequest, Asks, Dials, LayerOutcome, Accepted, Declined, asked_where, layer_outcome, outcome_in, outcome_on, where_room, if_at_once, puts_at_once, dialled, free_channel}
-use Rattle.x25_layer.specs.laws.Rounds.{LinkView, Answered, Went, Refuses, begin, rounds, went, calls}
+use Rattle.x25_layer.specs.Calls.{LayerRequest, Asks, Dials, LayerOutcome, Accepted, Declined, asked_where, layer_outcome, outcome_in, outcome_on, where_room}
+use Rattle.x25_layer.specs.Calls.{if_at_once, puts_at_once, dialled, free_channel}
+use Rattle.x25_layer.specs.laws.Rounds.{Answered, Went, Refuses, begin, rounds, went}
 use Rattle.x25_layer.specs.code.FitsLayer.{FitsLayer}
 use Rattle.x25_layer.specs.code.Answering.{Gives, Answers}
 use Rattle.x25_given.specs.Given.{PlainGiven}
@@ -37,18 +38,22 @@ if_puts : (b : Bool) (good : Outcome) (e : CircuitError) → Puts good → Puts 
 if_puts true good e puts = puts
 if_puts false good e puts = tt
 
-call_puts : (c : CircuitSettings) (x : Circuit) (s : State) (called calling user : List ℕ) (proposal : Proposal) → Puts (call_in c x s called calling user proposal)
+call_puts : (c : CircuitSettings) (x : Circuit) (s : State) (called calling user : List ℕ) (proposal : Proposal)
+    → Puts (call_in c x s called calling user proposal)
 call_puts c x Free called calling user proposal =
-    if_puts (circuit.may_call c.long_data called calling user proposal.params) (circuit.does x Calling proposal.params true (circuit.call_sent called calling user proposal)) circuit_error.BadParameter tt
+    if_puts (circuit.may_call c.long_data called calling user proposal.params)
+    (circuit.does x Calling proposal.params true (circuit.call_sent called calling user proposal)) circuit_error.BadParameter tt
 call_puts c x s called calling user proposal = tt
 
 accept_puts : (x : Circuit) (s : State) (answer : Option Proposal) → Puts (accept_in x s answer)
 accept_puts x Arriving None = tt
-accept_puts x Arriving (Some answer) = if_puts (may_answer x.params answer.params) (circuit.does x Open answer.params false (accept 1 (field_for x.params answer))) circuit_error.BadParameter tt
+accept_puts x Arriving (Some answer) = if_puts (may_answer x.params answer.params)
+    (circuit.does x Open answer.params false (accept 1 (field_for x.params answer))) circuit_error.BadParameter tt
 accept_puts x s answer = tt
 
 cleared : (c : CircuitSettings) (x : Circuit) (cause diagnostic : ℕ) → Puts (circuit.clear_with c x cause diagnostic)
-cleared c x cause diagnostic = if_puts (may_clear_for c.role cause) (circuit.does x Clearing default_params false (clear 1 cause diagnostic)) circuit_error.BadParameter tt
+cleared c x cause diagnostic = if_puts (may_clear_for c.role cause) (circuit.does x Clearing default_params false (clear 1 cause diagnostic))
+    circuit_error.BadParameter tt
 
 clear_puts : (c : CircuitSettings) (x : Circuit) (s : State) (cause diagnostic : ℕ) → Puts (clear_in c x s cause diagnostic)
 clear_puts c x Free cause diagnostic = tt
@@ -84,7 +89,8 @@ where_puts : (b : Bool) (good : LayerOutcome) (e : LayerError) → LayerPuts goo
 where_puts true good e puts = puts
 where_puts false good e puts = tt
 
-pub asked_puts : (g : PlainGiven) (c : LayerSettings) (up full : Bool) (l : Layer) (h : ℕ) (request : Request) → suits g (Asks h request) ≡ true → LayerPuts (asked_where c up full l (Asks h request))
+pub asked_puts : (g : PlainGiven) (c : LayerSettings) (up full : Bool) (l : Layer) (h : ℕ) (request : Request) → suits g (Asks h request) ≡ true
+    → LayerPuts (asked_where c up full l (Asks h request))
 asked_puts g c up full l h request is = where_puts up (layer_outcome c full l (Asks h request)) error.NotUp (by l.restarting)
   where
     o : Outcome
@@ -94,16 +100,19 @@ asked_puts g c up full l h request is = where_puts up (layer_outcome c full l (A
     by true = tt
     by false =
         where_puts (is_channel c.channels h) (if_at_once (puts_at_once request) full (outcome_on l.restarts l.circuits h o)) error.NoSuchChannel
-        (once_puts (puts_at_once request) full (outcome_on l.restarts l.circuits h o) (on_puts l.restarts l.circuits h o (given_puts g h c.circuit (l.circuits h) request is)))
+        (once_puts (puts_at_once request) full (outcome_on l.restarts l.circuits h o)
+        (on_puts l.restarts l.circuits h o (given_puts g h c.circuit (l.circuits h) request is)))
 
-pub dial_puts : (c : LayerSettings) (up full : Bool) (l : Layer) (called calling user : List ℕ) (proposal : Proposal) → LayerPuts (asked_where c up full l (Dials called calling user proposal))
+pub dial_puts : (c : LayerSettings) (up full : Bool) (l : Layer) (called calling user : List ℕ) (proposal : Proposal)
+    → LayerPuts (asked_where c up full l (Dials called calling user proposal))
 dial_puts c up full l called calling user proposal = where_puts up (layer_outcome c full l (Dials called calling user proposal)) error.NotUp (by l.restarting)
   where
     at : (o : Option ℕ) → LayerPuts (dialled c full l.restarts l.circuits o called calling user proposal)
     at None = tt
     at (Some h) =
         let o : Outcome = outcome c.circuit (l.circuits h) (Calls called calling user proposal) in
-        room_puts full (outcome_on l.restarts l.circuits h o) (on_puts l.restarts l.circuits h o (call_puts c.circuit (l.circuits h) (l.circuits h).state called calling user proposal))
+        room_puts full (outcome_on l.restarts l.circuits h o)
+        (on_puts l.restarts l.circuits h o (call_puts c.circuit (l.circuits h) (l.circuits h).state called calling user proposal))
 
     by : (b : Bool) → LayerPuts (outcome_in c full b l.restarts l.circuits (Dials called calling user proposal))
     by true = tt
@@ -112,39 +121,53 @@ dial_puts c up full l called calling user proposal = where_puts up (layer_outcom
 -- ---- the call
 
 abbrev pub WithLayer : PlainGiven → layer_code.Layer → ShownLink → layer_code.Layer → Type 0
-WithLayer g mid below new = (c : LayerSettings) (l : Layer) (p : PlainPacket) (x : LinkState) → FitsLayer c mid l → mid.sheet ≡ spelling_of p → FitsWhole below x → FitsLayer c new (rounds (seen_with g x) c (begin l (Some p))).layer
+WithLayer g mid below new = (c : LayerSettings) (l : Layer) (p : PlainPacket) (x : LinkState) → FitsLayer c mid l → mid.sheet ≡ spelling_of p
+    → FitsWhole below x → FitsLayer c new (rounds (seen_with g x) c (begin l (Some p))).layer
 
 abbrev pub WithLink : PlainGiven → layer_code.Layer → ShownLink → ShownLink → Type 0
-WithLink g mid below below₂ = (c : LayerSettings) (l : Layer) (p : PlainPacket) (x : LinkState) → FitsLayer c mid l → mid.sheet ≡ spelling_of p → FitsWhole below x → FitsWhole below₂ (all_with g x (rounds (seen_with g x) c (begin l (Some p))).put)
+WithLink g mid below below₂ = (c : LayerSettings) (l : Layer) (p : PlainPacket) (x : LinkState) → FitsLayer c mid l → mid.sheet ≡ spelling_of p
+    → FitsWhole below x → FitsWhole below₂ (all_with g x (rounds (seen_with g x) c (begin l (Some p))).put)
 
-layer_went : {T : Type 0} (u : T) (g : PlainGiven) (c : LayerSettings) (mid new : layer_code.Layer) (below : ShownLink) (x : LinkState) (o : LayerOutcome) → LayerPuts o → FitsWhole below x → Gives c mid (Ok u) o → WithLayer g mid below new → LayerGives c new (Ok u) (went (seen_with g x) c o)
+layer_went : {T : Type 0} (u : T) (g : PlainGiven) (c : LayerSettings) (mid new : layer_code.Layer) (below : ShownLink) (x : LinkState) (o : LayerOutcome)
+    → LayerPuts o → FitsWhole below x → Gives c mid (Ok u) o → WithLayer g mid below new → LayerGives c new (Ok u) (went (seen_with g x) c o)
 layer_went u g c mid new below x (Accepted next None) puts fits gives drives = absurd puts
 layer_went u g c mid new below x (Accepted next (Some p)) puts fits gives drives = drives c next p x gives.0 gives.1 fits
 layer_went u g c mid new below x (Declined e) puts fits gives drives = cc
 
-link_went : {T : Type 0} (u : T) (g : PlainGiven) (c : LayerSettings) (mid : layer_code.Layer) (below below₂ : ShownLink) (x : LinkState) (o : LayerOutcome) → LayerPuts o → FitsWhole below x → Gives c mid (Ok u) o → WithLink g mid below below₂ → GoesWith below₂ g x (Ok u) (went (seen_with g x) c o)
+link_went : {T : Type 0} (u : T) (g : PlainGiven) (c : LayerSettings) (mid : layer_code.Layer) (below below₂ : ShownLink) (x : LinkState) (o : LayerOutcome)
+    → LayerPuts o → FitsWhole below x → Gives c mid (Ok u) o → WithLink g mid below below₂ → GoesWith below₂ g x (Ok u) (went (seen_with g x) c o)
 link_went u g c mid below below₂ x (Accepted next None) puts fits gives drives = absurd puts
 link_went u g c mid below below₂ x (Accepted next (Some p)) puts fits gives drives = drives c next p x gives.0 gives.1 fits
 link_went u g c mid below below₂ x (Declined e) puts fits gives drives = tt
 
-pub drove_with : {T : Type 0} (u : T) (g : PlainGiven) (s : code.LinkState) (old mid new : layer_code.Layer) (below below₂ : ShownLink) (request : LayerRequest) → IsTold s below → ((c : LayerSettings) (l : Layer) → LayerPuts (asked_where c s.is_up s.is_full l request))
-    → (let r : Result T LayerError = Ok u in Answers old mid r s request) → WithLayer g mid below new → WithLink g mid below below₂ → (let r : Result T LayerError = Ok u in DrivesWith g old below new below₂ r request)
+pub drove_with : {T : Type 0} (u : T) (g : PlainGiven) (s : code.LinkState) (old mid new : layer_code.Layer) (below below₂ : ShownLink)
+    (request : LayerRequest) → IsTold s below → ((c : LayerSettings) (l : Layer) → LayerPuts (asked_where c s.is_up s.is_full l request))
+    → (let r : Result T LayerError = Ok u in Answers old mid r s request) → WithLayer g mid below new → WithLink g mid below below₂
+    → (let r : Result T LayerError = Ok u in DrivesWith g old below new below₂ r request)
 drove_with {T = T} u g s old mid new below below₂ request told puts a layers links = record {
-  layer = λ c l x fits link. subst (λ (n : Answered). let r : Result T LayerError = Ok u in LayerGives c new r n) (sym (told_in s below x (seen_with g x) told link refl refl c l request)) (layer_went u g c mid new below x _ (puts c l) link (a.does.gives c l fits) layers);
-  link = λ c l x fits link. subst (λ (n : Answered). let r : Result T LayerError = Ok u in GoesWith below₂ g x r n) (sym (told_in s below x (seen_with g x) told link refl refl c l request)) (link_went u g c mid below below₂ x _ (puts c l) link (a.does.gives c l fits) links);
+  layer = λ c l x fits link. subst (λ (n : Answered). let r : Result T LayerError = Ok u in LayerGives c new r n)
+      (sym (told_in s below x (seen_with g x) told link refl refl c l request))
+      (layer_went u g c mid new below x _ (puts c l) link (a.does.gives c l fits) layers);
+  link = λ c l x fits link. subst (λ (n : Answered). let r : Result T LayerError = Ok u in GoesWith below₂ g x r n)
+      (sym (told_in s below x (seen_with g x) told link refl refl c l request))
+      (link_went u g c mid below below₂ x _ (puts c l) link (a.does.gives c l fits) links);
   layer_stays = λ c l fits. tt;
   link_stays = λ x fits. tt;
 }
 
-link_not : (T : Type 0) {U : Type 0} (r : Result U LayerError) (e : LayerError) (g : PlainGiven) (below₂ : ShownLink) (x : LinkState) (a : Answered) → IsErrAnd r (λ f. f ≡ e) → GoesWith below₂ g x r a
+link_not : (T : Type 0) {U : Type 0} (r : Result U LayerError) (e : LayerError) (g : PlainGiven) (below₂ : ShownLink) (x : LinkState) (a : Answered)
+    → IsErrAnd r (λ f. f ≡ e) → GoesWith below₂ g x r a
 link_not T (Ok u) e g below₂ x a is = absurd is
 link_not T (Err f) e g below₂ x (Went s) is = tt
 link_not T (Err f) e g below₂ x (Refuses d) is = tt
 
-pub drove_with_not : {U : Type 0} (T : Type 0) (r : Result U LayerError) (e : LayerError) (g : PlainGiven) (s : code.LinkState) (old mid : layer_code.Layer) (below : ShownLink) (request : LayerRequest) → IsTold s below → IsErrAnd r (λ f. f ≡ e) → (let x : Result T LayerError = Err e in Answers old mid x s request)
+pub drove_with_not : {U : Type 0} (T : Type 0) (r : Result U LayerError) (e : LayerError) (g : PlainGiven) (s : code.LinkState) (old mid : layer_code.Layer)
+    (below : ShownLink) (request : LayerRequest) → IsTold s below → IsErrAnd r (λ f. f ≡ e)
+    → (let x : Result T LayerError = Err e in Answers old mid x s request)
     → DrivesWith g old below mid below r request
 drove_with_not T r e g s old mid below request told is a = record {
-  layer = λ c l x fits link. subst (λ (n : Answered). LayerGives c mid r n) (sym (told_in s below x (seen_with g x) told link refl refl c l request)) (layer_not T r e c mid (seen_with g x) _ is (a.does.gives c l fits));
+  layer = λ c l x fits link. subst (λ (n : Answered). LayerGives c mid r n) (sym (told_in s below x (seen_with g x) told link refl refl c l request))
+      (layer_not T r e c mid (seen_with g x) _ is (a.does.gives c l fits));
   link = λ c l x fits link. link_not T r e g below x _ is;
   layer_stays = λ c l fits. on_err r (a.does.stays c l fits);
   link_stays = λ x fits. on_err r fits;

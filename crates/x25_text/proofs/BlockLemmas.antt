@@ -1,5 +1,6 @@
 -- Octets that were read block by block, the last one over the one before it.
-use Rattle.std.proofs.Common.{ℕ, zero, suc, ◌≡◌, ◌≤◌, ◌+◌, ◌-◌, ◌*◌, ◌∙◌, List, [], ◌∷◌, ◌++◌, length, take, drop, Option, Some, None, Bool, true, false, refl, ap, sym, subst, arith}
+use Rattle.std.proofs.Common.{ℕ, zero, suc, ◌≡◌, ◌≤◌, ◌+◌, ◌-◌, ◌*◌, ◌∙◌, List, [], ◌∷◌, ◌++◌, length, take, drop, Option, Some, None, Bool, true, false, refl}
+use Rattle.std.proofs.Common.{ap, sym, subst, arith}
 use Rattle.std.specs.Prelude.{if◌then◌else◌}
 use Rattle.std.proofs.lemmas.List.{drop_at, length-drop, length-take-le, take_all, take_at, take-append-drop, take-take}
 use Rattle.std.proofs.Math.Seq.{take-add}
@@ -46,7 +47,8 @@ octets_of-append zero (x ∷ a) b e = absurd (omega arith)
 octets_of-append (suc n) [] b e = absurd (omega arith)
 octets_of-append (suc n) (x ∷ []) b e = absurd (omega arith)
 octets_of-append (suc n) (h ∷ l ∷ a) b e =
-    ap (joined (hex_digit_value h) (hex_digit_value l)) (octets_of-append n a b (omega arith)) ∙ joined_both (hex_digit_value h) (hex_digit_value l) (octets_of a) (octets_of b)
+    ap (joined (hex_digit_value h) (hex_digit_value l)) (octets_of-append n a b (omega arith))
+    ∙ joined_both (hex_digit_value h) (hex_digit_value l) (octets_of a) (octets_of b)
 
 both_fault : (a : Option (List ℕ)) → both_of a None ≡ None
 both_fault (Some x) = refl
@@ -61,7 +63,8 @@ length_octets (suc n) (x ∷ []) octets e h = absurd (omega arith)
 length_octets (suc n) (high ∷ low ∷ a) octets e h =
     go (hex_digit_value high) (hex_digit_value low) (octets_of a) (λ x i. length_octets n a x (omega arith) i) octets h
   where
-    go : (p q : Option ℕ) (r : Option (List ℕ)) → ((x : List ℕ) → r ≡ Some x → length x ≡ n) → (octets : List ℕ) → joined p q r ≡ Some octets → length octets ≡ suc n
+    go : (p q : Option ℕ) (r : Option (List ℕ)) → ((x : List ℕ) → r ≡ Some x → length x ≡ n) → (octets : List ℕ) → joined p q r ≡ Some octets → length octets
+        ≡ suc n
     go (Some p) (Some q) (Some x) known octets h = let here : (p * 16 + q) ∷ x ≡ octets = cc h in ap length (sym here) ∙ ap suc (known x refl)
     go (Some p) (Some q) None known octets h = cc h
     go (Some p) None r known octets h = cc h
@@ -107,7 +110,8 @@ reads_fault size count block digits octets reads whole within read =
     let rest = drop (2 * count) digits in
     let fault : octets_of rest ≡ None =
     ap octets_of (sym (take-append-drop (2 * block) rest))
-    ∙ octets_of-append block (take (2 * block) rest) (drop (2 * block) rest) (length-take-le (2 * block) rest (omega (arith, length-drop (2 * count) digits, whole)))
+    ∙ octets_of-append block (take (2 * block) rest) (drop (2 * block) rest)
+    (length-take-le (2 * block) rest (omega (arith, length-drop (2 * count) digits, whole)))
     ∙ ap (λ a. both_of a (octets_of (drop (2 * block) rest))) read in
     ap octets_of (sym (take-append-drop (2 * count) digits))
     ∙ octets_of-append count (take (2 * count) digits) rest (length-take-le (2 * count) digits (omega (arith, whole)))

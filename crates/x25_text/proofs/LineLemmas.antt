@@ -1,5 +1,6 @@
 -- Octets at the front of a text, up to the first character that is no digit.
-use Rattle.std.proofs.Common.{ℕ, zero, suc, ◌≡◌, ◌<◌, ◌≤◌, ◌+◌, ◌*◌, ◌%◌, ◌^◌, ◌∙◌, Bool, true, false, cond, not, List, [], ◌∷◌, ◌++◌, length, map, take, drop, get_or, refl, ap, sym, arith, Option, Some, None}
+use Rattle.std.proofs.Common.{ℕ, zero, suc, ◌≡◌, ◌<◌, ◌≤◌, ◌+◌, ◌*◌, ◌%◌, ◌^◌, ◌∙◌, Bool, true, false, cond, not, List, [], ◌∷◌, ◌++◌, length, map, take, drop}
+use Rattle.std.proofs.Common.{get_or, refl, ap, sym, arith, Option, Some, None}
 use Rattle.std.specs.Int.{trailing_zeros, w64}
 use Rattle.std.specs.Prelude.{◌&&◌, IfSome, nat_eq, nat_lt, nat_le}
 use Rattle.std.specs.List.{list_all, prefix_len}
@@ -76,7 +77,8 @@ pub leading_is : (v z : List ℕ) → length v ≡ 16 → z ≡ map (λ x. cond 
 leading_is v z long lanes =
     let above : ℕ → Bool = nat_le 16 in
     let tops : map (top 7) z ≡ map above v = tops_of_map (λ x. cond (nat_le 16 x) 255 0) v lanes ∙ ap (λ f. map f v) (λ i x. top_all (nat_le 16 x) i) in
-    let mask : mask_l (map (top 7) z) % 2 ^ 64 ≡ mask_l (map above v) = ap (λ l. mask_l l % 2 ^ 64) tops ∙ mask_l-mod (map above v) 64 (omega (arith, length-map v above, long)) in
+    let mask : mask_l (map (top 7) z) % 2 ^ 64 ≡ mask_l (map above v) =
+    ap (λ l. mask_l l % 2 ^ 64) tops ∙ mask_l-mod (map above v) 64 (omega (arith, length-map v above, long)) in
     ap (λ m. cond (nat_eq m 0) 16 (trailing_zeros w64 m)) mask
     ∙ first_set_mask_l above v 16 long (omega arith)
     ∙ ap (λ p. prefix_len p v) (λ i x. not_above x i)

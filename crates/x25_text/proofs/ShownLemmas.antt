@@ -1,5 +1,6 @@
 -- Octets that are written as digits, block by block.
-use Rattle.std.proofs.Common.{ℕ, zero, suc, ◌≡◌, ◌<◌, ◌≤◌, ◌+◌, ◌-◌, ◌*◌, ◌/◌, ◌%◌, ◌∙◌, true, false, cond, List, [], ◌∷◌, ◌++◌, length, take, drop, map, get_or, refl, ap, sym, arith}
+use Rattle.std.proofs.Common.{ℕ, zero, suc, ◌≡◌, ◌<◌, ◌≤◌, ◌+◌, ◌-◌, ◌*◌, ◌/◌, ◌%◌, ◌∙◌, true, false, cond, List, [], ◌∷◌, ◌++◌, length, take, drop, map}
+use Rattle.std.proofs.Common.{get_or, refl, ap, sym, arith}
 use Rattle.std.specs.Prelude.{◌==◌, nat_lt}
 use Rattle.std.specs.Fmt.{digit_glyph}
 use Rattle.std.specs.List.{flat_map}
@@ -58,8 +59,10 @@ pub octets_shown : (f g : ℕ → ℕ) (n : ℕ) (v high low : List ℕ) → len
     → high ≡ map f v → low ≡ map g v → in_turn (high ++ low) n 0 n ≡ flat_map octet_text v
 octets_shown f g n v high low e fits s t p q =
     turn_shown f g n 0 n v (high ++ low) e fits s t
-    (λ j h. ap (λ m. get_or (high ++ low) m 0) (none_before j) ∙ get_or_append_left high low 0 j (omega (arith, long, h)) ∙ ap (λ l. get_or l j 0) p ∙ get_or-map f v j 0 0 (omega (arith, e, h)))
-    (λ j h. ap (λ m. get_or (high ++ low) m 0) (none_between j) ∙ get_or-append-add high low j 0 ∙ ap (λ l. get_or l j 0) q ∙ get_or-map g v j 0 0 (omega (arith, e, h)))
+    (λ j h. ap (λ m. get_or (high ++ low) m 0) (none_before j) ∙ get_or_append_left high low 0 j (omega (arith, long, h)) ∙ ap (λ l. get_or l j 0) p
+    ∙ get_or-map f v j 0 0 (omega (arith, e, h)))
+    (λ j h. ap (λ m. get_or (high ++ low) m 0) (none_between j) ∙ get_or-append-add high low j 0 ∙ ap (λ l. get_or l j 0) q
+    ∙ get_or-map g v j 0 0 (omega (arith, e, h)))
   where
     long : length high ≡ n
     long = ap length p ∙ length-map v f ∙ e
@@ -114,9 +117,11 @@ shows_fewer place count octets digits shows le within =
     }
 
 -- the last block
-pub shows_last : (place block count : ℕ) (octets digits next : List ℕ) → Shows count octets digits → place ≤ count → count ≤ length octets → place + block ≡ length octets
+pub shows_last : (place block count : ℕ) (octets digits next : List ℕ) → Shows count octets digits → place ≤ count → count ≤ length octets → place + block
+    ≡ length octets
     → take (2 * (place + block)) next ≡ take (2 * place) digits ++ flat_map octet_text (take block (drop place octets)) → length next ≡ length digits
     → next ≡ flat_map octet_text octets
 shows_last place block count octets digits next shows le within end written long =
     let all = shows_more place block octets digits next (shows_fewer place count octets digits shows le within) written long in
-    sym (take_all (2 * (place + block)) next (omega (arith, all.long, end))) ∙ all.same ∙ ap (flat_map octet_text) (take_all (place + block) octets (omega (arith, end)))
+    sym (take_all (2 * (place + block)) next (omega (arith, all.long, end))) ∙ all.same
+    ∙ ap (flat_map octet_text) (take_all (place + block) octets (omega (arith, end)))

@@ -1,5 +1,6 @@
 -- Characters that are tested block by block, the last block over the one before it.
-use Rattle.std.proofs.Common.{ℕ, suc, ◌≡◌, ◌<◌, ◌≤◌, ◌+◌, ◌%◌, ◌∙◌, Bool, true, false, cond, List, [], ◌∷◌, length, map, take, drop, get_or, refl, ap, sym, arith}
+use Rattle.std.proofs.Common.{ℕ, suc, ◌≡◌, ◌<◌, ◌≤◌, ◌+◌, ◌%◌, ◌∙◌, Bool, true, false, cond, List, [], ◌∷◌, length, map, take, drop, get_or, refl, ap, sym}
+use Rattle.std.proofs.Common.{arith}
 use Rattle.std.specs.Prelude.{◌==◌, ◌&&◌, nat_le, nat_lt}
 use Rattle.std.specs.Simd.Lanes.{sel_l, top, zip2}
 use Rattle.std.specs.Char.{is_ascii_hexdigit}
@@ -101,7 +102,8 @@ module _ (p : ℕ → Bool) where
   all_apart : (count : ℕ) (xs : List ℕ) → list_all p xs ≡ (list_all p (take count xs) && list_all p (drop count xs))
   all_apart count xs = ap (list_all p) (sym (take-append-drop count xs)) ∙ list_all-append p (take count xs) (drop count xs)
 
-  pub all_both : (count block : ℕ) (xs : List ℕ) → (list_all p (take count xs) && list_all p (take block (drop count xs))) ≡ list_all p (take (count + block) xs)
+  pub all_both : (count block : ℕ) (xs : List ℕ) → (list_all p (take count xs) && list_all p (take block (drop count xs)))
+      ≡ list_all p (take (count + block) xs)
   all_both count block xs = sym (ap (list_all p) (take-add count block xs) ∙ list_all-append p (take count xs) (take block (drop count xs)))
 
   -- a part of what passes

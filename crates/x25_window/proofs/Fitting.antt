@@ -9,8 +9,10 @@ Fits_length h w fits =
     omega (arith, ap length fits.items ∙ length-drop w.acked w.given)
 
 -- without its first items it fits the state in which these are acknowledged
-pub Fits_acknowledged : {T : Type 0} (h : Held T) (w : Sending T) (count first before : ℕ) (items : List T) → Fits h w → count ≤ length h.items → first ≡ (h.first + count) % 8
-    → before ≡ h.before - count → items ≡ drop count h.items → Fits (record { window = h.window; first = first; before = before; items = items }) (acknowledged w (w.acked + count))
+pub Fits_acknowledged : {T : Type 0} (h : Held T) (w : Sending T) (count first before : ℕ) (items : List T) → Fits h w → count ≤ length h.items → first
+    ≡ (h.first + count) % 8
+    → before ≡ h.before - count → items ≡ drop count h.items
+    → Fits (record { window = h.window; first = first; before = before; items = items }) (acknowledged w (w.acked + count))
 Fits_acknowledged h w count first before items fits some next place rest =
     let held = Fits_length h w fits in
     let sound = fits.sound in

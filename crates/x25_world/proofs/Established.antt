@@ -118,6 +118,7 @@ module _ (laws : Laws) (cfg : Cfg) where
       ap (λ l. refusal_of (delivered (settings_from Dte cfg) (at_dce cfg) l)) back_is in
       subst (λ w. AreAccepted cfg (comes_to Dce ∷ comes_to Dte ∷ []) w) (sym (connected_is cfg)) (refl, (ua_comes, tt))
 
+  -- set up by a connect and two deliveries, both links are just set up
   pub just_set_up : IsJustSetUp cfg (established cfg)
   just_set_up = rw (ap (λ x. after (after x (happens cfg x (comes_to Dce))) (happens cfg (after x (happens cfg x (comes_to Dce))) (comes_to Dte)))
       (connected_is cfg) ∙ ap (λ l. after (at_dce cfg) (delivered (settings_from Dte cfg) (at_dce cfg) l)) back_is) (record {

@@ -13,9 +13,11 @@ use Rattle.x25_peer.proofs.sessions.LinkSteps.{AreReadBack}
 
 -- ---- octets, by the packets that they are read as
 
+-- packet octets as this world reads them
 abbrev pub read_by : Cfg → List ℕ → Result PlainPacket PacketError
 read_by cfg octets = read_in cfg.wide (longest_user cfg.long_data) octets
 
+-- all packets as this world reads them
 abbrev pub all_read : Cfg → List (List ℕ) → List (Result PlainPacket PacketError)
 all_read cfg octets = map (read_by cfg) octets
 
@@ -54,6 +56,7 @@ rest_read r s rs ss e = cc
 
 -- ---- octets
 
+-- packets that are octets
 abbrev pub AllAreOctets : List (List ℕ) → Type 0
 AllAreOctets os = Each AreOctets os
 
@@ -106,6 +109,7 @@ on_tap from [] [] (f ∷ frames) h = (refl, on_tap from [] [] frames tt)
 on_tap from (t ∷ tap) (s ∷ sent) frames h = (h.0, on_tap from tap sent frames h.1)
 on_tap from tap sent frames h = absurd h
 
+-- the line's octets after frames are sent
 pub octets_put : (es : List Entry) (session : ℕ) (from : Role) (frames : List PlainFrame) → octets_of (es ++ sent_in session from frames) ≡ octets_of es
     ++ map (spelling_of from) frames
 octets_put es session from frames = octets_append es (sent_in session from frames) ∙ ap (λ l. octets_of es ++ l) (octets_sent session from frames)

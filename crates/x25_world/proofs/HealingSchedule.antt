@@ -82,6 +82,7 @@ module _ {cfg : Cfg} {events : List Event} {w : World} {u : TellingWorld} (v : T
 
 module _ {cfg : Cfg} {events : List Event} {w : World} {v : TellingWorld} {before : List AtEnd} {rest : World → List Event} {count : ℕ}
     (h : Begun cfg events w v before rest count) where
+  -- the rest, said in another way
   abbrev pub rest_is : (other : World → List Event) → (let x = run cfg h.done w in rest x ≡ other x → Begun cfg events w v before other count)
   rest_is other same = record { done = h.done; goes = h.goes; counted = h.counted; all = h.all ∙ ap (λ es. h.done ++ es) same }
 

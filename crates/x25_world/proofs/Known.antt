@@ -6,6 +6,7 @@ use Rattle.x25_station.specs.declared.error.StationError.TheVariants as error
 
 -- ---- the settings
 
+-- true isn't false
 pub true_false : {A : Type 0} → true ≡ false → A
 true_false e = absurd (cc)
 
@@ -21,6 +22,7 @@ all_fine cfg = nat_le 1 cfg.k && (nat_le cfg.k 7 && (nat_le 1 cfg.n2 && are_rang
 abbrev refused_unless : Bool → Option StationError
 refused_unless b = if b then None else Some error.BadConfig
 
+-- settings that aren't refused are in range
 pub is_configured : (cfg : Cfg) → config_refusal cfg ≡ None → IsConfigured cfg
 is_configured cfg fine = found (all_fine cfg) refl fine
   where

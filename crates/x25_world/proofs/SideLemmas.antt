@@ -44,6 +44,7 @@ pub few_changed : (count : ℕ) (old mid : ShownLine) (at : Role) (frames : List
 few_changed count old mid Dte frames few = record { to_dce = few.to_dce; to_dte = few.to_dte }
 few_changed count old mid Dce frames few = record { to_dce = few.to_dce; to_dte = few.to_dte }
 
+-- what a step puts leaves few on the line to it
 pub few_put : (count : ℕ) (old mid : ShownLine) (at : Role) (frames : List (List ℕ)) → TakesFew count old mid → TakesFew count old (put_by mid at frames)
 few_put count old mid at frames few = (let f = few_changed count old mid (other at) _ few in record { to_dce = f.to_dce; to_dte = f.to_dte })
 

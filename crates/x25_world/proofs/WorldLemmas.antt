@@ -125,6 +125,7 @@ dce_done {dte} line w (Happened next) far fits h = record {
 }
 dce_done line w (Declined e) far fits h = absurd h
 
+-- an outcome seen from the other end is refused alike
 pub refusal-swapped : (o : WorldOutcome) → refusal_of (swapped_back o) ≡ refusal_of o
 refusal-swapped (Happened next) = refl
 refusal-swapped (Declined e) = refl
@@ -207,14 +208,17 @@ told_behind all before told more next e f = f ∙ ap (λ l. l ++ more) e ∙ app
 
 -- ---- runs
 
+-- a run in two parts
 pub run_append : (cfg : Cfg) (xs ys : List Event) (w : World) → run cfg (xs ++ ys) w ≡ run cfg ys (run cfg xs w)
 run_append cfg [] ys w = refl
 run_append cfg (x ∷ xs) ys w = run_append cfg xs ys (after w (happens cfg w x))
 
+-- events are accepted in two goes
 pub accepted_append : (cfg : Cfg) (xs ys : List Event) (w : World) → AreAccepted cfg xs w → AreAccepted cfg ys (run cfg xs w) → AreAccepted cfg (xs ++ ys) w
 accepted_append cfg [] ys w f g = g
 accepted_append cfg (x ∷ xs) ys w f g = (f.0, accepted_append cfg xs ys (after w (happens cfg w x)) f.1 g)
 
+-- events of both parts are in octets
 pub octets_append : (xs ys : List Event) → AreInOctets xs → AreInOctets ys → AreInOctets (xs ++ ys)
 octets_append [] ys f g = g
 octets_append (x ∷ xs) ys f g = (f.0, octets_append xs ys f.1 g)

@@ -27,7 +27,8 @@ use Rattle.x25_handshakes.specs.laws.Layers.{LayerPacket, Restart}
 use Rattle.x25_handshakes.specs.laws.PeerLayer.{PeerChannels, LayerDeed, InChannel, does_layer, layer_taking}
 use Rattle.x25_handshakes.specs.laws.PeerLayers.{other_role}
 use Rattle.x25_layer.specs.laws.PeerJoined as layer_peer
-use Rattle.x25_script.specs.Reading.{parts_of, number_in, small_number_in, params_in, with_params_in, call_in, accept_in, send_in, interrupt_in, with_fields, part_in, with_in, command_in, lose_in, damage_in, drain_in, line_in}
+use Rattle.x25_script.specs.Reading.{parts_of, number_in, small_number_in, params_in, with_params_in, call_in, accept_in, send_in, interrupt_in, with_fields}
+use Rattle.x25_script.specs.Reading.{part_in, with_in, command_in, lose_in, damage_in, drain_in, line_in}
 use Rattle.x25_io.specs.Lines.{lines_of}
 use Rattle.x25_transcript.specs.EntryText.{entry_line}
 use Rattle.x25_console.specs.Telling.{frame_line, refusal_line}
@@ -43,9 +44,11 @@ use Rattle.x25_joined.proofs.rows.JoinedRowLemmas.{opens}
 abbrev IsOctet : ℕ → Type 0
 IsOctet octet = octet < 256
 
-frame_octets : (o₁ o₂ o₃ o₄ : ℕ) → o₁ < 256 → o₂ < 256 → o₃ < 256 → o₄ < 256 → (rest : List ℕ) → AreOfFrame rest → length rest < 4000 → AreOfFrame (o₁ ∷ o₂ ∷ o₃ ∷ o₄ ∷ rest)
+frame_octets : (o₁ o₂ o₃ o₄ : ℕ) → o₁ < 256 → o₂ < 256 → o₃ < 256 → o₄ < 256 → (rest : List ℕ) → AreOfFrame rest → length rest < 4000
+    → AreOfFrame (o₁ ∷ o₂ ∷ o₃ ∷ o₄ ∷ rest)
 frame_octets o₁ o₂ o₃ o₄ a b d e rest h few = record {
-  each = All-cons IsOctet o₁ (o₂ ∷ o₃ ∷ o₄ ∷ rest) a (All-cons IsOctet o₂ (o₃ ∷ o₄ ∷ rest) b (All-cons IsOctet o₃ (o₄ ∷ rest) d (All-cons IsOctet o₄ rest e h.each)));
+  each = All-cons IsOctet o₁ (o₂ ∷ o₃ ∷ o₄ ∷ rest) a
+      (All-cons IsOctet o₂ (o₃ ∷ o₄ ∷ rest) b (All-cons IsOctet o₃ (o₄ ∷ rest) d (All-cons IsOctet o₄ rest e h.each)));
   short = omega (arith, few);
 }
 
@@ -88,14 +91,24 @@ ua_fits : AreOfFrame ua_octets
 ua_fits = frame_octets 1 115 131 87 (omega arith) (omega arith) (omega arith) (omega arith) [] none_fit (omega arith)
 
 three_fit : (a b d : ℕ) → a < 256 → b < 256 → d < 256 → AreOfFrame (a ∷ b ∷ d ∷ [])
-three_fit a b d low mid high = record { each = All-cons IsOctet a (b ∷ d ∷ []) low (All-cons IsOctet b (d ∷ []) mid (All-cons IsOctet d [] high (All-nil IsOctet))); short = omega arith }
+three_fit a b d low mid high = record {
+  each = All-cons IsOctet a (b ∷ d ∷ []) low
+      (All-cons IsOctet b (d ∷ []) mid (All-cons IsOctet d [] high (All-nil IsOctet)));
+  short = omega arith;
+}
 
 confirmation_fits : AreOfFrame confirmation_octets
-confirmation_fits = frame_octets 3 32 16 0 (omega arith) (omega arith) (omega arith) (omega arith) (255 ∷ 5 ∷ 215 ∷ []) (three_fit 255 5 215 (omega arith) (omega arith) (omega arith)) (omega arith)
+confirmation_fits = frame_octets 3 32 16 0 (omega arith) (omega arith) (omega arith) (omega arith) (255 ∷ 5 ∷ 215 ∷ [])
+    (three_fit 255 5 215 (omega arith) (omega arith) (omega arith)) (omega arith)
 
 call_fits : AreOfFrame call_octets
 call_fits = frame_octets 3 34 16 1 (omega arith) (omega arith) (omega arith) (omega arith) (11 ∷ 0 ∷ 0 ∷ 117 ∷ 40 ∷ [])
-    (record { each = All-cons IsOctet 11 (0 ∷ 0 ∷ 117 ∷ 40 ∷ []) (omega arith) (All-cons IsOctet 0 (0 ∷ 117 ∷ 40 ∷ []) (omega arith) (three_fit 0 117 40 (omega arith) (omega arith) (omega arith)).each); short = omega arith }) (omega arith)
+    (record {
+      each = All-cons IsOctet 11 (0 ∷ 0 ∷ 117 ∷ 40 ∷ []) (omega arith)
+          (All-cons IsOctet 0 (0 ∷ 117 ∷ 40 ∷ []) (omega arith) (three_fit 0 117 40 (omega arith) (omega arith) (omega arith)).each);
+      short = omega arith;
+    })
+    (omega arith)
 
 -- ---- the peer's layer
 
@@ -108,11 +121,14 @@ layer_does c p deed = does_layer (their_layer (bare c p)).epoch (their_layer (ba
 -- ---- the history
 
 pub call_is_accepted : CallIsAccepted
-unfolding with_in part_in are_facilities own_in digits decode_pairs piped event_turn turn turns event_in lines_of line_in parts_of number_in lose_in damage_in drain_in command_in with_fields small_number_in params_in with_params_in call_in accept_in send_in interrupt_in saying_line entry_line frame_line refusal_line pumped frame_of read_of halves_of packed facilities_of is_sealed fcs_of number_of divided low_bits add divisor
+unfolding with_in part_in are_facilities own_in digits decode_pairs piped event_turn turn turns event_in lines_of line_in parts_of number_in lose_in damage_in
+    drain_in command_in with_fields small_number_in params_in with_params_in call_in accept_in send_in interrupt_in saying_line entry_line frame_line
+    refusal_line pumped frame_of read_of halves_of packed facilities_of is_sealed fcs_of number_of divided low_bits add divisor
 call_is_accepted =
     let p0 : Program = nothing_read in
     let p1 : Program = record p0 { read = codes "dte connect\n"; out = sent 0 sabm_octets ∷ [] } in
-    let r1 : ReachedProgram ours p1 = goes_on p0 p1 at_start (Reads (codes "dte connect") (record { is_line = opens (codes "dte connect") refl; is_no_frame = tt; in_time = tt })) in
+    let r1 : ReachedProgram ours p1 = goes_on p0 p1 at_start
+    (Reads (codes "dte connect") (record { is_line = opens (codes "dte connect") refl; is_no_frame = tt; in_time = tt })) in
     let e2 : PeerEnd = begins p0.peer in
     let p2 : Program = record p1 { peer = e2; out = []; back = sent 1 ua_octets ∷ [] } in
     let v2 : BesideSessions = record (bare ours p1) { peer = e2; out = []; back = sent 1 ua_octets ∷ [] } in
@@ -146,7 +162,13 @@ call_is_accepted =
     let p7 : Program = record p6 { peer = e7; back = sent 1 confirmation_octets ∷ [] } in
     let v7 : BesideSessions = record (bare ours p6) { peer = e7; back = sent 1 confirmation_octets ∷ [] } in
     let r7 : ReachedProgram ours p7 = goes_on p6 p7 r6 (Elsewhere v7 (beside.Links (links v7) (record {
-      does = λ crossing. sends (Some (record { ns = 0; packet = confirmation_packet })) 1 x7 refl (0, 1, record { number = refl; same = refl; window = omega arith; again = omega arith }, record { number = refl; rising = omega arith; taken = omega arith }, refl);
+      does = λ crossing. sends (Some (record { ns = 0; packet = confirmation_packet })) 1 x7 refl (
+        0,
+        1,
+        record { number = refl; same = refl; window = omega arith; again = omega arith },
+        record { number = refl; rising = omega arith; taken = omega arith },
+        refl,
+      );
       left = (0, none_lost 0);
       puts = put _ (λ odd. tt);
     }))) in
@@ -155,7 +177,13 @@ call_is_accepted =
     let p8 : Program = record p7 { peer = e8; back = sent 1 confirmation_octets ∷ sent 1 call_octets ∷ [] } in
     let v8 : BesideSessions = record (bare ours p7) { peer = e8; back = sent 1 confirmation_octets ∷ sent 1 call_octets ∷ [] } in
     let r8 : ReachedProgram ours p8 = goes_on p7 p8 r7 (Elsewhere v8 (beside.Links (links v8) (record {
-      does = λ crossing. sends (Some (record { ns = 1; packet = call_packet })) 1 x8 refl (1, 1, record { number = refl; same = refl; window = omega arith; again = omega arith }, record { number = refl; rising = omega arith; taken = omega arith }, refl);
+      does = λ crossing. sends (Some (record { ns = 1; packet = call_packet })) 1 x8 refl (
+        1,
+        1,
+        record { number = refl; same = refl; window = omega arith; again = omega arith },
+        record { number = refl; rising = omega arith; taken = omega arith },
+        refl,
+      );
       left = (0, none_lost 0);
       puts = put _ (λ odd. tt);
     }))) in
@@ -164,5 +192,6 @@ call_is_accepted =
     let p10 : Program = reads ours p9 (codes "< 032210010b00007528\n") [] (met ∷ met ∷ met ∷ []) in
     let r10 : ReachedProgram ours p10 = goes_on p9 p10 r9 (Takes (sent 1 call_octets) [] refl call_fits) in
     let p11 : Program = reads ours p10 (codes "dte with 0180 - d accept 1\n") [] p10.met in
-    let r11 : ReachedProgram ours p11 = goes_on p10 p11 r10 (Reads (codes "dte with 0180 - d accept 1") (record { is_line = opens (codes "dte with 0180 - d accept 1") refl; is_no_frame = tt; in_time = tt })) in
+    let r11 : ReachedProgram ours p11 = goes_on p10 p11 r10
+    (Reads (codes "dte with 0180 - d accept 1") (record { is_line = opens (codes "dte with 0180 - d accept 1") refl; is_no_frame = tt; in_time = tt })) in
     record { program = p11; reached = r11; text = refl; met = refl }

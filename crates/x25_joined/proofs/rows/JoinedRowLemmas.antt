@@ -13,7 +13,8 @@ use Rattle.x25_packet.specs.Facilities.{facilities_of}
 use Rattle.x25_packet.specs.Classes.{own_in}
 use Rattle.x25_packet.specs.Grammar.{read_of}
 use Rattle.x25_link.specs.Station.{pumped}
-use Rattle.x25_script.specs.Reading.{parts_of, number_in, small_number_in, params_in, with_params_in, call_in, accept_in, send_in, interrupt_in, with_fields, command_in, lose_in, damage_in, drain_in, line_in}
+use Rattle.x25_script.specs.Reading.{parts_of, number_in, small_number_in, params_in, with_params_in, call_in, accept_in, send_in, interrupt_in, with_fields}
+use Rattle.x25_script.specs.Reading.{command_in, lose_in, damage_in, drain_in, line_in}
 use Rattle.x25_io.specs.Lines.{IsOpen, lines_of}
 use Rattle.x25_transcript.specs.EntryText.{entry_line}
 use Rattle.x25_console.specs.Telling.{frame_line, refusal_line}
@@ -41,12 +42,18 @@ opens [] all = tt
 opens (o ∷ line) all = let h = opened o line (nat_eq o 10) refl all in (h.0, opens line h.1)
 
 damage : AreOfFrame (1 ∷ 63 ∷ 0 ∷ 0 ∷ [])
-damage = record { each = All-cons IsOctet 1 (63 ∷ 0 ∷ 0 ∷ []) (omega arith) (All-cons IsOctet 63 (0 ∷ 0 ∷ []) (omega arith) (All-cons IsOctet 0 (0 ∷ []) (omega arith) (All-cons IsOctet 0 [] (omega arith) (All-nil IsOctet)))); short = omega arith }
+damage = record {
+  each = All-cons IsOctet 1 (63 ∷ 0 ∷ 0 ∷ []) (omega arith)
+      (All-cons IsOctet 63 (0 ∷ 0 ∷ []) (omega arith) (All-cons IsOctet 0 (0 ∷ []) (omega arith) (All-cons IsOctet 0 [] (omega arith) (All-nil IsOctet))));
+  short = omega arith;
+}
 
 -- ---- rows
 
 pub link_is_set_up : LinkIsSetUp
-unfolding digits decode_pairs piped event_turn turn turns event_in lines_of line_in parts_of number_in lose_in damage_in drain_in command_in with_fields small_number_in params_in with_params_in call_in accept_in send_in interrupt_in saying_line entry_line frame_line refusal_line pumped frame_of read_of halves_of packed own_in facilities_of is_sealed fcs_of number_of divided low_bits add divisor
+unfolding digits decode_pairs piped event_turn turn turns event_in lines_of line_in parts_of number_in lose_in damage_in drain_in command_in with_fields
+    small_number_in params_in with_params_in call_in accept_in send_in interrupt_in saying_line entry_line frame_line refusal_line pumped frame_of read_of
+    halves_of packed own_in facilities_of is_sealed fcs_of number_of divided low_bits add divisor
 link_is_set_up = record {
   possible = (record { is_line = opens (codes "dte connect") refl; is_no_frame = tt; in_time = tt }, (tt, (tt, (tt, (tt, (tt, (tt, tt)))))));
   near = refl;
@@ -56,7 +63,9 @@ link_is_set_up = record {
 }
 
 pub lost_sabm_goes_again : LostSabmGoesAgain
-unfolding digits decode_pairs piped event_turn turn turns event_in lines_of line_in parts_of number_in lose_in damage_in drain_in command_in with_fields small_number_in params_in with_params_in call_in accept_in send_in interrupt_in saying_line entry_line frame_line refusal_line pumped frame_of read_of halves_of packed own_in facilities_of is_sealed fcs_of number_of divided low_bits add divisor
+unfolding digits decode_pairs piped event_turn turn turns event_in lines_of line_in parts_of number_in lose_in damage_in drain_in command_in with_fields
+    small_number_in params_in with_params_in call_in accept_in send_in interrupt_in saying_line entry_line frame_line refusal_line pumped frame_of read_of
+    halves_of packed own_in facilities_of is_sealed fcs_of number_of divided low_bits add divisor
 lost_sabm_goes_again = record {
   possible = (
     record { is_line = opens (codes "dte connect") refl; is_no_frame = tt; in_time = tt },
@@ -75,11 +84,15 @@ lost_sabm_goes_again = record {
 }
 
 pub firing_has_to_wait : FiringHasToWait
-unfolding digits decode_pairs piped event_turn turn turns event_in lines_of line_in parts_of number_in lose_in damage_in drain_in command_in with_fields small_number_in params_in with_params_in call_in accept_in send_in interrupt_in saying_line entry_line frame_line refusal_line pumped frame_of read_of halves_of packed own_in facilities_of is_sealed fcs_of number_of divided low_bits add divisor
+unfolding digits decode_pairs piped event_turn turn turns event_in lines_of line_in parts_of number_in lose_in damage_in drain_in command_in with_fields
+    small_number_in params_in with_params_in call_in accept_in send_in interrupt_in saying_line entry_line frame_line refusal_line pumped frame_of read_of
+    halves_of packed own_in facilities_of is_sealed fcs_of number_of divided low_bits add divisor
 firing_has_to_wait = λ may. never (sym may.in_time)
 
 pub other_lines_do_nothing : OtherLinesDoNothing
-unfolding digits decode_pairs piped event_turn turn turns event_in lines_of line_in parts_of number_in lose_in damage_in drain_in command_in with_fields small_number_in params_in with_params_in call_in accept_in send_in interrupt_in saying_line entry_line frame_line refusal_line pumped frame_of read_of halves_of packed own_in facilities_of is_sealed fcs_of number_of divided low_bits add divisor
+unfolding digits decode_pairs piped event_turn turn turns event_in lines_of line_in parts_of number_in lose_in damage_in drain_in command_in with_fields
+    small_number_in params_in with_params_in call_in accept_in send_in interrupt_in saying_line entry_line frame_line refusal_line pumped frame_of read_of
+    halves_of packed own_in facilities_of is_sealed fcs_of number_of divided low_bits add divisor
 other_lines_do_nothing = record {
   possible = (
     record { is_line = opens (codes "dce connect") refl; is_no_frame = tt; in_time = tt },
@@ -98,5 +111,7 @@ other_lines_do_nothing = record {
 }
 
 pub message_arrives : MessageArrives
-unfolding digits decode_pairs piped event_turn turn turns event_in lines_of line_in parts_of number_in lose_in damage_in drain_in command_in with_fields small_number_in params_in with_params_in call_in accept_in send_in interrupt_in saying_line entry_line frame_line refusal_line pumped frame_of read_of halves_of packed own_in facilities_of is_sealed fcs_of number_of divided low_bits add divisor
+unfolding digits decode_pairs piped event_turn turn turns event_in lines_of line_in parts_of number_in lose_in damage_in drain_in command_in with_fields
+    small_number_in params_in with_params_in call_in accept_in send_in interrupt_in saying_line entry_line frame_line refusal_line pumped frame_of read_of
+    halves_of packed own_in facilities_of is_sealed fcs_of number_of divided low_bits add divisor
 message_arrives = (refl, refl, refl, refl)

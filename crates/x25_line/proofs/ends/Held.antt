@@ -65,12 +65,14 @@ module _ {sx sy ty : Stand} {bx p b q : ℕ} {out back : List Letter} where
 module _ {sx sy : Stand} {bx p b q : ℕ} {out back : List Letter} where
   -- ---- where the line to x is this one, and where x stands so
 
+  -- the line to x is this one
   pub near_at : {fs : List Letter} → back ≡ fs → Side sx bx p sy b q out back → Side sx bx p sy b q out fs
   near_at is h = subst (λ es. Side sx bx p sy b q out es) is h
 
   pub far_at : {fs : List Letter} → back ≡ fs → Side sy b q sx bx p back out → Side sy b q sx bx p fs out
   far_at is h = subst (λ es. Side sy b q sx bx p es out) is h
 
+  -- x stands so
   pub near_stands : {s : Stand} → sx ≡ s → Side sx bx p sy b q out back → Side s bx p sy b q out back
   near_stands is h = subst (λ z. Side z bx p sy b q out back) is h
 

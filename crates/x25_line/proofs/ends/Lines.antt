@@ -14,12 +14,14 @@ choose_map : (n : ℕ) (A B C D : Type 0) → (A → C) → (B → D) → choose
 choose_map zero A B C D f g h = f h
 choose_map (suc n) A B C D f g h = g h
 
+-- one more letter at the back is counted
 pub count_push : (k : Said → ℕ) (es : List Letter) (e : Letter) → how_many k (es ++ e ∷ []) ≡ how_many k es + k e.said
 count_push k [] e = omega arith
 count_push k (x ∷ es) e = omega (arith, count_push k es e)
 
 -- ---- one letter at most is gone
 
+-- a line that lost or damaged one letter has no more of a kind
 pub count_less : (k : Said → ℕ) → k Else ≡ 0 → {i : ℕ} {es fs : List Letter} → LessAt IsSpoilt i es fs → how_many k fs ≤ how_many k es
 count_less k quiet (nothing j) = omega arith
 count_less k quiet (gone e xs) = omega arith
@@ -40,6 +42,7 @@ tags_push {b} es e h k = each_append (λ x. x.session ≤ b) es (e ∷ []) h (k,
 pub tags_more : (b c : ℕ) (es : List Letter) → b ≤ c → AllTags b es → AllTags c es
 tags_more b c es le = each_map (λ x. x.session ≤ b) (λ x. x.session ≤ c) (λ x h. omega (arith, le, h)) es
 
+-- sessions on a line that lost or damaged one letter are no later
 pub tags_less : (b : ℕ) {i : ℕ} {es fs : List Letter} → LessAt IsSpoilt i es fs → AllTags b es → AllTags b fs
 tags_less b l h = each_less (λ e. e.session ≤ b) (λ e f is k. rw is k) l h
 

@@ -5,6 +5,7 @@ use Rattle.x25_line.proofs.Lists.{each_map, each_over}
 
 -- ---- of all that met, and of some
 
+-- what follows of each meeting follows of all
 pub all_map : (P Q : Meeting → Type 0) → ((m : Meeting) → P m → Q m) → (ms : List Meeting) → Each P ms → Each Q ms
 all_map = each_map
 
@@ -45,6 +46,7 @@ above_paired p q (m ∷ ms) h = h.0
 
 -- ---- as the other end has it
 
+-- seen from the other end twice, meetings are as they were
 pub twice_turned : (met : List Meeting) → map turned (map turned met) ≡ met
 twice_turned [] = refl
 twice_turned (m ∷ ms) = ap (λ xs. m ∷ xs) (twice_turned ms)
@@ -67,6 +69,7 @@ pub near_turned : (n : ℕ) (met : List Meeting) → SomeMet (λ (m : Meeting). 
 near_turned n [] h = h
 near_turned n (m ∷ ms) h = elim h [ inl here ↦ inl here | inr there ↦ inr (near_turned n ms there) ]
 
+-- a session of the far end that met, seen from there
 pub far_turned : (n : ℕ) (met : List Meeting) → SomeMet (λ (m : Meeting). m.far ≡ n) met → SomeMet (λ (m : Meeting). m.near ≡ n) (map turned met)
 far_turned n [] h = h
 far_turned n (m ∷ ms) h = elim h [ inl here ↦ inl here | inr there ↦ inr (far_turned n ms there) ]

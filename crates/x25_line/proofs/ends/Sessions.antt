@@ -377,6 +377,7 @@ ua_present h s rest asking is =
     let near = near_stands asking (near_at is h.held.near) in
     elim near.view [ inl here ↦ (absurd (omega (arith, near.left refl here))) | inr less ↦ ((near.soon refl less).1, omega (arith, ((near.asks_once refl).0))) ]
 
+-- any two ends that keep the rules: all claims over sessions
 pub keep_sessions : OfAnyTwoEnds KeepSessions
 keep_sessions w r =
     let h = reached_all r in

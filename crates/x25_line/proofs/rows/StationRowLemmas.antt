@@ -49,6 +49,7 @@ row Q (Comes Dte r octets rest ∷ ms) w h =
 row Q (Comes Dce r octets rest ∷ ms) w h =
     subst (λ v. Q (run dte dce (map event_of ms) v)) (sym (comes dte r octets rest w h.1 h.0)) (row Q ms _ h.2)
 
+-- the I frame of the near end
 abbrev pub packet_frame : PlainFrame
 packet_frame = info 0 0 false (5 ∷ [])
 
@@ -71,13 +72,16 @@ unfolding frame_of
 short_reads = refl
 
 module _ (reads : ReadsSpelled) where
+  -- an I frame of one octet is read back, with N1 128
   pub info_reads : (from : Role) (p : Bool) (x : ℕ) → frame_of from 128 (spelling_of from (info 0 0 p (x ∷ []))) ≡ Ok (info 0 0 p (x ∷ []))
   info_reads from p x =
       reads from 128 (info 0 0 p (x ∷ [])) _ (record { in_range = (omega arith, omega arith); carries = tt; within = omega arith; spelling = refl })
 
+  -- so is SABM, DISC, UA or DM
   pub bare_reads : (from : Role) (f : PlainFrame) → AreParting (f ∷ []) → frame_of from 128 (spelling_of from f) ≡ Ok f
   bare_reads from f h = part_reads reads from 128 (parts_of (f ∷ []) h).0
 
+  -- so is RR
   pub ready_reads : (from : Role) (command : Bool) (nr : ℕ) (pf : Bool) → nr < 8 → frame_of from 128 (spelling_of from (rr command nr pf))
       ≡ Ok (rr command nr pf)
   ready_reads from command nr pf low = reads from 128 (rr command nr pf) _ (record { in_range = low; carries = refl; within = tt; spelling = refl })

@@ -22,6 +22,7 @@ heard_said p b t r met = refl
 -- ---- all on a line
 
 module _ (from : Role) (n1 : ℕ) where
+  -- one more frame at the back, by its letter
   pub letters_push : (es : List Entry) (b : ℕ) (octets : List ℕ) (r : Read) → frame_of from n1 octets ≡ r → letters from n1 (es ++ entry b octets ∷ [])
       ≡ letters from n1 es ++ letter b (said r) ∷ []
   letters_push [] b octets r read = ap (λ x. letter b (said x) ∷ []) read
@@ -37,6 +38,7 @@ module _ (from : Role) (n1 : ℕ) where
       never : Else ≡ OddSaid → ⊥
       never k = cc
 
+  -- a line that lost or damaged one frame, by its letters
   pub letters_less : {i : ℕ} {es fs : List Entry} → LessAt IsSeenIn i es fs → LessAt IsSpoilt i (letters from n1 es) (letters from n1 fs)
   letters_less (nothing j) = nothing j
   letters_less (gone e xs) = gone _ (letters from n1 xs)
@@ -60,6 +62,7 @@ never_odd : (f : PlainFrame) → said (Ok f) ≡ OddSaid → ⊥
 never_odd (sabm p) is = cc
 never_odd f is = cc
 
+-- what is read as a frame is nothing odd to put
 pub puts_frame : {Odd : Type 0} {c : LinkSettings} {es : List Entry} (n : ℕ) (o : List ℕ) (f : PlainFrame) → frame_of (other c.role) c.longest o ≡ Ok f
     → Puts Odd c es (es ++ entry n o ∷ [])
 puts_frame n o f is = put (entry n o) (λ odd. absurd (never_odd f (sym (ap said is) ∙ odd)))

@@ -111,12 +111,15 @@ module _ (reads : ReadsSpelled) (rests : SessionLaws) where
     pub step_is : MeetInStep c c (both_ends w)
     step_is = keeps.step
 
+    -- sessions that met are in order
     pub order_is : MetAreInOrder c c (both_ends w)
     order_is = all_in_order w.met keeps.order
 
+    -- a session that met none handed nothing up
     pub unmet_is : UnmetHandNothingUp c c (both_ends w)
     unmet_is = record { near = λ n. elim (keeps.near_unmet n) [ inl none ↦ inl (sym (h.taken n) ∙ none) | inr some ↦ inr some ]; far = keeps.far_unmet }
 
+    -- an idle station's packets have come
     pub idle_is : IdleHasArrived c w
     idle_is idle which =
         let on = up_in (and_parts _ _ idle).0 in
@@ -127,6 +130,7 @@ module _ (reads : ReadsSpelled) (rests : SessionLaws) where
         all_taken all_of on stands (let f = h.up (and_parts _ _ idle).0 in ap (λ z. z.acked) f.same ∙ idle_all w.near.station idle f.sound.sent_high
         ∙ sym (ap (λ z. length z.given) f.same)) ∙ h.given w.near.begun
 
+    -- the session of an end meets no other than the other's latest
     pub latest_is : EachMeetsLatest c w
     latest_is = record {
       near = λ up. keeps.latest (up_in up);

@@ -43,6 +43,7 @@ up_in_session {stand} c d w h up =
 down_owes : {p : Phase} {n m : ℕ} → p ≡ Down → Owes p n m → (n ≡ 0) × (m ≡ 0)
 down_owes {n = n} {m} is h = subst (λ z. Owes z n m) is h
 
+-- an end that waits has one SABM or UA under way at most, and no DISC
 pub waiting_owes : {p : Phase} {n m : ℕ} → p ≡ Waiting → Owes p n m → (n ≤ 1) × (m ≡ 0)
 waiting_owes {n = n} {m} is h = subst (λ z. Owes z n m) is h
 

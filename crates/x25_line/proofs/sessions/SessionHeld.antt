@@ -106,6 +106,7 @@ if_nil : (b : Bool) (x : List (List ℕ)) → (let z : List (List ℕ) = if b th
 if_nil true x = append-nil x
 if_nil false x = refl
 
+-- nothing handed in a session leaves its list
 pub extended_nil : (f : ℕ → List (List ℕ)) (s n : ℕ) → extended f s [] n ≡ f n
 extended_nil f s n = if_nil (n == s) (f n)
 
@@ -113,6 +114,7 @@ same_by : (b : Bool) (x more : List (List ℕ)) → b ≡ true → (let z : List
 same_by true x more e = refl
 same_by false x more e = not_both false e refl
 
+-- the list of this session grows
 pub extended_same : (f : ℕ → List (List ℕ)) (s : ℕ) (more : List (List ℕ)) → extended f s more s ≡ f s ++ more
 extended_same f s more = same_by (s == s) (f s) more (eq-eqb s s refl)
 
@@ -120,6 +122,7 @@ other_by : (b : Bool) (n s : ℕ) (x more : List (List ℕ)) → (n == s) ≡ b 
 other_by true n s x more e never = absurd (never (eqb-true n s e))
 other_by false n s x more e never = refl
 
+-- the lists of other sessions stay
 pub extended_other : (f : ℕ → List (List ℕ)) (s n : ℕ) (more : List (List ℕ)) → (n ≡ s → ⊥) → extended f s more n ≡ f n
 extended_other f s n more never = other_by (n == s) n s (f n) more refl never
 

@@ -20,16 +20,19 @@ Read = Result PlainFrame FrameError
 
 -- ---- lists of entries
 
+-- the octets of both parts of a line
 pub octets_append : (xs ys : List Entry) → octets_of (xs ++ ys) ≡ octets_of xs ++ octets_of ys
 octets_append [] ys = refl
 octets_append (e ∷ xs) ys = ap (λ os. e.octets ∷ os) (octets_append xs ys)
 
+-- the octets of frames that are sent are their spellings
 pub octets_sent : (s : ℕ) (from : Role) (fs : List PlainFrame) → octets_of (sent_in s from fs) ≡ map (spelling_of from) fs
 octets_sent s from [] = refl
 octets_sent s from (f ∷ fs) = ap (λ os. spelling_of from f ∷ os) (octets_sent s from fs)
 
 -- ---- kinds
 
+-- a number that is none and is one
 pub none_is_some : {A : Type 0} (f : PlainFrame) → None ≡ Some f → A
 none_is_some f e = absurd (none-some f e)
 
@@ -82,6 +85,7 @@ module _ (from : Role) (n1 : ℕ) where
   of_sent role s [] = tt
   of_sent role s (f ∷ fs) = (inr refl, of_sent role s fs)
 
+  -- frames of a kind on both parts of a line
   pub many_append : (kind : Said → ℕ) (xs ys : List Entry) → how_many kind (letters from n1 (xs ++ ys))
       ≡ how_many kind (letters from n1 xs) + how_many kind (letters from n1 ys)
   many_append kind [] ys = omega arith
@@ -103,6 +107,7 @@ module _ (from : Role) (n1 : ℕ) where
   kept_numbers None o os e = refl
   kept_numbers (Some f) o os e = ap (λ m. consed m (numbered_on from n1 os)) e
 
+  -- octets that carry a number are read as the frames with a number
   pub carried_numbers : (es : List Entry) → numbered_on from n1 (carried es) ≡ numbers es
   carried_numbers [] = refl
   carried_numbers (e ∷ es) =
@@ -139,6 +144,7 @@ module _ (from : Role) (n1 : ℕ) where
 
   -- ---- behind the first UA
 
+  -- the entries behind the first UA
   abbrev pub behind_ua : List Entry → List Entry
   behind_ua [] = []
   behind_ua (e ∷ es) = by_first (ua_of (said (frame_of from n1 e.octets))) (behind_ua es) es

@@ -13,9 +13,11 @@ use Rattle.x25_line.proofs.{StationSays.{machine_of}, sessions.SessionLines.{Rea
 abbrev pub sends_read : LinkSettings → List ℕ → Read
 sends_read d octets = frame_of d.role d.longest octets
 
+-- octets that come to it, as it reads them
 abbrev pub hears_read : LinkSettings → List ℕ → Read
 hears_read d octets = frame_of (other d.role) d.longest octets
 
+-- octets with the session in which they are sent
 abbrev pub entry : ℕ → List ℕ → Entry
 entry session octets = record { session = session; octets = octets }
 

@@ -204,9 +204,6 @@ module _ (c d : LinkSettings) (joined : AreJoined c d) (reads : ReadsSpelled) (r
       p : PeerEnd
       p = end joined w.near w.far.station.phase w.far.begun h.all
 
-      met_with : Sessions → List Meeting → PeerSessions
-      met_with x met = record { near = x.near; peer = p; out = x.out; back = x.back; met = met }
-
       before : ReachedInSessions ⊥ c (with_peer p w)
       before = rw (sym (twice_turned w.met)) h.reached
 
@@ -248,9 +245,7 @@ module _ (c d : LinkSettings) (joined : AreJoined c d) (reads : ReadsSpelled) (r
 
 no_link_up : (d : LinkSettings) (octets : List ℕ) (s : LinkStation) (p : Phase) → (takes d octets (Ok (ua false)) p (alone s)).notes.up ≡ false
 no_link_up d octets s Down = refl
-no_link_up d octets s Waiting = refl
-no_link_up d octets s Up = refl
-no_link_up d octets s Closed = refl
+no_link_up d octets s p = refl
 
 by_final : (d : LinkSettings) (w : Sessions) (e : Entry) (rest : List Entry) → w.back ≡ e ∷ rest → hears_read d e.octets ≡ Ok (ua false)
     → (acts d Deliver w).near.begun ≡ w.near.begun
@@ -281,11 +276,13 @@ module _ (reads : ReadsSpelled) (rests : SessionLaws) where
     far = other_acts c d h.joined reads rests a w timely h.far;
   }
 
+  -- each event leaves each end a peer of the other
   pub event_both : {c d : LinkSettings} (e : LinkEvent) {w : Sessions} → IsTimelyAt c d e w → Both c d w
       → Both c d (happens c d e w)
   event_both (Near act) timely h = act_both act timely h
   event_both (Far act) timely h = both_swapped (act_both act timely (both_swapped h))
 
+  -- at the start each end is a peer of the other
   pub begin_both : {c d : LinkSettings} (joined : AreJoined c d) {begin : Sessions} → IsStart begin → Both c d begin
   begin_both {c} {d} joined is = elim is [
     | inl down ↦ subst (Both c d) (sym down) (record {

@@ -18,9 +18,11 @@ use Rattle.x25_line.specs.laws.Stations as one
 
 -- ---- the end, and both, after a step, in which its session is n
 
+-- the end
 abbrev pub end_after : SessionEnd → ℕ → List (List ℕ) → LinkStep → SessionEnd
 end_after e n down step = record { station = step.side.near; begun = n; down = extended e.down n down; up = extended e.up n (option_to_list step.packet) }
 
+-- both ends and the line
 abbrev pub stepped : LinkSettings → Sessions → List Entry → List Meeting → List (List ℕ) → ℕ → LinkStep → Sessions
 stepped c w es met down n step = record {
   near = end_after w.near n down step;
@@ -51,6 +53,7 @@ live_lists c {e} v os down step is h =
 
 -- ---- what stands behind
 
+-- the later part of whole frames is whole
 pub whole_behind : (n1 : ℕ) (given : List (List ℕ)) (xs ys : List PlainFrame) → AreWhole n1 given (xs ++ ys) → AreWhole n1 given ys
 whole_behind n1 given [] ys h = h
 whole_behind n1 given (f ∷ xs) ys h = whole_behind n1 given xs ys h.1
@@ -60,6 +63,7 @@ no_frmr_behind [] ys h = h
 no_frmr_behind (frmr g why ∷ xs) ys h = absurd h
 no_frmr_behind (frame ∷ xs) ys h = no_frmr_behind xs ys h
 
+-- no phase is Waiting and Closed
 pub waiting_is_closed : {A : Type 0} (p : Phase) → p ≡ Waiting → p ≡ Closed → A
 waiting_is_closed p e f = absurd (cc)
 
@@ -144,6 +148,7 @@ module _ {c d : LinkSettings} (joined : AreJoined c d) (reads : ReadsSpelled) wh
 
   -- ---- an end that is out of the session, or goes into it
 
+  -- a step of such an end, which hands nothing up, keeps what is held
   pub apart_held : {stand : Standing} (w : Sessions) (h : Held stand c d w) (es : List Entry) (met : List Meeting) (n : ℕ) (step : LinkStep)
       → step.packet ≡ None
       → IsThere step.side.near.phase (other c.role) c.longest step.side.near n es h.alone.near.station h.alone.back stand.near stand.far

@@ -35,6 +35,7 @@ declining_none (frame ∷ fs) h = absurd h
 
 -- ---- what comes first, what the near end does, and the two stations after it
 
+-- octets as the near end reads them
 abbrev pub read_of : LinkSettings → Entry → Read
 read_of c e = frame_of (other c.role) c.longest e.octets
 

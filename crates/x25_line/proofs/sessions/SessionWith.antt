@@ -92,6 +92,7 @@ tells_does w f q on number may = none_is_some f number
 abbrev pub outs : LinkSettings → List Entry → List Letter
 outs c es = letters c.role c.longest es
 
+-- the letters on the line to the station
 abbrev pub backs : LinkSettings → List Entry → List Letter
 backs c es = letters (other c.role) c.longest es
 

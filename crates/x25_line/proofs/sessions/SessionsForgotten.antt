@@ -124,15 +124,18 @@ module _ {E : SessionEnd → StationEnd → Type 0} (S : Type 0) (lasts : Lasts 
 
 -- ---- runs
 
+-- seen from the other end
 pub turned_alike : {E : SessionEnd → StationEnd → Type 0} {S : Type 0} {w : Sessions} {v : Stations} → Alike E S w v
     → Alike E S (swapped w) (one.stations_swapped v)
 turned_alike h = record { near = h.far; far = h.near; out = h.back; back = h.out; sent = h.sent }
 
 module _ {E : SessionEnd → StationEnd → Type 0} {S : Type 0} (lasts : Lasts E) where
+  -- an event happens alike with sessions and without
   pub happens_alike : (c d : LinkSettings) (e : LinkEvent) {w : Sessions} {v : Stations} → Alike E S w v → Alike E S (happens c d e w) (one.happens c d e v)
   happens_alike c d (Near act) h = acts_alike S lasts c act h
   happens_alike c d (Far act) h = turned_alike (acts_alike S lasts d act (turned_alike h))
 
+  -- so does a run
   pub runs_alike : (c d : LinkSettings) (es : List LinkEvent) {w : Sessions} {v : Stations} → Alike E S w v → Alike E S (run c d es w) (one.run c d es v)
   runs_alike c d [] h = h
   runs_alike c d (e ∷ es) h = runs_alike c d es (happens_alike c d e h)

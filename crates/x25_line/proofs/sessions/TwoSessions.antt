@@ -174,5 +174,6 @@ module _ (reads : ReadsSpelled) (rests : SessionLaws) where
       → ((c d : LinkSettings) (w : Sessions) → Both c d w → Holds c d w) → Throughout Holds
   throughout_of Holds holds c d joined begin is events timely = holds c d (run c d events begin) (throughout_both reads rests joined is events timely)
 
+  -- an idle station's packets have come, at each moment of two stations
   pub idle_has_arrived : Throughout IdleHasArrived
   idle_has_arrived = throughout_of IdleHasArrived arrived

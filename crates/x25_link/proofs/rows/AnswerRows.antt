@@ -1,16 +1,21 @@
 -- How each numbered frame is answered, what the sending rule sends behind the answer, and what timer T1 asks.
-use Rattle.std.proofs.Common.{◌≡◌, ℕ, suc, zero, ◌+◌, ◌-◌, ◌*◌, ◌%◌, ◌<◌, ◌≤◌, List, [], ◌∷◌, ◌++◌, length, Bool, true, false, not, if◌then◌else◌, Some, None, Ok, refl, sym, ap, ◌∙◌, subst, arith, append-nil, append_assoc}
+use Rattle.std.proofs.Common.{◌≡◌, ℕ, suc, zero, ◌+◌, ◌-◌, ◌*◌, ◌%◌, ◌<◌, ◌≤◌, List, [], ◌∷◌, ◌++◌, length, Bool, true, false, not, if◌then◌else◌, Some, None}
+use Rattle.std.proofs.Common.{Ok, refl, sym, ap, ◌∙◌, subst, arith, append-nil, append_assoc}
 use Rattle.std.proofs.lemmas.Bool.{lt-ltb, and_parts, not-true}
-use Rattle.x25_frame.specs.Frame.{PlainFrame, info, rr, rnr, rej, sabm, disc, ua, dm, frmr}
+use Rattle.x25_frame.specs.Frame.{PlainFrame, info, rr, rnr, rej, sabm, disc, dm}
 use Rattle.x25_frame.specs.Reading.{frame_of}
 use Rattle.x25_link.specs.declared.phase.Phase.{Phase}
 use Rattle.x25_link.specs.declared.phase.Phase.TheVariants.{Down, Waiting, Up, Closed}
 use Rattle.x25_link.specs.declared.phase.Reason.TheVariants.{Dm}
-use Rattle.x25_link.specs.Station.{LinkSettings, LinkStation, Side, is_up, is_busy, wanted, with_near, sends, ready, next_frame, send_next, may_send, pumped, owes_ready, finished, ended}
-use Rattle.x25_link.specs.Hearing.{LinkStep, quiet, leaves, other, is_valid, acknowledged, is_taken, takes, answers, passes_over, rejects_gap, hears_info, peer_is, goes_back, polls, row_of_frame}
+use Rattle.x25_link.specs.Station.{LinkSettings, LinkStation, Side, is_up, is_busy, wanted, with_near, sends, ready, next_frame, send_next, may_send, pumped}
+use Rattle.x25_link.specs.Station.{owes_ready, finished, ended}
+use Rattle.x25_link.specs.Hearing.{LinkStep, quiet, leaves, other, is_valid, acknowledged, is_taken, takes, answers, passes_over, rejects_gap, hears_info}
+use Rattle.x25_link.specs.Hearing.{peer_is, goes_back, polls, row_of_frame}
 use Rattle.x25_link.specs.Link.{alone, closed_by, hears, declines, when_down, fires, asks_again, take_step}
 use Rattle.x25_link.specs.laws.WindowLaw.{IsOut}
-use Rattle.x25_link.specs.laws.AnswerLaw.{says, AreNext, weight_of, weight_if, once_taken, busy_after, Outcome, Answers, Asks, TimerAsks, heard, goes_on_from, PollIsAnswered, FinalEndsRecovery, ReadyIsHeard, RejGoesBack, IsTakenUp, WantedIsTaken, passed_over, OtherIsPassedOver, asks, Declines, OutDeclines, DmLeavesUp}
+use Rattle.x25_link.specs.laws.AnswerLaw.{says, AreNext, weight_of, weight_if, once_taken, busy_after, Outcome, Answers, Asks, TimerAsks, heard, goes_on_from}
+use Rattle.x25_link.specs.laws.AnswerLaw.{PollIsAnswered, FinalEndsRecovery, ReadyIsHeard, RejGoesBack, IsTakenUp, WantedIsTaken, passed_over}
+use Rattle.x25_link.specs.laws.AnswerLaw.{OtherIsPassedOver, asks, Declines, OutDeclines, DmLeavesUp}
 use Rattle.x25_link.proofs.EndLemmas.{true_false, open_is}
 use Rattle.x25_link.proofs.LinkLemmas.{fires_settled, fires_calm}
 use Rattle.x25_link.proofs.rows.WindowRows.{closed_stays, out_is_not_up}
@@ -21,13 +26,7 @@ next_more : (r n m p : ℕ) (xs ys : List PlainFrame) → AreNext r n xs m → A
 next_more r n m p [] ys h g = subst (λ (z : ℕ). AreNext r z ys p) (sym h) g
 next_more r n m p (info ns nr f packet ∷ xs) ys h g = (h.0, h.1, h.2, next_more r (n + 1) m p xs ys h.3 g)
 next_more r n m p (rr command nr pf ∷ xs) ys h g = (h.0, h.1, h.2, next_more r n m p xs ys h.3 g)
-next_more r n m p (rnr command nr pf ∷ xs) ys h g = absurd h
-next_more r n m p (rej command nr pf ∷ xs) ys h g = absurd h
-next_more r n m p (sabm f ∷ xs) ys h g = absurd h
-next_more r n m p (disc f ∷ xs) ys h g = absurd h
-next_more r n m p (ua f ∷ xs) ys h g = absurd h
-next_more r n m p (dm f ∷ xs) ys h g = absurd h
-next_more r n m p (frmr f why ∷ xs) ys h g = absurd h
+next_more r n m p (frame ∷ xs) ys h g = absurd h
 
 -- from one side to another by sending alone
 pub record GoesOn (t u : Side) : Type 0 where
@@ -43,19 +42,13 @@ pub record GoesOn (t u : Side) : Type 0 where
   pub out : u.out ≡ t.out ++ next
   pub sends : AreNext (length t.near.taken) t.near.outgoing.place next u.near.outgoing.place
   pub held : t.near.recovery ≡ true → u.near.outgoing.place ≡ t.near.outgoing.place
-  pub light : weight_of next + 4 * (length t.near.outgoing.given - u.near.outgoing.place) + weight_if u.near.said_busy ≤ 4 * (length t.near.outgoing.given - t.near.outgoing.place) + weight_if t.near.said_busy
+  pub light : weight_of next + 4 * (length t.near.outgoing.given - u.near.outgoing.place) + weight_if u.near.said_busy
+      ≤ 4 * (length t.near.outgoing.given - t.near.outgoing.place) + weight_if t.near.said_busy
 
 weight_more : (xs ys : List PlainFrame) → weight_of (xs ++ ys) ≡ weight_of xs + weight_of ys
 weight_more [] ys = omega arith
 weight_more (info ns nr p packet ∷ xs) ys = omega (arith, weight_more xs ys)
-weight_more (rr command nr pf ∷ xs) ys = omega (arith, weight_more xs ys)
-weight_more (rnr command nr pf ∷ xs) ys = omega (arith, weight_more xs ys)
-weight_more (rej command nr pf ∷ xs) ys = omega (arith, weight_more xs ys)
-weight_more (sabm f ∷ xs) ys = omega (arith, weight_more xs ys)
-weight_more (disc f ∷ xs) ys = omega (arith, weight_more xs ys)
-weight_more (ua f ∷ xs) ys = omega (arith, weight_more xs ys)
-weight_more (dm f ∷ xs) ys = omega (arith, weight_more xs ys)
-weight_more (frmr f why ∷ xs) ys = omega (arith, weight_more xs ys)
+weight_more (frame ∷ xs) ys = omega (arith, weight_more xs ys)
 
 -- a packet that is still to be sent outweighs its frame
 sent_light : (w g p q a b : ℕ) → p < g → w + 4 * (g - p) + a ≤ 4 * (g - q) + b → w + 3 + 4 * (g - (p + 1)) + a ≤ 4 * (g - q) + b
@@ -63,7 +56,21 @@ sent_light w g p q a b room h = omega arith
 
 module _ (t : Side) where
   G-stays : GoesOn t t
-  G-stays = record { phase = refl; recovery = refl; peer_busy = refl; rejecting = refl; tries = refl; taken = refl; given = refl; acked = refl; next = []; out = sym (append-nil t.out); sends = refl; held = λ _. refl; light = omega arith }
+  G-stays = record {
+    phase = refl;
+    recovery = refl;
+    peer_busy = refl;
+    rejecting = refl;
+    tries = refl;
+    taken = refl;
+    given = refl;
+    acked = refl;
+    next = [];
+    out = sym (append-nil t.out);
+    sends = refl;
+    held = λ _. refl;
+    light = omega arith;
+  }
 
   by_if : (b : Bool) (u v : Side) → (b ≡ true → GoesOn t u) → (b ≡ false → GoesOn t v) → GoesOn t (if b then u else v)
   by_if true u v f g = f refl
@@ -88,12 +95,19 @@ module _ (t : Side) where
         acked = h.acked;
         next = h.next ++ frame ∷ [];
         out = ap (λ (xs : List PlainFrame). xs ++ frame ∷ []) h.out ∙ append_assoc t.out h.next (frame ∷ []);
-        sends = next_more (length t.near.taken) t.near.outgoing.place u.near.outgoing.place (u.near.outgoing.place + 1) h.next (frame ∷ []) h.sends (refl, same_number u h, refl, refl);
+        sends = next_more (length t.near.taken) t.near.outgoing.place u.near.outgoing.place (u.near.outgoing.place + 1) h.next (frame ∷ []) h.sends
+            (refl, same_number u h, refl, refl);
         held = λ recovers. true_false (sym (h.recovery ∙ recovers) ∙ o.recovery);
-        light = omega (arith, weight_more h.next (frame ∷ []), sent_light (weight_of h.next) (length t.near.outgoing.given) u.near.outgoing.place t.near.outgoing.place (weight_if u.near.said_busy) (weight_if t.near.said_busy) (omega (arith, o.packet, same)) h.light);
+        light = omega (
+          arith,
+          weight_more h.next (frame ∷ []),
+          sent_light (weight_of h.next) (length t.near.outgoing.given) u.near.outgoing.place t.near.outgoing.place (weight_if u.near.said_busy)
+              (weight_if t.near.said_busy) (omega (arith, o.packet, same)) h.light,
+        );
       }
 
-  G-rr : (u : Side) → u.near.said_busy ≡ true → GoesOn t u → GoesOn t (sends (rr false (wanted u.near) false) (with_near u (record u.near { said_busy = false })))
+  G-rr : (u : Side) → u.near.said_busy ≡ true → GoesOn t u
+      → GoesOn t (sends (rr false (wanted u.near) false) (with_near u (record u.near { said_busy = false })))
   G-rr u said h =
       let frame = rr false (wanted u.near) false in
       let weight = ap weight_if said in
@@ -108,7 +122,8 @@ module _ (t : Side) where
         acked = h.acked;
         next = h.next ++ frame ∷ [];
         out = ap (λ (xs : List PlainFrame). xs ++ frame ∷ []) h.out ∙ append_assoc t.out h.next (frame ∷ []);
-        sends = next_more (length t.near.taken) t.near.outgoing.place u.near.outgoing.place u.near.outgoing.place h.next (frame ∷ []) h.sends (refl, same_number u h, refl, refl);
+        sends = next_more (length t.near.taken) t.near.outgoing.place u.near.outgoing.place u.near.outgoing.place h.next (frame ∷ []) h.sends
+            (refl, same_number u h, refl, refl);
         held = h.held;
         light = omega (arith, weight_more h.next (frame ∷ []), weight, h.light);
       }
@@ -120,7 +135,8 @@ module _ (t : Side) where
   G-pumped : (n k : ℕ) (u : Side) → GoesOn t u → GoesOn t (pumped n k u)
   unfolding pumped
   G-pumped zero k u h = h
-  G-pumped (suc n) k u h = by_if (may_send k (pumped n k u).near) (send_next (pumped n k u)) (pumped n k u) (λ may. G-send_next k (pumped n k u) may (G-pumped n k u h)) (λ _. G-pumped n k u h)
+  G-pumped (suc n) k u h = by_if (may_send k (pumped n k u).near) (send_next (pumped n k u)) (pumped n k u)
+      (λ may. G-send_next k (pumped n k u) may (G-pumped n k u h)) (λ _. G-pumped n k u h)
 
   G-finished : (u : Side) → GoesOn t u → GoesOn t (finished u)
   G-finished u h = by_if (owes_ready u.near) (ready false false u) u
@@ -133,7 +149,8 @@ module _ (t : Side) where
 -- ---- from a row to the step
 
 -- a row that sends `first` and leaves the station as the outcome says
-answers_from : (k : ℕ) (s : LinkStation) (o : Outcome) (t : Side) (step : LinkStep) → step.notes ≡ record { down = None; up = false } → GoesOn t step.side → is_up t.near.phase ≡ true
+answers_from : (k : ℕ) (s : LinkStation) (o : Outcome) (t : Side) (step : LinkStep) → step.notes ≡ record { down = None; up = false } → GoesOn t step.side
+    → is_up t.near.phase ≡ true
     → t.near.recovery ≡ o.recovery → t.near.peer_busy ≡ o.peer_busy → t.near.tries ≡ o.tries → t.near.taken ≡ o.taken → t.near.outgoing.given ≡ s.outgoing.given
     → t.near.outgoing.acked ≡ o.acked → t.near.outgoing.place ≡ o.place → t.out ≡ o.first → t.near.said_busy ≡ o.said_busy → Answers s o (closed_by k step)
 answers_from k s o t step silent goes up recovery peer_busy tries taken given acked place first said =
@@ -163,8 +180,10 @@ row_is c octets s up frame is = rw (up, is) refl
 abbrev told : Bool → ℕ → LinkStation → Side
 told busy nr s = peer_is busy (acknowledged nr (alone s))
 
-ready_by : (b pf : Bool) (k : ℕ) (s : LinkStation) (o : Outcome) (u : Side) → is_busy u.near ≡ b → is_up u.near.phase ≡ true → u.near.recovery ≡ o.recovery → u.near.peer_busy ≡ o.peer_busy
-    → u.near.tries ≡ o.tries → u.near.taken ≡ o.taken → u.near.outgoing.given ≡ s.outgoing.given → u.near.outgoing.acked ≡ o.acked → u.near.outgoing.place ≡ o.place
+ready_by : (b pf : Bool) (k : ℕ) (s : LinkStation) (o : Outcome) (u : Side) → is_busy u.near ≡ b → is_up u.near.phase ≡ true → u.near.recovery ≡ o.recovery
+    → u.near.peer_busy ≡ o.peer_busy
+    → u.near.tries ≡ o.tries → u.near.taken ≡ o.taken → u.near.outgoing.given ≡ s.outgoing.given → u.near.outgoing.acked ≡ o.acked → u.near.outgoing.place
+    ≡ o.place
     → u.out ++ says b false (wanted u.near) pf ∷ [] ≡ o.first → b ≡ o.said_busy → Answers s o (closed_by k (quiet (ready false pf u)))
 ready_by true pf k s o u e up recovery peer_busy tries taken given acked place first said =
     let t : Side = sends (rnr false (wanted u.near) pf) (with_near u (record u.near { said_busy = true })) in
@@ -176,27 +195,37 @@ ready_by false pf k s o u e up recovery peer_busy tries taken given acked place 
 -- ---- RR, RNR and REJ
 
 poll_row : (c : LinkSettings) (octets : List ℕ) (s : LinkStation) (busy : Bool) (nr : ℕ) → s.phase ≡ Up → is_valid nr s ≡ true
-    → Answers s (record (goes_on_from nr s) { peer_busy = busy; said_busy = is_busy s; first = says (is_busy s) false (wanted s) true ∷ [] }) (closed_by c.window (row_of_frame c octets (says busy true nr true) (alone s)))
-poll_row c octets s true nr up valid = rw valid (ready_by (is_busy s) true c.window s _ (told true nr s) refl (ap is_up up) refl refl refl refl refl refl refl refl refl)
-poll_row c octets s false nr up valid = rw valid (ready_by (is_busy s) true c.window s _ (told false nr s) refl (ap is_up up) refl refl refl refl refl refl refl refl refl)
+    → Answers s (record (goes_on_from nr s) { peer_busy = busy; said_busy = is_busy s; first = says (is_busy s) false (wanted s) true ∷ [] })
+    (closed_by c.window (row_of_frame c octets (says busy true nr true) (alone s)))
+poll_row c octets s true nr up valid = rw valid
+    (ready_by (is_busy s) true c.window s _ (told true nr s) refl (ap is_up up) refl refl refl refl refl refl refl refl refl)
+poll_row c octets s false nr up valid = rw valid
+    (ready_by (is_busy s) true c.window s _ (told false nr s) refl (ap is_up up) refl refl refl refl refl refl refl refl refl)
 
 pub poll_is_answered : PollIsAnswered
 poll_is_answered busy nr c octets s up is valid =
-    subst (Answers s (record (goes_on_from nr s) { peer_busy = busy; said_busy = is_busy s; first = says (is_busy s) false (wanted s) true ∷ [] })) (sym (row_is c octets s up (says busy true nr true) is)) (poll_row c octets s busy nr up valid)
+    subst (Answers s (record (goes_on_from nr s) { peer_busy = busy; said_busy = is_busy s; first = says (is_busy s) false (wanted s) true ∷ [] }))
+    (sym (row_is c octets s up (says busy true nr true) is)) (poll_row c octets s busy nr up valid)
 
 -- the row leaves the station as the outcome says, and sends nothing of its own
-still : (k : ℕ) (s : LinkStation) (o : Outcome) (t : Side) → is_up t.near.phase ≡ true → t.near.recovery ≡ o.recovery → t.near.peer_busy ≡ o.peer_busy → t.near.tries ≡ o.tries → t.near.taken ≡ o.taken
-    → t.near.outgoing.given ≡ s.outgoing.given → t.near.outgoing.acked ≡ o.acked → t.near.outgoing.place ≡ o.place → t.out ≡ o.first → t.near.said_busy ≡ o.said_busy → Answers s o (closed_by k (quiet t))
+still : (k : ℕ) (s : LinkStation) (o : Outcome) (t : Side) → is_up t.near.phase ≡ true → t.near.recovery ≡ o.recovery → t.near.peer_busy ≡ o.peer_busy
+    → t.near.tries ≡ o.tries → t.near.taken ≡ o.taken
+    → t.near.outgoing.given ≡ s.outgoing.given → t.near.outgoing.acked ≡ o.acked → t.near.outgoing.place ≡ o.place → t.out ≡ o.first → t.near.said_busy
+    ≡ o.said_busy → Answers s o (closed_by k (quiet t))
 still k s o t = answers_from k s o t (quiet t) refl (G-stays t)
 
 final_row : (c : LinkSettings) (octets : List ℕ) (s : LinkStation) (busy : Bool) (nr : ℕ) → s.phase ≡ Up → is_valid nr s ≡ true
-    → Answers s (record (goes_on_from nr s) { recovery = false; peer_busy = busy; tries = 0; place = heard nr s }) (closed_by c.window (row_of_frame c octets (says busy false nr true) (alone s)))
-final_row c octets s true nr up valid = rw valid (still c.window s _ (polls false true (told true nr s)) (ap is_up up) refl refl refl refl refl refl refl refl refl)
-final_row c octets s false nr up valid = rw valid (still c.window s _ (polls false true (told false nr s)) (ap is_up up) refl refl refl refl refl refl refl refl refl)
+    → Answers s (record (goes_on_from nr s) { recovery = false; peer_busy = busy; tries = 0; place = heard nr s })
+    (closed_by c.window (row_of_frame c octets (says busy false nr true) (alone s)))
+final_row c octets s true nr up valid = rw valid
+    (still c.window s _ (polls false true (told true nr s)) (ap is_up up) refl refl refl refl refl refl refl refl refl)
+final_row c octets s false nr up valid = rw valid
+    (still c.window s _ (polls false true (told false nr s)) (ap is_up up) refl refl refl refl refl refl refl refl refl)
 
 pub final_ends_recovery : FinalEndsRecovery
 final_ends_recovery busy nr c octets s up is valid =
-    subst (Answers s (record (goes_on_from nr s) { recovery = false; peer_busy = busy; tries = 0; place = heard nr s })) (sym (row_is c octets s up (says busy false nr true) is)) (final_row c octets s busy nr up valid)
+    subst (Answers s (record (goes_on_from nr s) { recovery = false; peer_busy = busy; tries = 0; place = heard nr s }))
+    (sym (row_is c octets s up (says busy false nr true) is)) (final_row c octets s busy nr up valid)
 
 ready_row : (c : LinkSettings) (octets : List ℕ) (s : LinkStation) (busy command : Bool) (nr : ℕ) → s.phase ≡ Up → is_valid nr s ≡ true
     → Answers s (record (goes_on_from nr s) { peer_busy = busy }) (closed_by c.window (row_of_frame c octets (says busy command nr false) (alone s)))
@@ -207,16 +236,19 @@ ready_row c octets s false false nr up valid = rw valid (still c.window s _ (tol
 
 pub ready_is_heard : ReadyIsHeard
 ready_is_heard busy command nr c octets s up is valid =
-    subst (Answers s (record (goes_on_from nr s) { peer_busy = busy })) (sym (row_is c octets s up (says busy command nr false) is)) (ready_row c octets s busy command nr up valid)
+    subst (Answers s (record (goes_on_from nr s) { peer_busy = busy })) (sym (row_is c octets s up (says busy command nr false) is))
+    (ready_row c octets s busy command nr up valid)
 
 rej_row : (c : LinkSettings) (octets : List ℕ) (s : LinkStation) (command : Bool) (nr : ℕ) → s.phase ≡ Up → is_valid nr s ≡ true
-    → Answers s (record (goes_on_from nr s) { peer_busy = false; place = heard nr s }) (closed_by c.window (row_of_frame c octets (rej command nr false) (alone s)))
+    → Answers s (record (goes_on_from nr s) { peer_busy = false; place = heard nr s })
+    (closed_by c.window (row_of_frame c octets (rej command nr false) (alone s)))
 rej_row c octets s true nr up valid = rw valid (still c.window s _ (goes_back (told false nr s)) (ap is_up up) refl refl refl refl refl refl refl refl refl)
 rej_row c octets s false nr up valid = rw valid (still c.window s _ (goes_back (told false nr s)) (ap is_up up) refl refl refl refl refl refl refl refl refl)
 
 pub rej_goes_back : RejGoesBack
 rej_goes_back command nr c octets s up is valid =
-    subst (Answers s (record (goes_on_from nr s) { peer_busy = false; place = heard nr s })) (sym (row_is c octets s up (rej command nr false) is)) (rej_row c octets s command nr up valid)
+    subst (Answers s (record (goes_on_from nr s) { peer_busy = false; place = heard nr s })) (sym (row_is c octets s up (rej command nr false) is))
+    (rej_row c octets s command nr up valid)
 
 -- ---- the I frame that is wanted
 
@@ -230,8 +262,13 @@ sent_first k u frame one none =
     none_is_none frame h.next (ap (λ (xs : List PlainFrame). xs ++ h.next) (sym one) ∙ sym h.out ∙ none)
 
 -- the I frame is answered by the one that goes, or by RR
-taken_by : (goes : Bool) (k nr : ℕ) (packet : List ℕ) (s : LinkStation) → s.phase ≡ Up → is_busy s ≡ false → may_send k (takes packet (acknowledged nr (alone s))).near ≡ goes
-    → (let step : LinkStep = record { side = answers k false (takes packet (acknowledged nr (alone s))); packet = Some packet; notes = record { down = None; up = false } } in
+taken_by : (goes : Bool) (k nr : ℕ) (packet : List ℕ) (s : LinkStation) → s.phase ≡ Up → is_busy s ≡ false
+    → may_send k (takes packet (acknowledged nr (alone s))).near ≡ goes
+    → (let step : LinkStep = record {
+      side = answers k false (takes packet (acknowledged nr (alone s)));
+      packet = Some packet;
+      notes = record { down = None; up = false };
+    } in
     IsTakenUp s packet (once_taken goes nr false packet s) (closed_by k step))
 taken_by true k nr packet s up free may =
     let u = takes packet (acknowledged nr (alone s)) in
@@ -274,39 +311,50 @@ wanted_row k ns nr false packet s up is =
     let free : is_busy s ≡ false = not-true _ (and_parts (not (is_busy s)) _ is).0 in
     (may_send k u.near, rw is (taken_by (may_send k u.near) k nr packet s up free refl))
 
-info_row : (c : LinkSettings) (octets : List ℕ) (ns nr : ℕ) (p : Bool) (packet : List ℕ) (s : LinkStation) → s.phase ≡ Up → frame_of (other c.role) c.longest octets ≡ Ok (info ns nr p packet) → is_valid nr s ≡ true
+info_row : (c : LinkSettings) (octets : List ℕ) (ns nr : ℕ) (p : Bool) (packet : List ℕ) (s : LinkStation) → s.phase ≡ Up
+    → frame_of (other c.role) c.longest octets ≡ Ok (info ns nr p packet) → is_valid nr s ≡ true
     → take_step c octets s ≡ closed_by c.window (hears_info c.window ns p packet (acknowledged nr (alone s)))
 info_row c octets ns nr p packet s up is valid = row_is c octets s up (info ns nr p packet) is ∙ rw valid refl
 
 pub wanted_is_taken : WantedIsTaken
 wanted_is_taken ns nr p packet c octets s up is valid wants =
-    subst (λ (step : LinkStep). (goes : Bool) × IsTakenUp s packet (once_taken goes nr p packet s) step) (sym (info_row c octets ns nr p packet s up is valid)) (wanted_row c.window ns nr p packet s up wants)
+    subst (λ (step : LinkStep). (goes : Bool) × IsTakenUp s packet (once_taken goes nr p packet s) step) (sym (info_row c octets ns nr p packet s up is valid))
+    (wanted_row c.window ns nr p packet s up wants)
 
 -- ---- any other I frame
 
 gap_by : (rejecting p : Bool) (k nr : ℕ) (s : LinkStation) → s.phase ≡ Up → is_busy s ≡ false
     → (let u : Side = acknowledged nr (alone s) in let v : Side = sends (rr false (wanted s) true) (with_near u (record u.near { said_busy = false })) in
-    Answers s (record (goes_on_from nr s) { said_busy = if not rejecting then s.said_busy else if p then false else s.said_busy; first = if not rejecting then rej false (wanted s) p ∷ [] else if p then rr false (wanted s) true ∷ [] else [] })
+    Answers s (record (goes_on_from nr s) {
+      said_busy = if not rejecting then s.said_busy else if p then false else s.said_busy;
+      first = if not rejecting
+          then rej false (wanted s) p ∷ [] else if p then rr false (wanted s) true ∷ [] else [];
+    })
     (closed_by k (quiet (if not rejecting then rejects_gap p u else if p then v else u))))
 gap_by false p k nr s up e = still k s _ (rejects_gap p (acknowledged nr (alone s))) (ap is_up up) refl refl refl refl refl refl refl refl refl
 gap_by true true k nr s up e =
-    still k s _ (sends (rr false (wanted s) true) (with_near (acknowledged nr (alone s)) (record (acknowledged nr (alone s)).near { said_busy = false }))) (ap is_up up) refl refl refl refl refl refl refl refl refl
+    still k s _ (sends (rr false (wanted s) true) (with_near (acknowledged nr (alone s)) (record (acknowledged nr (alone s)).near { said_busy = false })))
+    (ap is_up up) refl refl refl refl refl refl refl refl refl
 gap_by true false k nr s up e = still k s _ (acknowledged nr (alone s)) (ap is_up up) refl refl refl refl refl refl refl refl refl
 
 pass_by : (b p : Bool) (k nr : ℕ) (s : LinkStation) → s.phase ≡ Up → is_busy s ≡ b
-    → Answers s (record (goes_on_from nr s) { said_busy = busy_after p s; first = passed_over p s }) (closed_by k (quiet (passes_over p (acknowledged nr (alone s)))))
+    → Answers s (record (goes_on_from nr s) { said_busy = busy_after p s; first = passed_over p s })
+    (closed_by k (quiet (passes_over p (acknowledged nr (alone s)))))
 pass_by true p k nr s up e =
-    rw e (still k s _ (sends (rnr false (wanted s) p) (with_near (acknowledged nr (alone s)) (record (acknowledged nr (alone s)).near { said_busy = true }))) (ap is_up up) refl refl refl refl refl refl refl refl refl)
+    rw e (still k s _ (sends (rnr false (wanted s) p) (with_near (acknowledged nr (alone s)) (record (acknowledged nr (alone s)).near { said_busy = true })))
+    (ap is_up up) refl refl refl refl refl refl refl refl refl)
 pass_by false p k nr s up e = rw e (gap_by s.rejecting p k nr s up e)
 
 pub other_is_passed_over : OtherIsPassedOver
 other_is_passed_over ns nr p packet c octets s up is valid other_one =
-    subst (Answers s (record (goes_on_from nr s) { said_busy = busy_after p s; first = passed_over p s })) (sym (info_row c octets ns nr p packet s up is valid))
+    subst (Answers s (record (goes_on_from nr s) { said_busy = busy_after p s; first = passed_over p s }))
+    (sym (info_row c octets ns nr p packet s up is valid))
     (rw other_one (pass_by (is_busy s) p c.window nr s up refl))
 
 -- ---- timer T1
 
-fires_is : (c : LinkSettings) (s : LinkStation) → s.phase ≡ Up → s.tries < c.retries → fires c (alone s) ≡ quiet (ready true true (alone (record s { tries = s.tries + 1; recovery = true })))
+fires_is : (c : LinkSettings) (s : LinkStation) → s.phase ≡ Up → s.tries < c.retries → fires c (alone s)
+    ≡ quiet (ready true true (alone (record s { tries = s.tries + 1; recovery = true })))
 fires_is c s up few = rw (lt-ltb _ _ few) (ap (λ (p : Phase). quiet (asks_again p (with_near (alone s) (record s { tries = s.tries + 1 })))) up)
 
 asks_by : (b : Bool) (c : LinkSettings) (s : LinkStation) → s.phase ≡ Up → is_busy s ≡ b → s.tries < c.retries → Asks s (closed_by c.window (fires c (alone s)))
@@ -314,7 +362,8 @@ asks_by b c s up e few =
     subst (Asks s) (sym (closed_stays c.window (fires c (alone s)) (fires_settled c (alone s)) (fires_calm c (alone s))))
     (subst (Asks s) (sym (fires_is c s up few)) (asked b e))
   where
-    near : (b : Bool) → b ≡ is_busy s → record s { tries = s.tries + 1; recovery = true; said_busy = b } ≡ record s { tries = s.tries + 1; recovery = true; said_busy = is_busy s }
+    near : (b : Bool) → b ≡ is_busy s → record s { tries = s.tries + 1; recovery = true; said_busy = b }
+        ≡ record s { tries = s.tries + 1; recovery = true; said_busy = is_busy s }
     near b e = ap (λ (said : Bool). let z : LinkStation = record s { tries = s.tries + 1; recovery = true; said_busy = said } in z) e
 
     out : (b : Bool) → b ≡ is_busy s → says b true (wanted s) true ∷ [] ≡ says (is_busy s) true (wanted s) true ∷ []
@@ -334,31 +383,15 @@ down_declines (info ns nr true x) s e = record { near = refl; out = refl; packet
 down_declines (rr true nr true) s e = record { near = refl; out = refl; packet = refl; quiet = refl }
 down_declines (rnr true nr true) s e = record { near = refl; out = refl; packet = refl; quiet = refl }
 down_declines (rej true nr true) s e = record { near = refl; out = refl; packet = refl; quiet = refl }
-down_declines (info ns nr false x) s e = true_false (sym e)
-down_declines (rr true nr false) s e = true_false (sym e)
-down_declines (rr false nr pf) s e = true_false (sym e)
-down_declines (rnr true nr false) s e = true_false (sym e)
-down_declines (rnr false nr pf) s e = true_false (sym e)
-down_declines (rej true nr false) s e = true_false (sym e)
-down_declines (rej false nr pf) s e = true_false (sym e)
-down_declines (sabm p) s e = true_false (sym e)
-down_declines (disc p) s e = true_false (sym e)
-down_declines (ua f) s e = true_false (sym e)
-down_declines (dm f) s e = true_false (sym e)
-down_declines (frmr f why) s e = true_false (sym e)
+down_declines frame s e = true_false (sym e)
 
 closed_declines : (frame : PlainFrame) (s : LinkStation) → asks frame ≡ true → Declines s (quiet (declines frame (alone s)))
-closed_declines (info ns nr p x) s e = down_declines (info ns nr p x) s e
-closed_declines (rr command nr pf) s e = down_declines (rr command nr pf) s e
-closed_declines (rnr command nr pf) s e = down_declines (rnr command nr pf) s e
-closed_declines (rej command nr pf) s e = down_declines (rej command nr pf) s e
 closed_declines (sabm p) s e = true_false (sym e)
 closed_declines (disc p) s e = true_false (sym e)
-closed_declines (ua f) s e = true_false (sym e)
-closed_declines (dm f) s e = true_false (sym e)
-closed_declines (frmr f why) s e = true_false (sym e)
+closed_declines frame s e = down_declines frame s e
 
-out_row : (c : LinkSettings) (octets : List ℕ) (p : Phase) (s : LinkStation) → IsOut p → (frame : PlainFrame) → asks frame ≡ true → Declines s (hears c octets (Ok frame) p (alone s))
+out_row : (c : LinkSettings) (octets : List ℕ) (p : Phase) (s : LinkStation) → IsOut p → (frame : PlainFrame) → asks frame ≡ true
+    → Declines s (hears c octets (Ok frame) p (alone s))
 out_row c octets Down s out frame e = down_declines frame s e
 out_row c octets Waiting s out frame e = absurd out
 out_row c octets Up s out frame e = absurd out

@@ -1,16 +1,19 @@
 -- What each step says of whether its station is busy, and what it doesn't send to a busy peer.
-use Rattle.std.proofs.Common.{◌≡◌, ℕ, zero, suc, ◌+◌, List, [], ◌∷◌, ◌++◌, Bool, true, false, not, if◌then◌else◌, Some, Result, Ok, Err, refl, sym, ◌∙◌, subst, arith}
+use Rattle.std.proofs.Common.{◌≡◌, ℕ, zero, suc, ◌+◌, List, [], ◌∷◌, ◌++◌, Bool, true, false, not, if◌then◌else◌, Some, Result, Ok, Err, refl, sym, ◌∙◌, subst}
+use Rattle.std.proofs.Common.{arith}
 use Rattle.std.specs.Prelude.{◌||◌, nat_lt}
 use Rattle.std.proofs.lemmas.Bool.{ltb-false, le-ltb}
 use Rattle.x25_frame.specs.Frame.{PlainFrame, info, rr, rnr, rej, sabm, disc, ua, dm, frmr}
 use Rattle.x25_frame.specs.Reading.{frame_of}
 use Rattle.x25_frame.specs.declared.error.FrameError.{FrameError}
-use Rattle.x25_frame.specs.declared.error.FrameError.TheVariants.{Short, BadFcs, BadAddress, Undefined, NoInfoAllowed, TooLong}
+use Rattle.x25_frame.specs.declared.error.FrameError.TheVariants.{Undefined, NoInfoAllowed, TooLong}
 use Rattle.x25_link.specs.declared.phase.Phase.{Phase}
 use Rattle.x25_link.specs.declared.phase.Phase.TheVariants.{Up}
 use Rattle.x25_link.specs.declared.phase.Reason.TheVariants.{Disc, Dm, FrmrSent, FrmrGot, Reset, Retries}
-use Rattle.x25_link.specs.Station.{LinkSettings, LinkStation, Side, is_busy, wanted, with_near, sends, ready, next_frame, send_next, may_send, pumped, owes_ready, finished, ended}
-use Rattle.x25_link.specs.Hearing.{LinkStep, quiet, leaves, other, is_valid, acknowledged, is_taken, takes, answers, passes_over, peer_is, goes_back, polls, row_of_frame, row_of}
+use Rattle.x25_link.specs.Station.{LinkSettings, LinkStation, Side, is_busy, wanted, with_near, sends, ready, next_frame, send_next, may_send, pumped}
+use Rattle.x25_link.specs.Station.{owes_ready, finished, ended}
+use Rattle.x25_link.specs.Hearing.{LinkStep, quiet, leaves, other, is_valid, acknowledged, is_taken, takes, answers, passes_over, peer_is, goes_back, polls}
+use Rattle.x25_link.specs.Hearing.{row_of_frame, row_of}
 use Rattle.x25_link.specs.Link.{alone, hears, puts, fires, asks_again}
 use Rattle.x25_link.specs.laws.NoteLaw.{IsQuiet}
 use Rattle.x25_link.specs.laws.BusyLaw.{said_last, says_free, NoInfo, Says, TakeSaysBusy, PutSaysBusy, TimerSaysBusy}
@@ -22,39 +25,20 @@ use Rattle.x25_link.proofs.rows.WindowRows.{up_is}
 
 last_more : (b : Bool) (fs es : List PlainFrame) → said_last b (fs ++ es) ≡ said_last (said_last b fs) es
 last_more b [] es = refl
-last_more b (info ns nr p x ∷ fs) es = last_more b fs es
 last_more b (rr command nr pf ∷ fs) es = last_more false fs es
 last_more b (rnr command nr pf ∷ fs) es = last_more true fs es
-last_more b (rej command nr pf ∷ fs) es = last_more b fs es
-last_more b (sabm p ∷ fs) es = last_more b fs es
-last_more b (disc p ∷ fs) es = last_more b fs es
-last_more b (ua p ∷ fs) es = last_more b fs es
-last_more b (dm p ∷ fs) es = last_more b fs es
-last_more b (frmr p why ∷ fs) es = last_more b fs es
+last_more b (frame ∷ fs) es = last_more b fs es
 
 free_more : (fs es : List PlainFrame) → says_free (fs ++ es) ≡ (says_free fs || says_free es)
 free_more [] es = refl
-free_more (info ns nr p x ∷ fs) es = free_more fs es
 free_more (rr command nr pf ∷ fs) es = refl
-free_more (rnr command nr pf ∷ fs) es = free_more fs es
 free_more (rej command nr pf ∷ fs) es = refl
-free_more (sabm p ∷ fs) es = free_more fs es
-free_more (disc p ∷ fs) es = free_more fs es
-free_more (ua p ∷ fs) es = free_more fs es
-free_more (dm p ∷ fs) es = free_more fs es
-free_more (frmr p why ∷ fs) es = free_more fs es
+free_more (frame ∷ fs) es = free_more fs es
 
 none_more : (fs es : List PlainFrame) → NoInfo fs → NoInfo es → NoInfo (fs ++ es)
 none_more [] es h g = g
 none_more (info ns nr p x ∷ fs) es h g = absurd h
-none_more (rr command nr pf ∷ fs) es h g = none_more fs es h g
-none_more (rnr command nr pf ∷ fs) es h g = none_more fs es h g
-none_more (rej command nr pf ∷ fs) es h g = none_more fs es h g
-none_more (sabm p ∷ fs) es h g = none_more fs es h g
-none_more (disc p ∷ fs) es h g = none_more fs es h g
-none_more (ua p ∷ fs) es h g = none_more fs es h g
-none_more (dm p ∷ fs) es h g = none_more fs es h g
-none_more (frmr p why ∷ fs) es h g = none_more fs es h g
+none_more (frame ∷ fs) es h g = none_more fs es h g
 
 or_none : (b : Bool) → (b || false) ≡ b
 or_none true = refl
@@ -72,7 +56,8 @@ module _ (before : Bool) where
 
   S-begins : (t : Side) → t.out ≡ [] → t.near.said_busy ≡ before → S t
   S-begins t none same =
-      subst (λ (fs : List PlainFrame). Says before t.near.said_busy (is_busy t.near) t.near.peer_busy fs) (sym none) (record { said = same; free = λ e. true_false (sym e); held = λ _. tt })
+      subst (λ (fs : List PlainFrame). Says before t.near.said_busy (is_busy t.near) t.near.peer_busy fs) (sym none)
+      (record { said = same; free = λ e. true_false (sym e); held = λ _. tt })
 
   S-ready : (command pf : Bool) (t : Side) → S t → S (ready command pf t)
   S-ready command pf t h =
@@ -100,7 +85,8 @@ module _ (before : Bool) where
   unfolding pumped
   S-pumped zero k t h = h
   S-pumped (suc n) k t h =
-      S-if (may_send k (pumped n k t).near) (send_next (pumped n k t)) (pumped n k t) (λ may. S-send_next (pumped n k t) (open_is k (pumped n k t).near may).peer_busy (S-pumped n k t h)) (λ _. S-pumped n k t h)
+      S-if (may_send k (pumped n k t).near) (send_next (pumped n k t)) (pumped n k t)
+      (λ may. S-send_next (pumped n k t) (open_is k (pumped n k t).near may).peer_busy (S-pumped n k t h)) (λ _. S-pumped n k t h)
 
   S-finished : (t : Side) → S t → S (finished t)
   S-finished t h = S-if (owes_ready t.near) _ _ (λ _. S-ready false false t h) (λ _. h)
@@ -110,7 +96,8 @@ module _ (before : Bool) where
 
   S-answers : (k : ℕ) (p : Bool) (t : Side) → S t → S (answers k p t)
   S-answers k true t h = S-ready false true t h
-  S-answers k false t h = S-if (may_send k t.near) (send_next t) (ready false false t) (λ may. S-send_next t (open_is k t.near may).peer_busy h) (λ _. S-ready false false t h)
+  S-answers k false t h = S-if (may_send k t.near) (send_next t) (ready false false t) (λ may. S-send_next t (open_is k t.near may).peer_busy h)
+      (λ _. S-ready false false t h)
 
   S-rejects : (p : Bool) (t : Side) → is_busy t.near ≡ false → S t → S (sends (rej false (wanted t.near) p) (with_near t (record t.near { rejecting = true })))
   S-rejects p t free h = record {
@@ -121,7 +108,8 @@ module _ (before : Bool) where
 
   S-passes_over : (p : Bool) (t : Side) → S t → S (passes_over p t)
   S-passes_over p t h =
-      S-if (is_busy t.near) _ _ (λ _. S-ready false p t h) (λ free. S-if (not t.near.rejecting) _ _ (λ _. S-rejects p t free h) (λ _. S-if p _ _ (λ _. S-ready false true t h) (λ _. h)))
+      S-if (is_busy t.near) _ _ (λ _. S-ready false p t h)
+      (λ free. S-if (not t.near.rejecting) _ _ (λ _. S-rejects p t free h) (λ _. S-if p _ _ (λ _. S-ready false true t h) (λ _. h)))
 
   S-polls : (command pf : Bool) (t : Side) → S t → S (polls command pf t)
   S-polls true true t h = S-ready false true t h
@@ -143,7 +131,8 @@ frame_row c octets (info ns nr p packet) s =
     let u = acknowledged nr (alone s) in
     let begins = S-begins s.said_busy u refl refl in
     row_if s (is_valid nr s) _ _
-    (row_if s (is_taken ns u.near) _ _ (λ _. S-answers s.said_busy c.window p (takes packet u) (S-begins s.said_busy (takes packet u) refl refl)) (λ _. S-passes_over s.said_busy p u begins))
+    (row_if s (is_taken ns u.near) _ _ (λ _. S-answers s.said_busy c.window p (takes packet u) (S-begins s.said_busy (takes packet u) refl refl))
+    (λ _. S-passes_over s.said_busy p u begins))
     (λ e. noted_quiet FrmrSent false e)
 frame_row c octets (rr command nr pf) s =
     let u = peer_is false (acknowledged nr (alone s)) in
@@ -162,14 +151,13 @@ frame_row c octets (frmr f why) s = λ e. noted_quiet FrmrGot false e
 
 read_row : (c : LinkSettings) (octets : List ℕ) (read : Result PlainFrame FrameError) (s : LinkStation) → Row s (row_of c octets read (alone s))
 read_row c octets (Ok frame) s = frame_row c octets frame s
-read_row c octets (Err Short) s = λ _. S-begins s.said_busy (alone s) refl refl
-read_row c octets (Err BadFcs) s = λ _. S-begins s.said_busy (alone s) refl refl
-read_row c octets (Err BadAddress) s = λ _. S-begins s.said_busy (alone s) refl refl
 read_row c octets (Err (Undefined control)) s = λ e. noted_quiet FrmrSent false e
 read_row c octets (Err (NoInfoAllowed control)) s = λ e. noted_quiet FrmrSent false e
 read_row c octets (Err TooLong) s = λ e. noted_quiet FrmrSent false e
+read_row c octets (Err x) s = λ _. S-begins s.said_busy (alone s) refl refl
 
-hears_row : (c : LinkSettings) (octets : List ℕ) (read : Result PlainFrame FrameError) (s : LinkStation) (p : Phase) → p ≡ Up → Row s (hears c octets read p (alone s))
+hears_row : (c : LinkSettings) (octets : List ℕ) (read : Result PlainFrame FrameError) (s : LinkStation) (p : Phase) → p ≡ Up
+    → Row s (hears c octets read p (alone s))
 hears_row c octets read s p is = subst (λ (z : Phase). Row s (hears c octets read z (alone s))) (sym is) (read_row c octets read s)
 
 -- ---- the laws
@@ -191,4 +179,5 @@ pub timer_says_busy : TimerSaysBusy
 timer_says_busy c s up still =
     let t = with_near (alone s) (record s { tries = s.tries + 1 }) in
     S-ended s.said_busy c.window (fires c (alone s)).side
-    (row_if s (nat_lt s.tries c.retries) (quiet (asks_again s.phase t)) (leaves Retries (alone s)) (λ _. asks_row s t s.phase (up_is s.phase up) refl refl) (λ e. noted_quiet Retries false e) still)
+    (row_if s (nat_lt s.tries c.retries) (quiet (asks_again s.phase t)) (leaves Retries (alone s)) (λ _. asks_row s t s.phase (up_is s.phase up) refl refl)
+    (λ e. noted_quiet Retries false e) still)

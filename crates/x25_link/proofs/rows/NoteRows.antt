@@ -1,24 +1,29 @@
 -- What the notes of each step say of the station after it.
-use Rattle.std.proofs.Common.{length, subst, ◌≡◌, ℕ, zero, suc, ◌+◌, ◌≤◌, List, [], ◌∷◌, ◌++◌, Bool, true, false, not, if◌then◌else◌, Option, Some, None, option_to_list, Result, Ok, Err, refl, sym, ap, ◌∙◌, arith, append-nil}
+use Rattle.std.proofs.Common.{length, subst, ◌≡◌, ℕ, zero, suc, ◌+◌, ◌≤◌, List, [], ◌∷◌, ◌++◌, Bool, true, false, not, if◌then◌else◌, Option, Some, None}
+use Rattle.std.proofs.Common.{option_to_list, Result, Ok, Err, refl, sym, ap, ◌∙◌, arith, append-nil}
 use Rattle.std.proofs.lemmas.Option.{none-some}
-use Rattle.std.specs.Prelude.{nat_lt}
+use Rattle.std.specs.Prelude.{◌&&◌, nat_lt}
 use Rattle.std.proofs.Math.Nat.{le_trans}
 use Rattle.std.proofs.lemmas.Bool.{ltb-false, not-true, and_parts}
 use Rattle.x25_frame.specs.Frame.{PlainFrame, info, rr, rnr, rej, sabm, disc, ua, dm, frmr}
+use Rattle.x25_frame.specs.Spelling.{is_command, poll_or_final}
 use Rattle.x25_frame.specs.Reading.{frame_of}
 use Rattle.x25_frame.specs.declared.error.FrameError.{FrameError}
-use Rattle.x25_frame.specs.declared.error.FrameError.TheVariants.{Short, BadFcs, BadAddress, Undefined, NoInfoAllowed, TooLong}
+use Rattle.x25_frame.specs.declared.error.FrameError.TheVariants.{Undefined, NoInfoAllowed, TooLong}
 use Rattle.x25_link.specs.declared.phase.Phase.{Phase}
 use Rattle.x25_link.specs.declared.phase.Phase.TheVariants.{Down, Waiting, Up, Closed}
 use Rattle.x25_link.specs.declared.phase.Reason.{Reason}
 use Rattle.x25_link.specs.declared.phase.Reason.TheVariants.{Disc, Dm, FrmrSent, FrmrGot, Retries, Counts, Local, Reset}
 use Rattle.x25_link.specs.declared.phase.Notes.{Notes}
 use Rattle.x25_link.specs.Outgoing.{no_packet, waits}
-use Rattle.x25_link.specs.Station.{LinkSettings, LinkStation, Side, lists_of, no_packets, fresh, is_up, is_busy, with_near, sends, ready, send_next, may_send, pumped, owes_ready, ended}
-use Rattle.x25_link.specs.Hearing.{LinkStep, quiet, leaves, other, rejects, is_valid, acknowledged, is_taken, takes, answers, passes_over, reject_of, hears_info, peer_is, goes_back, polls, numbered, row_of_frame, row_of}
+use Rattle.x25_link.specs.Station.{LinkSettings, LinkStation, Side, lists_of, no_packets, fresh, is_up, is_busy, with_near, sends, ready, send_next, may_send}
+use Rattle.x25_link.specs.Station.{pumped, owes_ready, ended}
+use Rattle.x25_link.specs.Hearing.{LinkStep, quiet, leaves, other, rejects, is_valid, acknowledged, is_taken, takes, answers, passes_over, reject_of}
+use Rattle.x25_link.specs.Hearing.{hears_info, peer_is, goes_back, polls, numbered, row_of_frame, row_of}
 use Rattle.x25_link.specs.Link.{alone, closed_by, hears, puts, connects, asks_again, fires, disconnects, when_down, when_waiting, relinks}
 use Rattle.x25_link.specs.laws.SetUp.{reset_from}
-use Rattle.x25_link.specs.laws.NoteLaw.{Tells, Continues, HandsUp, TakeTells, TakeContinues, TakeHandsUp, TimerTells, TimerContinues, PutTells, ConnectTells, DisconnectTells, AbandonTells, RelinkTells}
+use Rattle.x25_link.specs.laws.NoteLaw.{Tells, Continues, HandsUp, TakeTells, TakeContinues, TakeHandsUp, TimerTells, TimerContinues, PutTells, ConnectTells}
+use Rattle.x25_link.specs.laws.NoteLaw.{DisconnectTells, AbandonTells, RelinkTells}
 use Rattle.x25_link.specs.laws.LinkLaws.{ended_lists, ended_phase}
 use Rattle.x25_link.proofs.EndLemmas.{true_false, none_open, ended_stays}
 
@@ -27,7 +32,8 @@ none_is_some reason e = absurd (none-some reason e)
 
 -- ---- what the end of a step keeps
 
-sent_if : (b : Bool) (u v : Side) (n : ℕ) → n ≤ u.near.outgoing.sent → n ≤ v.near.outgoing.sent → n ≤ (let w : Side = if b then u else v in w.near.outgoing.sent)
+sent_if : (b : Bool) (u v : Side) (n : ℕ) → n ≤ u.near.outgoing.sent → n ≤ v.near.outgoing.sent → n
+    ≤ (let w : Side = if b then u else v in w.near.outgoing.sent)
 sent_if true u v n e f = e
 sent_if false u v n e f = f
 
@@ -41,7 +47,8 @@ pumped_sent (suc n) k t =
 ended_sent : (k : ℕ) (t : Side) → t.near.outgoing.sent ≤ (ended k t).near.outgoing.sent
 ended_sent k t =
     let before = pumped_sent 7 k t in
-    sent_if (owes_ready (pumped 7 k t).near) (ready false false (pumped 7 k t)) (pumped 7 k t) _ (sent_if (is_busy (pumped 7 k t).near) _ _ _ before before) before
+    sent_if (owes_ready (pumped 7 k t).near) (ready false false (pumped 7 k t)) (pumped 7 k t) _ (sent_if (is_busy (pumped 7 k t).near) _ _ _ before before)
+    before
 
 ended_waits : (k : ℕ) (t : Side) → waits (ended k t).near.outgoing ≤ waits t.near.outgoing
 ended_waits k t =
@@ -85,7 +92,8 @@ hands_from k s step h = record {
 
 -- ---- rows in which Up is left, or a link is set up
 
-pub noted_quiet : {A : Type 0} (reason : Reason) (up : Bool) → (let n : Notes = record { down = Some reason; up = up } in n) ≡ record { down = None; up = false } → A
+pub noted_quiet : {A : Type 0} (reason : Reason) (up : Bool) → (let n : Notes = record { down = Some reason; up = up } in n)
+    ≡ record { down = None; up = false } → A
 noted_quiet reason up e = none_is_some reason (sym (ap (λ (n : Notes). n.down) e))
 
 pub up_quiet : {A : Type 0} (down : Option Reason) → (let n : Notes = record { down = down; up = true } in n) ≡ record { down = None; up = false } → A
@@ -175,7 +183,8 @@ begins_same s = record { phase = refl; given = refl; taken = sym (append-nil s.t
 heard_same : (s : LinkStation) (nr : ℕ) → Same s [] (acknowledged nr (alone s))
 heard_same s nr = record { phase = refl; given = refl; taken = sym (append-nil s.taken); acked = omega arith; sent = omega arith }
 
-quiet_tells : (s : LinkStation) (t : Side) (packet : Option (List ℕ)) → is_up t.near.phase ≡ is_up s.phase → (is_up s.phase ≡ false → lists_of s ≡ no_packets → lists_of t.near ≡ no_packets)
+quiet_tells : (s : LinkStation) (t : Side) (packet : Option (List ℕ)) → is_up t.near.phase ≡ is_up s.phase
+    → (is_up s.phase ≡ false → lists_of s ≡ no_packets → lists_of t.near ≡ no_packets)
     → Tells s (let step : LinkStep = record { side = t; packet = packet; notes = record { down = None; up = false } } in step)
 quiet_tells s t packet same empty = record {
   fresh_up = λ e. true_false (sym e);
@@ -220,7 +229,12 @@ pub record RowTells (s : LinkStation) (step : LinkStep) : Type 0 where
   pub hands : HandsUp s step
 
 hands_none : (s : LinkStation) (step : LinkStep) → step.packet ≡ None → HandsUp s step
-hands_none s step e = record { up = λ x f. never x (sym e ∙ f); few = λ x f. never x (sym e ∙ f); few_after = λ x f. never x (sym e ∙ f); quiet = λ x f. never x (sym e ∙ f) }
+hands_none s step e = record {
+  up = λ x f. never x (sym e ∙ f);
+  few = λ x f. never x (sym e ∙ f);
+  few_after = λ x f. never x (sym e ∙ f);
+  quiet = λ x f. never x (sym e ∙ f);
+}
   where
     never : {A : Type 0} (x : List ℕ) → (let p : Option (List ℕ) = None in p) ≡ Some x → A
     never x e = absurd (no e)
@@ -247,15 +261,18 @@ row_if s false x y f g = g
 
 -- ---- Up
 
-row_numbered : (c : LinkSettings) (octets : List ℕ) (nr : ℕ) (row : Side → LinkStep) (s : LinkStation) → RowTells s (row (acknowledged nr (alone s))) → RowTells s (numbered c octets nr row (alone s))
+row_numbered : (c : LinkSettings) (octets : List ℕ) (nr : ℕ) (row : Side → LinkStep) (s : LinkStation) → RowTells s (row (acknowledged nr (alone s)))
+    → RowTells s (numbered c octets nr row (alone s))
 row_numbered c octets nr row s h =
-    row_if s (is_valid nr s) (row (acknowledged nr (alone s))) (rejects c octets 8 (alone s)) h (row_leaves s FrmrSent (sends (reject_of c octets 8 s) (alone s)))
+    row_if s (is_valid nr s) (row (acknowledged nr (alone s))) (rejects c octets 8 (alone s)) h
+    (row_leaves s FrmrSent (sends (reject_of c octets 8 s) (alone s)))
 
 info_tells : (k ns nr : ℕ) (p : Bool) (packet : List ℕ) (s : LinkStation) (b : Bool) → s.phase ≡ Up → is_taken ns (acknowledged nr (alone s)).near ≡ b
     → RowTells s (hears_info k ns p packet (acknowledged nr (alone s)))
 info_tells k ns nr p packet s true e is =
     let t : Side = takes packet (acknowledged nr (alone s)) in
-    let same : Same s (packet ∷ []) (answers k p t) = S-answers s (packet ∷ []) k p t (record { phase = refl; given = refl; taken = refl; acked = omega arith; sent = omega arith }) in
+    let same : Same s (packet ∷ []) (answers k p t) = S-answers s (packet ∷ []) k p t
+    (record { phase = refl; given = refl; taken = refl; acked = omega arith; sent = omega arith }) in
     let given = ap length same.given in
     let sent = same.sent in
     let both = and_parts _ _ is in
@@ -286,14 +303,13 @@ frame_tells c octets (ua f) s e = row_still s (alone s) refl
 frame_tells c octets (dm f) s e = row_leaves s Dm (alone s)
 frame_tells c octets (frmr f why) s e = row_leaves s FrmrGot (alone s)
 
-read_tells : (c : LinkSettings) (octets : List ℕ) (read : Result PlainFrame FrameError) (s : LinkStation) → s.phase ≡ Up → RowTells s (row_of c octets read (alone s))
+read_tells : (c : LinkSettings) (octets : List ℕ) (read : Result PlainFrame FrameError) (s : LinkStation) → s.phase ≡ Up
+    → RowTells s (row_of c octets read (alone s))
 read_tells c octets (Ok frame) s e = frame_tells c octets frame s e
-read_tells c octets (Err Short) s e = row_still s (alone s) refl
-read_tells c octets (Err BadFcs) s e = row_still s (alone s) refl
-read_tells c octets (Err BadAddress) s e = row_still s (alone s) refl
 read_tells c octets (Err (Undefined control)) s e = row_leaves s FrmrSent (sends (reject_of c octets 1 s) (alone s))
 read_tells c octets (Err (NoInfoAllowed control)) s e = row_leaves s FrmrSent (sends (reject_of c octets 3 s) (alone s))
 read_tells c octets (Err TooLong) s e = row_leaves s FrmrSent (sends (reject_of c octets 4 s) (alone s))
+read_tells c octets (Err x) s e = row_still s (alone s) refl
 
 -- ---- the other phases
 
@@ -302,36 +318,23 @@ declines_tells true s = row_still s (sends (dm true) (alone s)) refl
 declines_tells false s = row_still s (alone s) refl
 
 down_tells : (frame : PlainFrame) (s : LinkStation) → s.phase ≡ Down → RowTells s (when_down frame (alone s))
-down_tells (info ns nr p x) s e = declines_tells _ s
-down_tells (rr command nr pf) s e = declines_tells _ s
-down_tells (rnr command nr pf) s e = declines_tells _ s
-down_tells (rej command nr pf) s e = declines_tells _ s
 down_tells (sabm p) s e = row_sets_up s None _ (sym (ap reset_from e))
 down_tells (disc p) s e = row_still s (sends (dm p) (alone s)) refl
-down_tells (ua f) s e = declines_tells false s
-down_tells (dm f) s e = declines_tells false s
-down_tells (frmr f why) s e = declines_tells false s
+down_tells frame s e = declines_tells (is_command frame && poll_or_final frame) s
 
 waiting_tells : (frame : PlainFrame) (s : LinkStation) → s.phase ≡ Waiting → RowTells s (when_waiting frame (alone s))
-waiting_tells (info ns nr p x) s e = row_still s (alone s) refl
-waiting_tells (rr command nr pf) s e = row_still s (alone s) refl
-waiting_tells (rnr command nr pf) s e = row_still s (alone s) refl
-waiting_tells (rej command nr pf) s e = row_still s (alone s) refl
+waiting_tells (ua true) s e = row_sets_up s None _ (sym (ap reset_from e))
 waiting_tells (sabm p) s e = row_still s (sends (ua p) (alone s)) refl
 waiting_tells (disc p) s e = row_still s (sends (dm p) (alone s)) refl
-waiting_tells (ua true) s e = row_sets_up s None _ (sym (ap reset_from e))
-waiting_tells (ua false) s e = row_still s (alone s) refl
-waiting_tells (dm f) s e = row_still s (alone s) refl
-waiting_tells (frmr f why) s e = row_still s (alone s) refl
+waiting_tells frame s e = row_still s (alone s) refl
 
-hears_tells : (c : LinkSettings) (octets : List ℕ) (read : Result PlainFrame FrameError) (p : Phase) (s : LinkStation) → s.phase ≡ p → RowTells s (hears c octets read p (alone s))
+hears_tells : (c : LinkSettings) (octets : List ℕ) (read : Result PlainFrame FrameError) (p : Phase) (s : LinkStation) → s.phase ≡ p
+    → RowTells s (hears c octets read p (alone s))
 hears_tells c octets (Ok frame) Down s e = down_tells frame s e
-hears_tells c octets (Err x) Down s e = row_still s (alone s) refl
 hears_tells c octets (Ok frame) Waiting s e = waiting_tells frame s e
-hears_tells c octets (Err x) Waiting s e = row_still s (alone s) refl
 hears_tells c octets read Up s e = read_tells c octets read s e
 hears_tells c octets (Ok frame) Closed s e = declines_tells _ s
-hears_tells c octets (Err x) Closed s e = row_still s (alone s) refl
+hears_tells c octets (Err x) p s e = row_still s (alone s) refl
 
 -- ---- calls
 
@@ -357,9 +360,7 @@ row_quiet s n low = record {
 
 asks_tells : (s : LinkStation) (n : ℕ) (p : Phase) → s.phase ≡ p → RowTells s (quiet (asks_again p (alone (record s { tries = n }))))
 asks_tells s n Up e = row_same s _ e (S-ready s [] true true (with_near (alone s) (record s { tries = n; recovery = true })) (begins_same s))
-asks_tells s n Down e = row_quiet s n (ap is_up e)
-asks_tells s n Waiting e = row_quiet s n (ap is_up e)
-asks_tells s n Closed e = row_quiet s n (ap is_up e)
+asks_tells s n p e = row_quiet s n (ap is_up e)
 
 timer_by : (b : Bool) (c : LinkSettings) (s : LinkStation) → nat_lt s.tries c.retries ≡ b → RowTells s (fires c (alone s))
 timer_by true c s is = rw is (asks_tells s (s.tries + 1) s.phase refl)

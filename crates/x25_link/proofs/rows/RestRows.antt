@@ -1,19 +1,18 @@
 -- Each step of a station says all that it may, and when a station is at rest.
-use Rattle.std.proofs.Common.{◌≡◌, ℕ, suc, zero, ◌+◌, ◌<◌, ◌≤◌, List, length, Bool, true, false, not, if◌then◌else◌, Result, Ok, Err, refl, sym, ap, ◌∙◌, subst, arith}
+use Rattle.std.proofs.Common.{◌≡◌, ℕ, suc, zero, ◌+◌, ◌<◌, ◌≤◌, length, Bool, true, false, if◌then◌else◌, refl, sym, ap, ◌∙◌, subst, arith}
 use Rattle.std.specs.Prelude.{◌&&◌, ◌||◌, ◌==◌, nat_lt}
 use Rattle.std.proofs.lemmas.Bool.{lt-ltb, le-ltb, ltb-false, eqb-true, eq-eqb, and_parts}
-use Rattle.x25_frame.specs.Frame.{PlainFrame, info, rr, rnr, rej, sabm, disc, ua, dm, frmr}
 use Rattle.x25_frame.specs.Reading.{frame_of}
-use Rattle.x25_frame.specs.declared.error.FrameError.{FrameError}
-use Rattle.x25_frame.specs.declared.error.FrameError.TheVariants.{Short, BadFcs, BadAddress, Undefined, NoInfoAllowed, TooLong}
 use Rattle.x25_link.specs.declared.phase.Phase.{Phase}
-use Rattle.x25_link.specs.declared.phase.Phase.TheVariants.{Down, Waiting, Up, Closed}
+use Rattle.x25_link.specs.declared.phase.Phase.TheVariants.{Up}
 use Rattle.x25_link.specs.declared.phase.Reason.TheVariants.{Retries, Counts}
 use Rattle.x25_link.specs.Outgoing.{waits, is_open}
-use Rattle.x25_link.specs.Station.{LinkSettings, LinkStation, Side, is_up, is_busy, with_near, ready, send_next, may_send, pumped, owes_ready, ended}
-use Rattle.x25_link.specs.Hearing.{LinkStep, quiet, leaves, other, is_valid, acknowledged, is_taken, takes, answers, passes_over, peer_is, goes_back, polls, row_of_frame, row_of}
-use Rattle.x25_link.specs.Link.{alone, closed_by, hears, when_down, when_waiting, puts, fires, asks_again, connects, disconnects, timer_runs, is_idle}
-use Rattle.x25_link.specs.laws.RestLaw.{HasSaidAll, TakeSaysAll, PutSaysAll, TimerSaysAll, ConnectSaysAll, DisconnectSaysAll, AbandonSaysAll, NoTimerIsIdle, AllHeardIsRest, RestIsAllHeard}
+use Rattle.x25_link.specs.Station.{LinkStation, Side, is_up, is_busy, with_near, ready, send_next, may_send, pumped, owes_ready, ended}
+use Rattle.x25_link.specs.Hearing.{LinkStep, quiet, leaves, other, acknowledged}
+use Rattle.x25_link.specs.Link.{alone, closed_by, hears, puts, fires, asks_again, connects, disconnects, timer_runs, is_idle}
+use Rattle.x25_link.specs.laws.RestLaw.{HasSaidAll, TakeSaysAll, PutSaysAll, TimerSaysAll, ConnectSaysAll, DisconnectSaysAll, AbandonSaysAll, NoTimerIsIdle}
+use Rattle.x25_link.specs.laws.RestLaw.{AllHeardIsRest, RestIsAllHeard}
+use Rattle.x25_link.proofs.FrameCount.{Few, hears_few}
 use Rattle.x25_link.proofs.EndLemmas.{true_false, closed_is, ended_settled, ended_calm}
 use Rattle.x25_link.proofs.rows.WindowRows.{closed_stays, up_is}
 
@@ -35,26 +34,12 @@ L-send_next t h = omega (arith, h)
 L-pumped : (n k : ℕ) (t : Side) → Low t → Low (pumped n k t)
 unfolding pumped
 L-pumped zero k t h = h
-L-pumped (suc n) k t h = L-if (may_send k (pumped n k t).near) (send_next (pumped n k t)) (pumped n k t) (L-send_next (pumped n k t) (L-pumped n k t h)) (L-pumped n k t h)
+L-pumped (suc n) k t h = L-if (may_send k (pumped n k t).near) (send_next (pumped n k t)) (pumped n k t) (L-send_next (pumped n k t) (L-pumped n k t h))
+    (L-pumped n k t h)
 
 L-ended : (k : ℕ) (t : Side) → Low t → Low (ended k t)
-L-ended k t h = L-if (owes_ready (pumped 7 k t).near) (ready false false (pumped 7 k t)) (pumped 7 k t) (L-ready false false (pumped 7 k t) (L-pumped 7 k t h)) (L-pumped 7 k t h)
-
-L-acknowledged : (nr : ℕ) (t : Side) → Low (acknowledged nr t)
-L-acknowledged nr t = omega arith
-
-L-answers : (k : ℕ) (p : Bool) (t : Side) → Low t → Low (answers k p t)
-L-answers k true t h = L-ready false true t h
-L-answers k false t h = L-if (may_send k t.near) (send_next t) (ready false false t) (L-send_next t h) (L-ready false false t h)
-
-L-passes_over : (p : Bool) (t : Side) → Low t → Low (passes_over p t)
-L-passes_over p t h = L-if (is_busy t.near) _ _ (L-ready false p t h) (L-if (not t.near.rejecting) _ _ h (L-if p _ _ (L-ready false true t h) h))
-
-L-polls : (command pf : Bool) (t : Side) → Low t → Low (polls command pf t)
-L-polls true true t h = L-ready false true t h
-L-polls true false t h = h
-L-polls false true t h = omega arith
-L-polls false false t h = h
+L-ended k t h = L-if (owes_ready (pumped 7 k t).near) (ready false false (pumped 7 k t)) (pumped 7 k t) (L-ready false false (pumped 7 k t) (L-pumped 7 k t h))
+    (L-pumped 7 k t h)
 
 low_step : (b : Bool) (x y : LinkStep) → Low x.side → Low y.side → (let z : LinkStep = if b then x else y in Low z.side)
 low_step true x y f g = f
@@ -62,60 +47,6 @@ low_step false x y f g = g
 
 none_low : 0 ≤ 0
 none_low = omega arith
-
-frame_low : (c : LinkSettings) (octets : List ℕ) (frame : PlainFrame) (t : Side) → Low t → Low (row_of_frame c octets frame t).side
-frame_low c octets (info ns nr p packet) t h =
-    let u = acknowledged nr t in
-    low_step (is_valid nr t.near) _ _ (low_step (is_taken ns u.near) _ _ (L-answers c.window p (takes packet u) (L-acknowledged nr t)) (L-passes_over p u (L-acknowledged nr t))) none_low
-frame_low c octets (rr command nr pf) t h = low_step (is_valid nr t.near) _ _ (L-polls command pf (peer_is false (acknowledged nr t)) (L-acknowledged nr t)) none_low
-frame_low c octets (rnr command nr pf) t h = low_step (is_valid nr t.near) _ _ (L-polls command pf (peer_is true (acknowledged nr t)) (L-acknowledged nr t)) none_low
-frame_low c octets (rej command nr pf) t h = low_step (is_valid nr t.near) _ _ (L-polls command pf (goes_back (peer_is false (acknowledged nr t))) (omega arith)) none_low
-frame_low c octets (sabm p) t h = none_low
-frame_low c octets (disc p) t h = none_low
-frame_low c octets (ua f) t h = h
-frame_low c octets (dm f) t h = none_low
-frame_low c octets (frmr f why) t h = none_low
-
-read_low : (c : LinkSettings) (octets : List ℕ) (read : Result PlainFrame FrameError) (t : Side) → Low t → Low (row_of c octets read t).side
-read_low c octets (Ok frame) t h = frame_low c octets frame t h
-read_low c octets (Err Short) t h = h
-read_low c octets (Err BadFcs) t h = h
-read_low c octets (Err BadAddress) t h = h
-read_low c octets (Err (Undefined control)) t h = none_low
-read_low c octets (Err (NoInfoAllowed control)) t h = none_low
-read_low c octets (Err TooLong) t h = none_low
-
-down_low : (frame : PlainFrame) (t : Side) → Low t → Low (when_down frame t).side
-down_low (info ns nr p x) t h = L-if _ _ t h h
-down_low (rr command nr pf) t h = L-if _ _ t h h
-down_low (rnr command nr pf) t h = L-if _ _ t h h
-down_low (rej command nr pf) t h = L-if _ _ t h h
-down_low (sabm p) t h = none_low
-down_low (disc p) t h = h
-down_low (ua f) t h = h
-down_low (dm f) t h = h
-down_low (frmr f why) t h = h
-
-waiting_low : (frame : PlainFrame) (t : Side) → Low t → Low (when_waiting frame t).side
-waiting_low (info ns nr p x) t h = h
-waiting_low (rr command nr pf) t h = h
-waiting_low (rnr command nr pf) t h = h
-waiting_low (rej command nr pf) t h = h
-waiting_low (sabm p) t h = h
-waiting_low (disc p) t h = h
-waiting_low (ua true) t h = none_low
-waiting_low (ua false) t h = h
-waiting_low (dm f) t h = h
-waiting_low (frmr f why) t h = h
-
-hears_low : (c : LinkSettings) (octets : List ℕ) (read : Result PlainFrame FrameError) (p : Phase) (t : Side) → Low t → Low (hears c octets read p t).side
-hears_low c octets (Ok frame) Down t h = down_low frame t h
-hears_low c octets (Err x) Down t h = h
-hears_low c octets (Ok frame) Waiting t h = waiting_low frame t h
-hears_low c octets (Err x) Waiting t h = h
-hears_low c octets read Up t h = read_low c octets read t h
-hears_low c octets (Ok frame) Closed t h = L-if _ _ t h h
-hears_low c octets (Err x) Closed t h = h
 
 -- ---- after each step
 
@@ -125,19 +56,22 @@ says_all k step small h = record { low = L-ended k step.side h; settled = ended_
 -- nothing may go where the station isn't Up
 off_says_all : (k : ℕ) (step : LinkStep) → is_up step.side.near.phase ≡ false → Low step.side → HasSaidAll k (closed_by k step).side.near
 off_says_all k step off h =
-    subst (λ (z : LinkStep). HasSaidAll k z.side.near) (sym (closed_stays k step (rw off refl) (rw off refl))) (record { low = h; settled = rw off refl; calm = rw off refl })
+    subst (λ (z : LinkStep). HasSaidAll k z.side.near) (sym (closed_stays k step (rw off refl) (rw off refl)))
+    (record { low = h; settled = rw off refl; calm = rw off refl })
 
 pub take_says_all : TakeSaysAll
-take_says_all c octets s small h = says_all c.window (hears c octets (frame_of (other c.role) c.longest octets) s.phase (alone s)) small (hears_low c octets (frame_of (other c.role) c.longest octets) s.phase (alone s) h)
+take_says_all c octets s small h =
+    let read = frame_of (other c.role) c.longest octets in
+    let heard : Few (s.outgoing.acked ≤ s.outgoing.place) 1 (hears c octets read s.phase (alone s)).side =
+    hears_few (s.outgoing.acked ≤ s.outgoing.place) c octets read s.phase (alone s) (record { few = omega arith; low = λ low. low }) in
+    says_all c.window (hears c octets read s.phase (alone s)) small (heard.low h)
 
 pub put_says_all : PutSaysAll
 put_says_all c packet s small h = says_all c.window (puts packet (alone s)) small h
 
 asks_low : (p : Phase) (t : Side) → Low t → Low (asks_again p t)
-asks_low Down t h = h
-asks_low Waiting t h = h
 asks_low Up t h = L-ready true true (with_near t (record t.near { recovery = true })) h
-asks_low Closed t h = h
+asks_low p t h = h
 
 pub timer_says_all : TimerSaysAll
 timer_says_all c s small h =
@@ -163,7 +97,8 @@ or_false false true d e = true_false e
 or_false true b d e = true_false e
 
 -- nothing waits behind V(S) where the window is open
-all_sent : (k : ℕ) (s : LinkStation) → 1 ≤ k → may_send k s ≡ false → is_up s.phase ≡ true → s.recovery ≡ false → s.peer_busy ≡ false → s.outgoing.place ≤ s.outgoing.acked → length s.outgoing.given ≤ s.outgoing.place
+all_sent : (k : ℕ) (s : LinkStation) → 1 ≤ k → may_send k s ≡ false → is_up s.phase ≡ true → s.recovery ≡ false → s.peer_busy ≡ false → s.outgoing.place
+    ≤ s.outgoing.acked → length s.outgoing.given ≤ s.outgoing.place
 all_sent k s some settled up recovery peer_busy heard =
     let shut : is_open k s.outgoing ≡ false = sym (closed_is k s up recovery peer_busy) ∙ settled in
     let room : s.outgoing.place < s.outgoing.acked + k = omega (arith, some, heard) in

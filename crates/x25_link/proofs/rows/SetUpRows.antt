@@ -1,7 +1,8 @@
 -- What a station does in set-up, row by row.
-use Rattle.std.proofs.Common.{◌≡◌, ℕ, suc, ◌+◌, List, [], ◌∷◌, Bool, true, false, if◌then◌else◌, Option, Some, None, Result, Ok, Err, refl, sym, ap, ◌∙◌, subst, arith}
+use Rattle.std.proofs.Common.{◌≡◌, ℕ, suc, ◌+◌, List, [], ◌∷◌, Bool, true, false, if◌then◌else◌, Option, Some, None, Result, Ok, Err, refl, sym, ap, ◌∙◌, subst}
+use Rattle.std.proofs.Common.{arith}
 use Rattle.std.specs.Prelude.{nat_lt}
-use Rattle.x25_frame.specs.Frame.{PlainFrame, info, rr, rnr, rej, sabm, disc, ua, dm, frmr}
+use Rattle.x25_frame.specs.Frame.{PlainFrame, sabm, disc, ua}
 use Rattle.x25_frame.specs.declared.error.FrameError.{FrameError}
 use Rattle.x25_link.specs.declared.phase.Phase.{Phase}
 use Rattle.x25_link.specs.declared.phase.Phase.TheVariants.{Down, Waiting, Up, Closed}
@@ -11,16 +12,19 @@ use Rattle.x25_link.specs.Outgoing.{no_packet}
 use Rattle.x25_link.specs.Station.{LinkSettings, LinkStation, is_up, may_send, owes_ready, fresh, with_nothing}
 use Rattle.x25_link.specs.Hearing.{LinkStep, quiet, leaves, row_of}
 use Rattle.x25_link.specs.Link.{alone, closed_by, hears, goes_up, connects, fires, disconnects, asks_again, when_waiting, when_down}
-use Rattle.x25_link.specs.laws.SetUp.{Is, waiting_after, waiting_sends, waiting_up, TakesPart, reset_from, TakeWaits, TakeSetsUp, ConnectWaits, TimerWaits, DisconnectWaits, RelinkIsTwoSteps}
+use Rattle.x25_link.specs.laws.SetUp.{Is, waiting_after, waiting_sends, waiting_up, TakesPart, reset_from, TakeWaits, TakeSetsUp, ConnectWaits, TimerWaits}
+use Rattle.x25_link.specs.laws.SetUp.{DisconnectWaits, RelinkIsTwoSteps}
 use Rattle.x25_link.proofs.EndLemmas.{none_open, ended_stays}
 use Rattle.x25_link.proofs.rows.WindowRows.{closed_stays}
 
-is_from : (k : ℕ) (near : LinkStation) (out : List PlainFrame) (down : Option Reason) (up : Bool) (step : LinkStep) → may_send k step.side.near ≡ false → owes_ready step.side.near ≡ false
+is_from : (k : ℕ) (near : LinkStation) (out : List PlainFrame) (down : Option Reason) (up : Bool) (step : LinkStep) → may_send k step.side.near ≡ false
+    → owes_ready step.side.near ≡ false
     → Is near out down up step → Is near out down up (closed_by k step)
 is_from k near out down up step settled calm h = subst (Is near out down up) (sym (closed_stays k step settled calm)) h
 
 -- nothing may go where the station isn't Up
-idle_from : (k : ℕ) (near : LinkStation) (out : List PlainFrame) (down : Option Reason) (up : Bool) (step : LinkStep) → is_up step.side.near.phase ≡ false → Is near out down up step
+idle_from : (k : ℕ) (near : LinkStation) (out : List PlainFrame) (down : Option Reason) (up : Bool) (step : LinkStep) → is_up step.side.near.phase ≡ false
+    → Is near out down up step
     → Is near out down up (closed_by k step)
 idle_from k near out down up step low h = is_from k near out down up step (rw low refl) (rw low refl) h
 
@@ -35,31 +39,28 @@ nothing_waits k s e = idle_from k _ _ _ _ (quiet (alone s)) (ap is_up e) (record
 
 waits_row : (c : LinkSettings) (octets : List ℕ) (s : LinkStation) → s.phase ≡ Waiting → (read : Result PlainFrame FrameError)
     → Is (waiting_after read s) (waiting_sends read) None (waiting_up read) (closed_by c.window (hears c octets read Waiting (alone s)))
-waits_row c octets s e (Ok (info ns nr p x)) = nothing_waits c.window s e
-waits_row c octets s e (Ok (rr command nr pf)) = nothing_waits c.window s e
-waits_row c octets s e (Ok (rnr command nr pf)) = nothing_waits c.window s e
-waits_row c octets s e (Ok (rej command nr pf)) = nothing_waits c.window s e
 waits_row c octets s e (Ok (sabm p)) =
     idle_from c.window _ _ _ _ (when_waiting (sabm p) (alone s)) (ap is_up e) (record { near = refl; out = refl; packet = refl; down = refl; up = refl })
 waits_row c octets s e (Ok (disc p)) =
     idle_from c.window _ _ _ _ (when_waiting (disc p) (alone s)) (ap is_up e) (record { near = refl; out = refl; packet = refl; down = refl; up = refl })
 waits_row c octets s e (Ok (ua true)) = fresh_from c.window _ _ (goes_up (alone s)) (record { near = refl; out = refl; packet = refl; down = refl; up = refl })
-waits_row c octets s e (Ok (ua false)) = nothing_waits c.window s e
-waits_row c octets s e (Ok (dm f)) = nothing_waits c.window s e
-waits_row c octets s e (Ok (frmr f why)) = nothing_waits c.window s e
+waits_row c octets s e (Ok frame) = nothing_waits c.window s e
 waits_row c octets s e (Err x) = nothing_waits c.window s e
 
 pub take_waits : TakeWaits
 take_waits c octets s e read is =
-    rw (sym is) (subst (λ (p : Phase). Is (waiting_after read s) (waiting_sends read) None (waiting_up read) (closed_by c.window (hears c octets read p (alone s)))) (sym e) (waits_row c octets s e read))
+    rw (sym is) (subst (λ (p : Phase). Is (waiting_after read s) (waiting_sends read) None (waiting_up read)
+    (closed_by c.window (hears c octets read p (alone s)))) (sym e) (waits_row c octets s e read))
 
 -- ---- SABM in Down and in Up
 
 sets_up_row : (c : LinkSettings) (octets : List ℕ) (s : LinkStation) (p : Bool) (phase : Phase) → TakesPart phase
     → Is fresh (ua p ∷ []) (reset_from phase) true (closed_by c.window (hears c octets (Ok (sabm p)) phase (alone s)))
-sets_up_row c octets s p Down h = fresh_from c.window _ _ (when_down (sabm p) (alone s)) (record { near = refl; out = refl; packet = refl; down = refl; up = refl })
+sets_up_row c octets s p Down h = fresh_from c.window _ _ (when_down (sabm p) (alone s))
+    (record { near = refl; out = refl; packet = refl; down = refl; up = refl })
 sets_up_row c octets s p Waiting h = absurd h
-sets_up_row c octets s p Up h = fresh_from c.window _ _ (row_of c octets (Ok (sabm p)) (alone s)) (record { near = refl; out = refl; packet = refl; down = refl; up = refl })
+sets_up_row c octets s p Up h = fresh_from c.window _ _ (row_of c octets (Ok (sabm p)) (alone s))
+    (record { near = refl; out = refl; packet = refl; down = refl; up = refl })
 sets_up_row c octets s p Closed h = absurd h
 
 pub take_sets_up : TakeSetsUp
@@ -71,13 +72,17 @@ pub connect_waits : ConnectWaits
 connect_waits c s e = idle_from c.window _ _ _ _ (connects (alone s)) refl (record { near = refl; out = refl; packet = refl; down = refl; up = refl })
 
 timer_by : (b : Bool) (c : LinkSettings) (s : LinkStation) → s.phase ≡ Waiting → nat_lt s.tries c.retries ≡ b
-    → Is (if b then record s { tries = suc s.tries } else with_nothing Down s.tries) (if b then sabm true ∷ [] else []) (if b then None else Some Retries) false (closed_by c.window (fires c (alone s)))
+    → Is (if b then record s { tries = suc s.tries } else with_nothing Down s.tries) (if b then sabm true ∷ [] else []) (if b then None else Some Retries)
+    false (closed_by c.window (fires c (alone s)))
 timer_by true c s e is =
     let u : LinkStation = record s { tries = s.tries + 1 } in
     let same : u ≡ record s { tries = suc s.tries } = ap (λ (n : ℕ). let z : LinkStation = record s { tries = n } in z) (omega arith) in
-    rw is (subst (λ (p : Phase). Is (record s { tries = suc s.tries }) (sabm true ∷ []) None false (closed_by c.window (quiet (asks_again p (alone u))))) (sym e)
-    (idle_from c.window _ _ _ _ (quiet (asks_again Waiting (alone u))) (ap is_up e) (record { near = same; out = refl; packet = refl; down = refl; up = refl })))
-timer_by false c s e is = rw is (idle_from c.window _ _ _ _ (leaves _ (alone s)) refl (record { near = refl; out = refl; packet = refl; down = refl; up = refl }))
+    rw is (subst (λ (p : Phase). Is (record s { tries = suc s.tries }) (sabm true ∷ []) None false (closed_by c.window (quiet (asks_again p (alone u)))))
+    (sym e)
+    (idle_from c.window _ _ _ _ (quiet (asks_again Waiting (alone u))) (ap is_up e)
+    (record { near = same; out = refl; packet = refl; down = refl; up = refl })))
+timer_by false c s e is = rw is (idle_from c.window _ _ _ _ (leaves _ (alone s)) refl
+    (record { near = refl; out = refl; packet = refl; down = refl; up = refl }))
 
 pub timer_waits : TimerWaits
 timer_waits c s e = timer_by _ c s e refl

@@ -9,13 +9,16 @@ use Rattle.x25_link.specs.Link.{alone, put_step, timer_step, closed_by, when_dow
 use Rattle.x25_link.specs.laws.RestLaw.{IsAtRest}
 
 -- an I frame with N(R) 1 where nothing was sent
-invalid_nr : (let s = row_of (record { role = Dce; window = 7; longest = 4099; retries = 10 }) (1 ∷ 32 ∷ []) (Ok (info 0 1 false [])) (alone fresh) in s.side.out) ≡ frmr false (32 ∷ 0 ∷ 8 ∷ []) ∷ []
+invalid_nr : (let s = row_of (record { role = Dce; window = 7; longest = 4099; retries = 10 }) (1 ∷ 32 ∷ []) (Ok (info 0 1 false [])) (alone fresh) in
+    s.side.out) ≡ frmr false (32 ∷ 0 ∷ 8 ∷ []) ∷ []
 invalid_nr = refl
 
-gap : (let s = row_of_frame (record { role = Dce; window = 7; longest = 4099; retries = 10 }) [] (info 1 0 false (5 ∷ [])) (alone fresh) in s.side.out) ≡ rej false 0 false ∷ []
+gap : (let s = row_of_frame (record { role = Dce; window = 7; longest = 4099; retries = 10 }) [] (info 1 0 false (5 ∷ [])) (alone fresh) in s.side.out)
+    ≡ rej false 0 false ∷ []
 gap = refl
 
-taken : (let s = closed_by 7 (row_of_frame (record { role = Dce; window = 7; longest = 4099; retries = 10 }) [] (info 0 0 false (5 ∷ [])) (alone fresh)) in s.side.out) ≡ rr false 1 false ∷ []
+taken : (let s = closed_by 7 (row_of_frame (record { role = Dce; window = 7; longest = 4099; retries = 10 }) [] (info 0 0 false (5 ∷ [])) (alone fresh)) in
+    s.side.out) ≡ rr false 1 false ∷ []
 unfolding pumped
 taken = refl
 

@@ -1,11 +1,13 @@
 -- Each row of the must-send table, and each call: what is heard, taken and then sent; and what is out stays out.
-use Rattle.std.proofs.Common.{◌≡◌, ℕ, ◌%◌, List, [], ◌∷◌, length, Bool, true, false, if◌then◌else◌, Some, None, Result, Ok, Err, refl, sym, ap, subst, length-append, arith, ◌+◌, ◌≤◌}
-use Rattle.std.specs.Prelude.{nat_lt}
+use Rattle.std.proofs.Common.{◌≡◌, ℕ, ◌%◌, List, [], ◌∷◌, length, Bool, true, false, if◌then◌else◌, Some, None, Result, Ok, Err, refl, sym, ap, subst}
+use Rattle.std.proofs.Common.{length-append, arith, ◌+◌, ◌≤◌}
+use Rattle.std.specs.Prelude.{◌&&◌, nat_lt}
 use Rattle.std.proofs.lemmas.Bool.{leb-true, eqb-true, and_parts}
 use Rattle.x25_frame.specs.Frame.{PlainFrame, info, rr, rnr, rej, sabm, disc, ua, dm, frmr}
+use Rattle.x25_frame.specs.Spelling.{is_command, poll_or_final}
 use Rattle.x25_frame.specs.Reading.{frame_of}
 use Rattle.x25_frame.specs.declared.error.FrameError.{FrameError}
-use Rattle.x25_frame.specs.declared.error.FrameError.TheVariants.{Short, BadFcs, BadAddress, Undefined, NoInfoAllowed, TooLong}
+use Rattle.x25_frame.specs.declared.error.FrameError.TheVariants.{Undefined, NoInfoAllowed, TooLong}
 use Rattle.x25_window.specs.code.Modulo.{resolved}
 use Rattle.x25_link.specs.declared.phase.Phase.{Phase}
 use Rattle.x25_link.specs.declared.phase.Phase.TheVariants.{Down, Waiting, Up, Closed}
@@ -13,13 +15,16 @@ use Rattle.x25_link.specs.declared.phase.Reason.{Reason}
 use Rattle.x25_link.specs.declared.phase.Reason.TheVariants.{Retries, Disc, Dm, FrmrSent, FrmrGot, Reset, Local, Counts}
 use Rattle.x25_link.specs.Outgoing.{no_packet}
 use Rattle.x25_link.specs.Station.{LinkSettings, LinkStation, Side, is_up, with_near, sends, ready, may_send, owes_ready}
-use Rattle.x25_link.specs.Hearing.{LinkStep, quiet, leaves, other, rejects, is_valid, acknowledged, is_taken, takes, hears_info, peer_is, goes_back, polls, numbered, row_of_frame, row_of}
+use Rattle.x25_link.specs.Hearing.{LinkStep, quiet, leaves, other, rejects, is_valid, acknowledged, is_taken, takes, hears_info, peer_is, goes_back, polls}
+use Rattle.x25_link.specs.Hearing.{numbered, row_of_frame, row_of}
 use Rattle.x25_link.specs.Link.{alone, closed_by, hears, puts, asks_again, fires, disconnects, when_down}
 use Rattle.x25_window.specs.laws.Window.{after}
 use Rattle.x25_window.specs.laws.Window.EndStep.{Hear, Take}
 use Rattle.x25_link.specs.laws.WindowMachine.{Window, Input, hands_down, receives, nothing, rests}
 use Rattle.x25_link.specs.laws.WindowLaw.{IsRunning, brought_by, window_of}
-use Rattle.x25_link.specs.laws.WindowLaw.{after_input, MayHandUp, if_valid, ending_of_frame, ending_of, ends_in, AreLast, Stays, Ends, Follows, TakeFollows, PutFollows, TimerFollows, DisconnectFollows, AbandonFollows, IsOut, sets_up, StaysOut, TakeStaysOut, ClosesOut, DisconnectStaysOut}
+use Rattle.x25_link.specs.laws.WindowLaw.{after_input, MayHandUp, if_valid, ending_of_frame, ending_of, ends_in, AreLast, Stays, Ends, Follows, TakeFollows}
+use Rattle.x25_link.specs.laws.WindowLaw.{PutFollows, TimerFollows, DisconnectFollows, AbandonFollows, IsOut, sets_up, StaysOut, TakeStaysOut, ClosesOut}
+use Rattle.x25_link.specs.laws.WindowLaw.{DisconnectStaysOut}
 use Rattle.x25_link.proofs.EndLemmas.{true_false, none_open, ended_stays}
 use Rattle.x25_link.proofs.WindowLemmas.{KeptAt, Kept, K-ready, K-ended, K-answers, K-passes_over, K-goes_back, K-polls}
 
@@ -36,9 +41,11 @@ stays_from k input s step row =
     record { up = h.up; sound = h.sound; hands_up = row.hands_up; sends = h.runs; quiet = row.quiet }
 
 pub closed_stays : (k : ℕ) (step : LinkStep) → may_send k step.side.near ≡ false → owes_ready step.side.near ≡ false → closed_by k step ≡ step
-closed_stays k step settled calm = ap (λ (u : Side). let z : LinkStep = record { side = u; packet = step.packet; notes = step.notes } in z) (ended_stays k step.side settled calm)
+closed_stays k step settled calm = ap (λ (u : Side). let z : LinkStep = record { side = u; packet = step.packet; notes = step.notes } in z)
+    (ended_stays k step.side settled calm)
 
-ends_from : (k : ℕ) (reason : Reason) (step : LinkStep) → may_send k step.side.near ≡ false → owes_ready step.side.near ≡ false → Ends reason step → Ends reason (closed_by k step)
+ends_from : (k : ℕ) (reason : Reason) (step : LinkStep) → may_send k step.side.near ≡ false → owes_ready step.side.near ≡ false → Ends reason step
+    → Ends reason (closed_by k step)
 ends_from k reason step settled calm ends = subst (Ends reason) (sym (closed_stays k step settled calm)) ends
 
 -- ---- rows
@@ -66,7 +73,8 @@ heard_kept k nr s running valid =
       runs = rests;
     }
 
-info_kept : (k ns nr : ℕ) (p : Bool) (packet : List ℕ) (s : LinkStation) (b : Bool) → is_taken ns (acknowledged nr (alone s)).near ≡ b → IsRunning k s → is_valid nr s ≡ true
+info_kept : (k ns nr : ℕ) (p : Bool) (packet : List ℕ) (s : LinkStation) (b : Bool) → is_taken ns (acknowledged nr (alone s)).near ≡ b → IsRunning k s
+    → is_valid nr s ≡ true
     → RowKept k (receives (info ns nr p packet)) s (hears_info k ns p packet (acknowledged nr (alone s)))
 info_kept k ns nr p packet s true is running valid =
     let t = acknowledged nr (alone s) in
@@ -98,7 +106,8 @@ numbered_by c octets nr row input s false valid kept = rw valid (rejects_ends c 
 start : (k : ℕ) (input : Input) (s : LinkStation) → IsRunning k s → Kept k (window_of k s) (alone s)
 start k input s running = record { up = running.up; sound = running.sound; runs = rests }
 
-quiet_follows : (k : ℕ) (input : Input) (s : LinkStation) → after_input input None (window_of k s) ≡ window_of k s → IsRunning k s → Stays k input s (closed_by k (quiet (alone s)))
+quiet_follows : (k : ℕ) (input : Input) (s : LinkStation) → after_input input None (window_of k s) ≡ window_of k s → IsRunning k s
+    → Stays k input s (closed_by k (quiet (alone s)))
 quiet_follows k input s same running =
     stays_from k input s (quiet (alone s)) (record { kept = rw same (start k input s running); hands_up = tt; quiet = refl })
 
@@ -109,10 +118,20 @@ frame_follows c octets (info ns nr p packet) s running =
     (λ valid. info_kept c.window ns nr p packet s _ refl running valid)
 frame_follows c octets (rr command nr pf) s running =
     numbered_by c octets nr (λ u. quiet (polls command pf (peer_is false u))) (receives (rr command nr pf)) s _ refl
-    (λ valid. record { kept = K-polls c.window (heard_window c.window nr s) command pf (peer_is false (acknowledged nr (alone s))) (heard_kept c.window nr s running valid); hands_up = tt; quiet = refl })
+    (λ valid. record {
+      kept = K-polls c.window (heard_window c.window nr s) command pf (peer_is false (acknowledged nr (alone s)))
+          (heard_kept c.window nr s running valid);
+      hands_up = tt;
+      quiet = refl;
+    })
 frame_follows c octets (rnr command nr pf) s running =
     numbered_by c octets nr (λ u. quiet (polls command pf (peer_is true u))) (receives (rnr command nr pf)) s _ refl
-    (λ valid. record { kept = K-polls c.window (heard_window c.window nr s) command pf (peer_is true (acknowledged nr (alone s))) (heard_kept c.window nr s running valid); hands_up = tt; quiet = refl })
+    (λ valid. record {
+      kept = K-polls c.window (heard_window c.window nr s) command pf (peer_is true (acknowledged nr (alone s)))
+          (heard_kept c.window nr s running valid);
+      hands_up = tt;
+      quiet = refl;
+    })
 frame_follows c octets (rej command nr pf) s running =
     numbered_by c octets nr (λ u. quiet (polls command pf (goes_back (peer_is false u)))) (receives (rej command nr pf)) s _ refl
     (λ valid. record {
@@ -135,24 +154,21 @@ frame_follows c octets (frmr f why) s running = leaves_ends c.window FrmrGot s r
 read_follows : (c : LinkSettings) (octets : List ℕ) (read : Result PlainFrame FrameError) (s : LinkStation) → IsRunning c.window s
     → Follows (ending_of read (window_of c.window s)) c.window (brought_by read) s (closed_by c.window (row_of c octets read (alone s)))
 read_follows c octets (Ok frame) s running = frame_follows c octets frame s running
-read_follows c octets (Err Short) s running = quiet_follows c.window nothing s refl running
-read_follows c octets (Err BadFcs) s running = quiet_follows c.window nothing s refl running
-read_follows c octets (Err BadAddress) s running = quiet_follows c.window nothing s refl running
 read_follows c octets (Err (Undefined control)) s running = rejects_ends c octets 1 s
 read_follows c octets (Err (NoInfoAllowed control)) s running = rejects_ends c octets 3 s
 read_follows c octets (Err TooLong) s running = rejects_ends c octets 4 s
+read_follows c octets (Err x) s running = quiet_follows c.window nothing s refl running
 
 -- ---- calls
 
 pub up_is : (p : Phase) → is_up p ≡ true → p ≡ Up
 up_is Up e = refl
-up_is Down e = true_false (sym e)
-up_is Waiting e = true_false (sym e)
-up_is Closed e = true_false (sym e)
+up_is p e = true_false (sym e)
 
 pub take_follows : TakeFollows
 take_follows c octets s running read is =
-    rw (sym is) (subst (λ (p : Phase). Follows (ending_of read (window_of c.window s)) c.window (brought_by read) s (closed_by c.window (hears c octets read p (alone s)))) (sym (up_is s.phase running.up))
+    rw (sym is) (subst (λ (p : Phase). Follows (ending_of read (window_of c.window s)) c.window (brought_by read) s
+    (closed_by c.window (hears c octets read p (alone s)))) (sym (up_is s.phase running.up))
     (read_follows c octets read s running))
 
 pub put_follows : PutFollows
@@ -161,7 +177,12 @@ put_follows c packet s running =
     stays_from c.window (hands_down packet) s (puts packet (alone s)) (record {
       kept = record {
         up = running.up;
-        sound = record { place_low = sound.place_low; place_high = sound.place_high; sent_high = omega (arith, length-append s.outgoing.given (packet ∷ [])); room = sound.room };
+        sound = record {
+          place_low = sound.place_low;
+          place_high = sound.place_high;
+          sent_high = omega (arith, length-append s.outgoing.given (packet ∷ []));
+          room = sound.room;
+        };
         runs = rests;
       };
       hands_up = tt;
@@ -217,17 +238,12 @@ declines_out frame true s h = record { out = h; frames = tt; packet = refl; quie
 declines_out frame false s h = record { out = h; frames = tt; packet = refl; quiet = refl }
 
 down_out : (frame : PlainFrame) (s : LinkStation) → IsOut s.phase → sets_up (Ok frame) ≡ false → StaysOut (when_down frame (alone s))
-down_out (info ns nr p x) s h e = declines_out (info ns nr p x) _ s h
-down_out (rr command nr pf) s h e = declines_out (rr command nr pf) _ s h
-down_out (rnr command nr pf) s h e = declines_out (rnr command nr pf) _ s h
-down_out (rej command nr pf) s h e = declines_out (rej command nr pf) _ s h
 down_out (sabm p) s h e = true_false e
 down_out (disc p) s h e = record { out = h; frames = tt; packet = refl; quiet = refl }
-down_out (ua f) s h e = declines_out (ua f) false s h
-down_out (dm f) s h e = declines_out (dm f) false s h
-down_out (frmr f why) s h e = declines_out (frmr f why) false s h
+down_out frame s h e = declines_out frame (is_command frame && poll_or_final frame) s h
 
-hears_out : (c : LinkSettings) (octets : List ℕ) (read : Result PlainFrame FrameError) (p : Phase) (s : LinkStation) → IsOut p → IsOut s.phase → sets_up read ≡ false
+hears_out : (c : LinkSettings) (octets : List ℕ) (read : Result PlainFrame FrameError) (p : Phase) (s : LinkStation) → IsOut p → IsOut s.phase → sets_up read
+    ≡ false
     → StaysOut (hears c octets read p (alone s))
 hears_out c octets (Ok frame) Down s h g e = down_out frame s g e
 hears_out c octets (Err x) Down s h g e = record { out = g; frames = tt; packet = refl; quiet = refl }
@@ -238,9 +254,11 @@ hears_out c octets (Err x) Closed s h g e = record { out = g; frames = tt; packe
 
 pub take_stays_out : TakeStaysOut
 take_stays_out c octets s out e =
-    out_from c.window (hears c octets (frame_of (other c.role) c.longest octets) s.phase (alone s)) (hears_out c octets (frame_of (other c.role) c.longest octets) s.phase s out out e)
+    out_from c.window (hears c octets (frame_of (other c.role) c.longest octets) s.phase (alone s))
+    (hears_out c octets (frame_of (other c.role) c.longest octets) s.phase s out out e)
 
 pub disconnect_stays_out : DisconnectStaysOut
 disconnect_stays_out c s out =
     let step : LinkStep = disconnects (alone s) in
-    subst ClosesOut (sym (closed_stays c.window step refl refl)) (record { phase = refl; frames = refl; packet = refl; quiet = rw (out_is_not_up s.phase out) refl })
+    subst ClosesOut (sym (closed_stays c.window step refl refl))
+    (record { phase = refl; frames = refl; packet = refl; quiet = rw (out_is_not_up s.phase out) refl })

@@ -184,6 +184,7 @@ pub record IsReadBack (wide long_data : Bool) (given : List ℕ) (p : PlainPacke
   pub short : length given ≤ longest_packet
   pub reads : read_in wide (packet.longest_user long_data) given ≡ Ok p
 
+-- octets that are read back as these packets
 abbrev pub AreReadBack : Bool → Bool → List (List ℕ) → List PlainPacket → Type 0
 AreReadBack wide long_data [] [] = Unit {0}
 AreReadBack wide long_data (o ∷ os) (p ∷ ps) = IsReadBack wide long_data o p × AreReadBack wide long_data os ps
@@ -211,12 +212,6 @@ pub record PutsRead (c : Settings) (t : Side) (packets : List PlainPacket) (hand
   pub link : step.near.link ≡ (all_handed (link_settings c) handed t).near
   pub out : step.out ≡ (all_handed (link_settings c) handed t).out
   pub readable : AreReadBack c.wide c.long_data handed packets
-
--- with some octets and packets
-pub record HasPut (c : Settings) (t : Side) (step : Step) : Type 0 where
-  pub handed : List (List ℕ)
-  pub packets : List PlainPacket
-  pub put : PutsRead c t packets handed step
 
 -- packets that are put go down as they are spelled
 pub puts_spelled : {c : Settings} {t : Side} {packets : List PlainPacket} {step : Step} → PutsBehind c t packets step → AreReadable c.wide c.long_data packets

@@ -8,6 +8,7 @@ use Rattle.x25_line.proofs.ends.Meetings.{all_map, all_some, all_no_earlier}
 abbrev pub CanMeet : ℕ → ℕ → List Meeting → Type 0
 CanMeet n m met = Each (λ p. (p.near ≡ n → p.far ≡ m) × (p.far ≡ m → p.near ≡ n)) met
 
+-- true isn't false
 pub true_false : {A : Type 0} → true ≡ false → A
 true_false e = absurd (cc)
 
@@ -17,6 +18,7 @@ could_meet n m true (Tells carried nr) x met h = h.1
 could_meet n m true s x met h = h
 could_meet n m false s x met h = h
 
+-- what holds of all and what holds of all, at once
 pub all_both : (P Q : Meeting → Type 0) (ms : List Meeting) → Each P ms → Each Q ms → Each (λ (m : Meeting). P m × Q m) ms
 all_both P Q [] h g = tt
 all_both P Q (m ∷ ms) h g = ((h.0, g.0), all_both P Q ms h.1 g.1)

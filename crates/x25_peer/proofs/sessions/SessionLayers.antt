@@ -74,6 +74,7 @@ abbrev pub AreAsked : List Move → Type 0
 AreAsked [] = Unit {0}
 AreAsked (m ∷ ms) = IsAsked m × AreAsked ms
 
+-- pulls are moves that a station asks for
 pub pulls_asked : (pulled : List ℕ) → AreAsked (pulls_of pulled)
 pulls_asked [] = tt
 pulls_asked (h ∷ pulled) = (tt, pulls_asked pulled)

@@ -87,6 +87,7 @@ both_cases {A} {B} P s x all y each here others n = by (n == s) refl
 abbrev pub down_in : Own → List (List ℕ)
 down_in own = own.station.link.outgoing.given
 
+-- what the link of a session handed up
 abbrev pub up_in : Own → List (List ℕ)
 up_in own = own.station.link.taken
 

@@ -10,7 +10,8 @@ use Rattle.x25_packet.specs.Facilities.{facilities_of}
 use Rattle.x25_packet.specs.Classes.{own_in}
 use Rattle.x25_packet.specs.Grammar.{read_of}
 use Rattle.x25_link.specs.Station.{pumped}
-use Rattle.x25_script.specs.Reading.{parts_of, number_in, small_number_in, params_in, with_params_in, call_in, accept_in, send_in, interrupt_in, with_fields, command_in, lose_in, damage_in, drain_in, line_in}
+use Rattle.x25_script.specs.Reading.{parts_of, number_in, small_number_in, params_in, with_params_in, call_in, accept_in, send_in, interrupt_in, with_fields}
+use Rattle.x25_script.specs.Reading.{command_in, lose_in, damage_in, drain_in, line_in}
 use Rattle.x25_io.specs.Lines.{lines_of}
 use Rattle.x25_transcript.specs.EntryText.{entry_line}
 use Rattle.x25_console.specs.Telling.{frame_line, refusal_line}
@@ -22,9 +23,13 @@ unfolding digits decode_pairs piped event_turn turn turns event_in lines_of sayi
 mark_comes_first = (refl, refl)
 
 pub call_goes_out : CallGoesOut
-unfolding digits decode_pairs piped event_turn turn turns event_in lines_of line_in parts_of number_in lose_in damage_in drain_in command_in with_fields small_number_in params_in with_params_in call_in accept_in send_in interrupt_in saying_line entry_line frame_line refusal_line pumped frame_of read_of halves_of packed own_in facilities_of is_sealed fcs_of number_of divided low_bits add divisor
+unfolding digits decode_pairs piped event_turn turn turns event_in lines_of line_in parts_of number_in lose_in damage_in drain_in command_in with_fields
+    small_number_in params_in with_params_in call_in accept_in send_in interrupt_in saying_line entry_line frame_line refusal_line pumped frame_of read_of
+    halves_of packed own_in facilities_of is_sealed fcs_of number_of divided low_bits add divisor
 call_goes_out = (refl, refl)
 
 pub others_are_refused : OthersAreRefused
-unfolding digits decode_pairs piped event_turn turn turns event_in lines_of line_in parts_of number_in lose_in damage_in drain_in command_in with_fields small_number_in params_in with_params_in call_in accept_in send_in interrupt_in saying_line entry_line frame_line refusal_line pumped frame_of read_of halves_of packed own_in facilities_of is_sealed fcs_of number_of divided low_bits add divisor
+unfolding digits decode_pairs piped event_turn turn turns event_in lines_of line_in parts_of number_in lose_in damage_in drain_in command_in with_fields
+    small_number_in params_in with_params_in call_in accept_in send_in interrupt_in saying_line entry_line frame_line refusal_line pumped frame_of read_of
+    halves_of packed own_in facilities_of is_sealed fcs_of number_of divided low_bits add divisor
 others_are_refused = (refl, refl)

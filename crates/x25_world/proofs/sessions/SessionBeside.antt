@@ -180,6 +180,7 @@ module _ (laws : Laws) (cfg : Cfg) where
   plain_brings : (p : PlainPacket) → IsReadable cfg.wide cfg.long_data p → brought_by cfg (spelling_of p) ≡ []
   plain_brings p r = ap₂ brought_as r.reads (none_beside cfg.wide p r)
 
+  -- packets that are spelled bring nothing beside
   pub spelled_bring : (packets : List PlainPacket) → AreReadable cfg.wide cfg.long_data packets → brought cfg (spelled packets) ≡ []
   spelled_bring [] h = refl
   spelled_bring (p ∷ packets) h = ap₂ (λ xs ys. xs ++ ys) (plain_brings p h.0) (spelled_bring packets h.1)

@@ -42,6 +42,7 @@ confirmed_append k name (x ∷ xs) ys = omega (arith, confirmed_append k name xs
 
 -- ---- the entries of a session tell of no more than its moves confirm
 
+-- each confirmation that is told is one of a move
 abbrev pub IsCounted : Cfg → Role → ℕ → List Done → List StationEntry → Type 0
 IsCounted cfg end n trace es = (k : ℕ) (name : Name) → confirmed_in k name es
     ≤ counted_in (layer_of cfg end) k name (own_in end n trace) (started (goes_up (layer_of cfg end)))

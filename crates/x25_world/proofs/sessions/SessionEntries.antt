@@ -124,6 +124,7 @@ IsPlain link_up = ⊥
 IsPlain (link_down reason) = ⊥
 IsPlain entry = Unit {0}
 
+-- none of these is LinkUp or LinkDown
 abbrev pub ArePlain : List StationEntry → Type 0
 ArePlain entries = Each IsPlain entries
 
@@ -197,6 +198,7 @@ IsMute link_up = Unit {0}
 IsMute (link_down reason) = Unit {0}
 IsMute entry = ⊥
 
+-- all these are of the link or of its commands
 abbrev pub AreMute : List StationEntry → Type 0
 AreMute entries = Each IsMute entries
 
@@ -248,6 +250,7 @@ outcome_all P none more one c l request (Accepted next packet) = by request
     by (Restarts cause diagnostic) = one cause diagnostic
     by PullsAll = none
 
+-- a request tells neither LinkUp nor LinkDown
 pub outcome_plain : (c : LayerSettings) (l : Layer) (request : LayerRequest) (o : LayerOutcome) → ArePlain (entries_of_outcome c l request o)
 outcome_plain = outcome_all ArePlain tt (λ e es rest. (tt, rest)) (λ cause diagnostic. (tt, tt))
 

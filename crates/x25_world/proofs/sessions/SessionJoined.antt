@@ -81,6 +81,7 @@ Hears Met n up met = ((up ≡ []) × (met ≡ None)) ⊎ Meets Met n met
 abbrev pub PairIsInOrder : Cfg → Role → List Done → ℕ → ℕ → Type 0
 PairIsInOrder cfg end trace n m = AreInOrder cfg.long_data cfg.channels (pair_at end n m trace) (apart_start cfg.long_data cfg.channels)
 
+-- so are those of all that met
 abbrev pub PairsAreInOrder : Cfg → Role → List Done → List Meeting → Type 0
 PairsAreInOrder cfg end trace met = Each (λ p. PairIsInOrder cfg end trace p.near p.far) met
 
@@ -107,6 +108,7 @@ pub record Goes (cfg : Cfg) (end : Role) (w : World) (act : Act) (v : Sessions) 
   pub down : (n : ℕ) → MoreIs cfg (v.near.down n) (joined.links.near.down n) (gave n)
   pub far : joined.links.far ≡ v.far
 
+-- nothing was given in any session
 abbrev pub gave_none : ℕ → List Gave
 gave_none n = []
 

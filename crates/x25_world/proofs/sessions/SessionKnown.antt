@@ -17,6 +17,7 @@ use Rattle.x25_world.proofs.sessions.SessionTrace as traced
 
 -- ---- meetings
 
+-- what follows of each meeting follows of some
 pub some_map : {P : Meeting → Type 0} (Q : Meeting → Type 0) → ((m : Meeting) → P m → Q m) → (ms : List Meeting) → SomeMet P ms → SomeMet Q ms
 some_map Q f [] h = absurd h
 some_map {P} Q f (m ∷ ms) h = elim h [ inl here ↦ inl (f m here) | inr there ↦ inr (some_map Q f ms there) ]
@@ -83,6 +84,7 @@ module _ (laws : SessionLaws) (cfg : Cfg) where
       let keeps = laws.layers_order cfg.long_data cfg.channels events order in
       ((w.back, keeps.far), (w.out, keeps.near))))
 
+  -- an end of two sessions in order told of no error of procedure
   pub own_quiet : (end : Role) (n m : ℕ) (trace : List Done) → PairIsInOrder cfg end trace n m → IsQuietEnd cfg.channels (own cfg end n trace)
   own_quiet = of_either (λ end e f. IsQuietEnd cfg.channels e)
       (λ events order. (let both = laws.layers_quiet cfg.long_data cfg.channels events order in (both.near, both.far)))
@@ -114,6 +116,7 @@ module _ (laws : SessionLaws) (cfg : Cfg) where
   readable_here fine Dte n m trace order octets = (both_readable fine n m trace order octets).0
   readable_here fine Dce n m trace order octets = (both_readable fine m n trace order octets).1
 
+  -- what such an end puts can be read
   pub own_readable : IsConfigured cfg → (end : Role) (n m : ℕ) (trace : List Done) → PairIsInOrder cfg end trace n m → traced.BringOctets cfg.wide trace
       → AreReadable cfg.wide cfg.long_data (own cfg end n trace).given
   own_readable fine end n m trace order octets = rw (sym (here_is end n m trace)) (readable_here fine end n m trace order octets)

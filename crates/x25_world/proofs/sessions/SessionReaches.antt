@@ -42,6 +42,7 @@ pub record Leads (c d : LinkSettings) (events : List line.LinkEvent) (v u : Sess
   pub timely : AreTimely c d events v
   pub run : links.run c d events v ≡ u
 
+-- one run of links behind another
 pub then_leads : {c d : LinkSettings} {xs ys : List line.LinkEvent} {v u x : Sessions} → Leads c d xs v u → Leads c d ys u x → Leads c d (xs ++ ys) v x
 then_leads {c} {d} {xs} {ys} {v} h g = record {
   timely = timely_append c d xs ys v h.timely (rw h.run g.timely);
@@ -80,6 +81,7 @@ pub reach_on : {cfg : Cfg} {end : Role} {es : List line.LinkEvent} {v u : Sessio
     → Leads (link_of cfg end) (link_of cfg (other end)) es v u → SessionsReach cfg end u
 reach_on {es} h leads = record { events = h.events ++ es; leads = then_leads h.leads leads }
 
+-- the settings of the two links of a world agree
 pub joined_at : {cfg : Cfg} (end : Role) → IsConfigured cfg → AreJoined (link_of cfg end) (link_of cfg (other end))
 joined_at end fine = record {
   near_role = twice_other end (λ e. e ≡ end) refl;
@@ -152,6 +154,7 @@ all_append : (first more : List line.Act) → all_at Dte (first ++ more) ≡ all
 all_append [] more = refl
 all_append (act ∷ first) more = ap (λ es. line.Near act ∷ es) (all_append first more)
 
+-- acts of the link, and what is put after them
 pub then_puts : {cfg : Cfg} {end : Role} {w : World} {act : Act} {v u : Sessions} (first : List line.Act)
     → Leads (link_of cfg end) (link_of cfg (other end)) (all_at Dte first) v u → (handed : List (List ℕ))
     → AreAsked (settings_from end cfg) w act (first ++ puts_of handed) → Asked cfg end w act v (all_act (link_of cfg end) (puts_of handed) u)

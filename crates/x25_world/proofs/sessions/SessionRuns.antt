@@ -111,6 +111,7 @@ module _ (laws : SessionLaws) (cfg : Cfg) (fine : IsConfigured cfg) where
         leads = leads_turned s.asked.asked s.asked.leads;
       })
 
+  -- each event of a world is acts of the link of its end
   pub next : {w : World} (h : SessionsJoined cfg Dte w) (e : Event) → ActsInOctets e.act → EventGoes cfg w h.links e (after w (happens cfg w e))
   next {w} h e octets = event_joined e.at e.act w octets h
 
@@ -194,6 +195,7 @@ begin_goes laws keeps {cfg} fine is = elim is [
   ]
 ]
 
+-- each beginning of a world is joined with sessions
 pub begin_joined : (laws : SessionLaws) → ConnectKeeps → {cfg : Cfg} → IsConfigured cfg → {begin : World} → IsBeginning cfg begin
     → SessionsJoined cfg Dte begin
 begin_joined laws keeps fine is = (begin_goes laws keeps fine is).joined
@@ -206,6 +208,7 @@ throughout_goes laws keeps cfg fine begin is events octets =
     behind from_nothing b.joined.links gave_none (λ n. gave_in cfg Dte n events begin) gave_none (λ n. gave_in cfg Dce n events begin) b.near b.far
     (run_joined laws cfg (is_configured cfg fine) events octets b.joined)
 
+-- so is the world at each moment of a run
 pub throughout_joined : (laws : SessionLaws) → ConnectKeeps → Throughout (λ cfg w. SessionsJoined cfg Dte w)
 throughout_joined laws keeps cfg fine begin is events octets = (throughout_goes laws keeps cfg fine begin is events octets).joined
 

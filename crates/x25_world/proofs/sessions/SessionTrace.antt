@@ -13,6 +13,7 @@ use Rattle.x25_packet.specs.Packet.{PlainPacket}
 use Rattle.x25_peer.proofs.sessions.SessionLayers.{pulls_asked, asked_leaves}
 use Rattle.x25_layer.specs.laws.TwoLayers as layer
 
+-- the settings of an end's layer
 abbrev pub layer_of : Cfg → Role → LayerSettings
 layer_of cfg end = layer_settings (settings_from end cfg)
 
@@ -51,6 +52,7 @@ own_append end n (x ∷ xs) ys =
     ap (λ l. own_one end n x.at x.session x.what ++ l) (own_append end n xs ys)
     ∙ sym (append_assoc (own_one end n x.at x.session x.what) (own_in end n xs) (own_in end n ys))
 
+-- a number is itself
 pub same_number : (n : ℕ) → (n == n) ≡ true
 same_number n = eq-eqb n n refl
 
@@ -80,6 +82,7 @@ own_there end n m (what ∷ moves) = ap₂ (λ l r. l ++ r) (one_there end n m w
 
 -- more moves of an end in a session
 
+-- they are added to those of its session
 pub own_more : (end : Role) (n : ℕ) (trace : List Done) (moves : List OwnMove) → own_in end n (trace ++ moved end n moves) ≡ own_in end n trace ++ moves
 own_more end n trace moves = own_append end n trace (moved end n moves) ∙ ap (λ l. own_in end n trace ++ l) (own_moved end n moves)
 
@@ -118,6 +121,7 @@ is_first Dce = false
 abbrev pub event_of : Role → OwnMove → ApartEvent
 event_of end what = record { first = is_first end; what = what }
 
+-- moves of an end as events of two layers apart
 abbrev pub events_of : Role → List OwnMove → List ApartEvent
 events_of end [] = []
 events_of end (what ∷ moves) = event_of end what ∷ events_of end moves
@@ -206,10 +210,12 @@ moves_of_pair number end (t ∷ trace) =
 
 -- ---- moves that take nothing
 
+-- a move that takes no packet
 abbrev pub TakesNone : OwnMove → Type 0
 TakesNone (Takes packet) = ⊥
 TakesNone what = Unit {0}
 
+-- none of these moves takes a packet
 abbrev pub TakeNothing : List OwnMove → Type 0
 TakeNothing moves = Each TakesNone moves
 
@@ -240,6 +246,7 @@ nothing_goes long_data channels Dce (what ∷ moves) ends h =
 
 -- ---- what users hand down is octets, and confirmation is asked where packets are read in all their forms
 
+-- all moves of a trace bring octets
 abbrev pub BringOctets : Bool → List Done → Type 0
 BringOctets wide trace = Each (λ (t : Done). MovesOctets wide (as_move t.what)) trace
 
@@ -248,10 +255,12 @@ abbrev pub own_pulls : List ℕ → List OwnMove
 own_pulls [] = []
 own_pulls (h ∷ channels) = Pulls h ∷ own_pulls channels
 
+-- pulls take nothing
 pub pulls_take_nothing : (channels : List ℕ) → TakeNothing (own_pulls channels)
 pulls_take_nothing [] = tt
 pulls_take_nothing (h ∷ channels) = (tt, pulls_take_nothing channels)
 
+-- pulls bring octets
 pub pulls_bring_octets : (wide : Bool) (end : Role) (session : ℕ) (channels : List ℕ) → BringOctets wide (moved end session (own_pulls channels))
 pulls_bring_octets wide end session [] = tt
 pulls_bring_octets wide end session (h ∷ channels) = (tt, pulls_bring_octets wide end session channels)

@@ -123,6 +123,7 @@ pub record Alike (w : World) (v : Sessions) : Type 0 where
 seen_alike : {w : World} {v : Sessions} → Alike w v → AreOf v (seen_in w)
 seen_alike h = record { near = sym h.near; far = sym h.far; out = sym h.out; back = sym h.back; sent = λ never. absurd never }
 
+-- a world and the sessions of its links are alike
 pub joined_alike : {cfg : Cfg} {w : World} (h : SessionsJoined cfg Dte w) → Alike w h.links
 joined_alike h = record { near = h.near.link; far = h.far.link; out = h.out; back = h.back }
 
@@ -171,6 +172,7 @@ run_of cfg events leads like = (
   },
 )
 
+-- the links of a world are those of a run of two links
 pub links_are : {cfg : Cfg} {w : World} (h : SessionsJoined cfg Dte w) → AreLinksOf cfg w h.links
 links_are {cfg} h = run_of cfg h.reach.events h.reach.leads (joined_alike h)
 

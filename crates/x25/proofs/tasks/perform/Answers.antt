@@ -69,7 +69,8 @@ returns-in-Station-clause-claims g c = rw c.in-Station.is (nothing c.answer_line
 pub returns-in-Vectors-clause-runs : goal.returns-in-Vectors-clause-runs
 returns-in-Vectors-clause-runs g c =
     let said = c.vectors.ensures in
-    rw c.in-Vectors.is (unread g.R.Source g.W.Sink c.args.reader.now c.args.writer.now c.vectors.new.writer c.vectors.result said.text said.status said.clean said.fault said.memory said.read said.write)
+    rw c.in-Vectors.is (unread g.R.Source g.W.Sink c.args.reader.now c.args.writer.now c.vectors.new.writer c.vectors.result said.text said.status said.clean
+    said.fault said.memory said.read said.write)
 
 pub returns-in-Vectors-clause-claims : goal.returns-in-Vectors-clause-claims
 returns-in-Vectors-clause-claims g c = rw c.in-Vectors.is (nothing c.vectors.result _)

@@ -7,11 +7,13 @@ use Rattle.x25_bit_line.proofs.deframing.deframe.Goals as goal
 
 pub returns-in_err-deframer-clause-runs : goal.returns-in_err-deframer-clause-runs
 returns-in_err-deframer-clause-runs g c =
-    none_ran g.R.Source g.W.Sink (program c.args.from) c.args.reader.now c.args.writer.now c.from_residual-in_err-deframer.result c.from_residual-in_err-deframer.ensures.1
+    none_ran g.R.Source g.W.Sink (program c.args.from) c.args.reader.now c.args.writer.now c.from_residual-in_err-deframer.result
+    c.from_residual-in_err-deframer.ensures.1
 
 pub returns-in_err-lines-clause-runs : goal.returns-in_err-lines-clause-runs
 returns-in_err-lines-clause-runs g c =
-    none_ran g.R.Source g.W.Sink (program c.args.from) c.args.reader.now c.args.writer.now c.from_residual-in_err-lines.result c.from_residual-in_err-lines.ensures.1
+    none_ran g.R.Source g.W.Sink (program c.args.from) c.args.reader.now c.args.writer.now c.from_residual-in_err-lines.result
+    c.from_residual-in_err-lines.ensures.1
 
 pub returns-clause-runs : goal.returns-clause-runs
 returns-clause-runs g c =

@@ -6,11 +6,13 @@ use Rattle.x25_bit_line.proofs.framing.frame.Goals as goal
 
 pub returns-in_err-held : goal.returns-in_err-held
 returns-in_err-held g c =
-    none_ran g.R.Source g.W.Sink (program c.args.loose) c.args.reader.now c.args.writer.now c.from_residual-in_err-held.result c.from_residual-in_err-held.ensures.1
+    none_ran g.R.Source g.W.Sink (program c.args.loose) c.args.reader.now c.args.writer.now c.from_residual-in_err-held.result
+    c.from_residual-in_err-held.ensures.1
 
 pub returns-in_err-sender : goal.returns-in_err-sender
 returns-in_err-sender g c =
-    none_ran g.R.Source g.W.Sink (program c.args.loose) c.args.reader.now c.args.writer.now c.from_residual-in_err-sender.result c.from_residual-in_err-sender.ensures.1
+    none_ran g.R.Source g.W.Sink (program c.args.loose) c.args.reader.now c.args.writer.now c.from_residual-in_err-sender.result
+    c.from_residual-in_err-sender.ensures.1
 
 pub returns : goal.returns
 returns g c =

@@ -22,7 +22,8 @@ loop-at-preserved g c =
       next.from ∙ now.1,
       next.high,
       λ old before h.
-          let here = subst (λ (from : Role). Reads from old (g.W.Sink.contents c.loop-at.writer) c.loop-at.deframer c.loop-at.lines.output (before ++ take c.loop-at.at bits)) (sym now.1) (now.3 old before h) in
+          let here = subst (λ (from : Role). Reads from old (g.W.Sink.contents c.loop-at.writer) c.loop-at.deframer c.loop-at.lines.output
+          (before ++ take c.loop-at.at bits)) (sym now.1) (now.3 old before h) in
           let there = next.reads old (before ++ take c.loop-at.at bits) here in
           let moves = next.moves in
           reads_next c.args.lines.now.from _ old _ _ _ before bits c.loop-at.at _ now.1 (omega (arith, moves)) there,
@@ -33,9 +34,11 @@ returns-in_err-at-clause-reads g c = λ old before h.
     let p = err_from_is_err_and c.from_residual.result c.from_residual.ensures.1 in
     let now = c.loop-at.invariant in
     let bits = bits_of c.args.octets.now in
-    let here = subst (λ (from : Role). Reads from old (g.W.Sink.contents c.loop-at.writer) c.loop-at.deframer c.loop-at.lines.output (before ++ take c.loop-at.at bits)) (sym now.1) (now.3 old before h) in
+    let here = subst (λ (from : Role). Reads from old (g.W.Sink.contents c.loop-at.writer) c.loop-at.deframer c.loop-at.lines.output
+    (before ++ take c.loop-at.at bits)) (sym now.1) (now.3 old before h) in
     rw p.1 (subst (λ (from : Role). AppendsPrefix old (g.W.Sink.contents c.take_span.new.writer) (class_lines from (found_of (before ++ bits)))) now.1
-    (subst (λ l. AppendsPrefix old (g.W.Sink.contents c.take_span.new.writer) (class_lines c.loop-at.lines.from (found_of l))) (rest_of_bits before bits c.loop-at.at)
+    (subst (λ l. AppendsPrefix old (g.W.Sink.contents c.take_span.new.writer) (class_lines c.loop-at.lines.from (found_of l)))
+    (rest_of_bits before bits c.loop-at.at)
     (c.in_err-at.ensures.reads old (before ++ take c.loop-at.at bits) here)))
 
 pub returns-clause-reads : goal.returns-clause-reads

@@ -8,10 +8,12 @@ returns-clause-bits c = λ count h.
     let lent = c.as_mut_slice.ensures in
     let written = c.write_octet.ensures in
     let same = slice_written _ c.write_octet.new.octets _ (sym lent.len ∙ ap length lent.value) (written.len ∙ ap length lent.value) in
-    ap (λ o. take (c.args.place + count) (bits_of o)) same ∙ written.bits count h ∙ ap (λ o. take c.args.place (bits_of o) ++ low_bits count c.args.octet) lent.value
+    ap (λ o. take (c.args.place + count) (bits_of o)) same ∙ written.bits count h
+    ∙ ap (λ o. take c.args.place (bits_of o) ++ low_bits count c.args.octet) lent.value
 
 pub returns-clause-len : goal.returns-clause-len
 returns-clause-len c =
     let lent = c.as_mut_slice.ensures in
     let written = c.write_octet.ensures in
-    ap length (slice_written _ c.write_octet.new.octets _ (sym lent.len ∙ ap length lent.value) (written.len ∙ ap length lent.value)) ∙ written.len ∙ ap length lent.value
+    ap length (slice_written _ c.write_octet.new.octets _ (sym lent.len ∙ ap length lent.value) (written.len ∙ ap length lent.value)) ∙ written.len
+    ∙ ap length lent.value

@@ -14,7 +14,8 @@ loop-place-init c =
       low = omega arith;
       high = c.requires.at;
       few = omega arith;
-      passes = subst (PassesOn c.args.scan.run c.args.scan.is_inserted c.args.scan.run c.args.scan.is_inserted) none (passes_none c.args.scan.run c.args.scan.is_inserted);
+      passes = subst (PassesOn c.args.scan.run c.args.scan.is_inserted c.args.scan.run c.args.scan.is_inserted) none
+          (passes_none c.args.scan.run c.args.scan.is_inserted);
       kept = subst (λ l. before ≡ before ++ kept_from c.args.scan.run l) none (kept_none c.args.scan.run before);
       len = refl;
     }
@@ -44,9 +45,11 @@ loop-place-preserved c =
       low = omega (arith, before.low);
       high = omega (arith, c.loop-place-test.true);
       few = omega (arith, before.low, before.few, there.few);
-      passes = subst (PassesOn passed.run passed.is_inserted run last) longer (passes_more c.loop-place.run c.loop-place.is_inserted run last bits more passed before.passes (there.passes c.loop-place.is_inserted));
+      passes = subst (PassesOn passed.run passed.is_inserted run last) longer
+          (passes_more c.loop-place.run c.loop-place.is_inserted run last bits more passed before.passes (there.passes c.loop-place.is_inserted));
       kept = subst (λ l. take (c.loop-place.count + passed.count) (bits_of c.write_octet.new.octets) ≡ start ++ kept_from run l) longer
-          (kept_more c.loop-place.run c.loop-place.is_inserted run last bits more start _ _ passed before.passes (there.passes c.loop-place.is_inserted) before.kept
+          (kept_more c.loop-place.run c.loop-place.is_inserted run last bits more start _ _ passed before.passes (there.passes c.loop-place.is_inserted)
+          before.kept
           (c.write_octet.ensures.bits passed.count there.few));
       len = c.write_octet.ensures.len ∙ before.len;
     }

@@ -17,10 +17,12 @@ returns-clause-kept c =
     let there = c.take_into.ensures in
     let same = slice_written _ c.take_into.new.memory _ (sym lent.len ∙ ap length lent.value) (there.len ∙ ap length lent.value) in
     ap (λ o. take c.take_into.result.count (bits_of o)) same ∙ there.kept
-    ∙ ap (λ o. take c.args.size (bits_of o) ++ kept_from c.args.scan.run (part (8 * c.args.at) (8 * c.take_into.result.end) (bits_of c.args.octets.now))) lent.value
+    ∙ ap (λ o. take c.args.size (bits_of o) ++ kept_from c.args.scan.run (part (8 * c.args.at) (8 * c.take_into.result.end) (bits_of c.args.octets.now)))
+    lent.value
 
 pub returns-clause-len : goal.returns-clause-len
 returns-clause-len c =
     let lent = c.as_mut_slice.ensures in
     let there = c.take_into.ensures in
-    ap length (slice_written _ c.take_into.new.memory _ (sym lent.len ∙ ap length lent.value) (there.len ∙ ap length lent.value)) ∙ there.len ∙ ap length lent.value
+    ap length (slice_written _ c.take_into.new.memory _ (sym lent.len ∙ ap length lent.value) (there.len ∙ ap length lent.value)) ∙ there.len
+    ∙ ap length lent.value

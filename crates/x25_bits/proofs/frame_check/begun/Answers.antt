@@ -12,9 +12,11 @@ pub returns : goal.returns
 returns c =
     elim c.if-octets-lt8.branch [
       | then-octets-lt8 w ↦
-          begun_is c.args.octets.now c.args.count (length c.args.octets.now) c.if-octets-lt8.word c.requires.few c.requires.within (omega arith) (λ i. omega (arith, c.type_inv.octets i))
+          begun_is c.args.octets.now c.args.count (length c.args.octets.now) c.if-octets-lt8.word c.requires.few c.requires.within (omega arith)
+          (λ i. omega (arith, c.type_inv.octets i))
           (w.word-is ∙ w.short_word-word.ensures)
       | else-octets-lt8 w ↦
-          begun_is c.args.octets.now c.args.count 8 c.if-octets-lt8.word c.requires.few (omega (arith, c.requires.few)) (omega (arith, w.if-octets-lt8)) (λ i. omega (arith, c.type_inv.octets i))
+          begun_is c.args.octets.now c.args.count 8 c.if-octets-lt8.word c.requires.few (omega (arith, c.requires.few)) (omega (arith, w.if-octets-lt8))
+          (λ i. omega (arith, c.type_inv.octets i))
           (w.word-is ∙ w.read_u64-word.ensures)
     ]

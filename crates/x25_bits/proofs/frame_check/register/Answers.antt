@@ -12,7 +12,8 @@ returns-then-octets-lt8 c =
 
 pub returns-then-rest-lt64 : goal.returns-then-rest-lt64
 returns-then-rest-lt64 c =
-    c.reduced-then-rest-lt64.ensures ∙ c.through_words.ensures ∙ fed_parts c.begun-held.result _ _ _ c.args.octets.now refl c.split_at.ensures.back c.begun-held.ensures
+    c.reduced-then-rest-lt64.ensures ∙ c.through_words.ensures
+    ∙ fed_parts c.begun-held.result _ _ _ c.args.octets.now refl c.split_at.ensures.back c.begun-held.ensures
 
 pub returns : goal.returns
 returns c =

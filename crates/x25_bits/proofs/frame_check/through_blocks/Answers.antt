@@ -23,4 +23,5 @@ loop-block-preserved c =
 pub returns : goal.returns
 returns c =
     c.last_word.ensures
-    ∙ fed_end _ (32 * c.loop-block.block) c.args.octets.now (omega (arith, c.requires, c.loop-block-test.false, c.loop-block.auto.block-end)) ∙ c.loop-block.invariant.same
+    ∙ fed_end _ (32 * c.loop-block.block) c.args.octets.now (omega (arith, c.requires, c.loop-block-test.false, c.loop-block.auto.block-end))
+    ∙ c.loop-block.invariant.same

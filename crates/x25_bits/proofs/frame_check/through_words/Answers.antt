@@ -13,12 +13,15 @@ loop-eight-preserved c =
     record {
       fits = xor_lt 64 c.folded.result c.read_u64.result (omega (arith, c.folded.type_inv)) (omega (arith, c.read_u64.type_inv));
       same =
-          fed_next_word c.loop-eight.held c.folded.result c.read_u64.result c.loop-eight.eight c.args.octets.now (omega (arith, c.loop-eight-test.true, c.loop-eight.auto.eight-end))
+          fed_next_word c.loop-eight.held c.folded.result c.read_u64.result c.loop-eight.eight c.args.octets.now
+          (omega (arith, c.loop-eight-test.true, c.loop-eight.auto.eight-end))
           (λ j. omega (arith, c.type_inv.octets j)) c.folded.ensures
-          (c.read_u64.ensures ∙ little_from-take 0 8 (length c.args.octets.now - at) (drop at c.args.octets.now) (omega (arith, c.loop-eight-test.true, c.loop-eight.auto.eight-end)))
+          (c.read_u64.ensures ∙ little_from-take 0 8 (length c.args.octets.now - at) (drop at c.args.octets.now)
+          (omega (arith, c.loop-eight-test.true, c.loop-eight.auto.eight-end)))
           ∙ c.loop-eight.invariant.same;
     }
 
 pub returns : goal.returns
 returns c =
-    fed_end _ (8 * c.loop-eight.eight) c.args.octets.now (omega (arith, c.requires, c.loop-eight-test.false, c.loop-eight.auto.eight-end)) ∙ c.loop-eight.invariant.same
+    fed_end _ (8 * c.loop-eight.eight) c.args.octets.now (omega (arith, c.requires, c.loop-eight-test.false, c.loop-eight.auto.eight-end))
+    ∙ c.loop-eight.invariant.same

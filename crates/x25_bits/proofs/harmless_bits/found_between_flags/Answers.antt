@@ -10,7 +10,8 @@ returns c =
     let bits = c.args.bits.now in
     let begun = c.in_ok-find.ensures.fits [] c.in_ok-deframer.ensures in
     let grown = c.in_ok-find-2.ensures.fits ends begun in
-    found_thrice ends bits (plains c.new-found.result.items) (plains c.find.new.found.items) (plains c.find-2.new.found.items) (plains c.find-3.new.found.items) (c.in_ok-put_flag.ensures.ok ∙ ap (λ (l : List Bool). l ++ flag) c.new-ends.ensures)
+    found_thrice ends bits (plains c.new-found.result.items) (plains c.find.new.found.items) (plains c.find-2.new.found.items)
+    (plains c.find-3.new.found.items) (c.in_ok-put_flag.ensures.ok ∙ ap (λ (l : List Bool). l ++ flag) c.new-ends.ensures)
     (ap plains c.new-found.ensures.items)
     (c.in_ok-find.ensures.found [] c.in_ok-deframer.ensures)
     (c.in_ok-find-2.ensures.found ends begun)

@@ -26,7 +26,10 @@ sealed_tested octets sealed =
     let at = length octets - 2 in
     let last = drop at octets in
     let number = number_when octets sealed in
-    rw (le-leb 2 (length octets) number.0, eq-eqb (slice_index last 0 + 256 * slice_index last 1) (fcs_of (take at octets)) (sym (number_is (get_or last 0 0) (get_or last 1 0)) ∙ number.1)) refl
+    rw (
+      le-leb 2 (length octets) number.0,
+      eq-eqb (slice_index last 0 + 256 * slice_index last 1) (fcs_of (take at octets)) (sym (number_is (get_or last 0 0) (get_or last 1 0)) ∙ number.1),
+    ) refl
 
 pub returns : goal.returns
 returns c = λ octets small. (tested_sealed octets small, sealed_tested octets)

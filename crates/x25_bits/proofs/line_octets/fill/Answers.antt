@@ -5,5 +5,6 @@ use Rattle.x25_bits.proofs.line_octets.fill.Goals as goal
 
 pub returns : goal.returns
 returns c = record {
-  ok = c.in_ok-append.ensures.ok ∙ ap (λ l. c.args.bits.now ++ l) (ones_low _ (omega arith)) ∙ ap (λ n. c.args.bits.now ++ replicate ((8 - n % 8) % 8) true) c.len.ensures;
+  ok = c.in_ok-append.ensures.ok ∙ ap (λ l. c.args.bits.now ++ l) (ones_low _ (omega arith))
+      ∙ ap (λ n. c.args.bits.now ++ replicate ((8 - n % 8) % 8) true) c.len.ensures;
 }

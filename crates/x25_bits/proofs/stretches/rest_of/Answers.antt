@@ -22,4 +22,5 @@ returns-clause-passes c =
     let bits = part place (place + (8 - place % 8)) (bits_of octets) in
     subst (λ r. Passes p r c.args.scan.is_inserted bits) (sym run) (subst (λ i. Passes p 0 i bits) (sym inserted)
     (subst (Passes p 0 false) (sym (part_low place (8 - place % 8) octets (omega arith) (omega arith)))
-    (rest_passes (place % 8) (get_or octets (place / 8) 0) c.in-Some.passed p (omega arith) (c.in-Some.ensures.passes false) zeros.kept zeros.count zeros.run zeros.inserted)))
+    (rest_passes (place % 8) (get_or octets (place / 8) 0) c.in-Some.passed p (omega arith) (c.in-Some.ensures.passes false) zeros.kept zeros.count zeros.run
+    zeros.inserted)))

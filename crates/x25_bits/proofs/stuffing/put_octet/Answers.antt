@@ -10,4 +10,5 @@ pub returns-clause-stuffs : goal.returns-clause-stuffs
 unfolding stuffeds
 returns-clause-stuffs c = λ rest.
     octet_stuffs c.args.run c.args.octet c.args.bits.now c.put_rest.new.bits rest c.requires (omega arith)
-    (in_two c.args.bits.now c.put_low.new.bits c.put_rest.new.bits (stuffed_at (c.args.run * 256 + c.args.octet)) c.in_ok-put_low.ensures.ok c.in_ok-put_rest.ensures.ok)
+    (in_two c.args.bits.now c.put_low.new.bits c.put_rest.new.bits (stuffed_at (c.args.run * 256 + c.args.octet)) c.in_ok-put_low.ensures.ok
+    c.in_ok-put_rest.ensures.ok)

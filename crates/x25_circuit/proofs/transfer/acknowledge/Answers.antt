@@ -11,9 +11,11 @@ loop-packet-preserved c =
     let fewer = ap (λ (h : Held Bool). length h.items) c.release.ensures.held ∙ length-drop 1 c.loop-packet.sender.items in
     let byte = byte_is_bit c.release.result in
     record {
-      fits = λ n sent fits. numbers_released c.loop-packet.sender c.release.new.self n c.loop-packet._packet sent c.release.ensures.step (c.loop-packet.invariant.fits n sent fits);
+      fits = λ n sent fits. numbers_released c.loop-packet.sender c.release.new.self n c.loop-packet._packet sent c.release.ensures.step
+          (c.loop-packet.invariant.fits n sent fits);
       asked = λ n sent fits.
-          let one = released_asks c.loop-packet.sender n c.loop-packet._packet sent c.release.result (c.loop-packet.invariant.fits n sent fits) c.release.ensures.item in
+          let one = released_asks c.loop-packet.sender n c.loop-packet._packet sent c.release.result (c.loop-packet.invariant.fits n sent fits)
+          c.release.ensures.item in
           omega (arith, one, c.loop-packet.invariant.asked n sent fits, c.from-asked.ensures, byte);
       few = omega (arith, c.loop-packet.invariant.few, c.from-asked.ensures, byte, bit_few c.release.result);
       left = omega (arith, fewer, c.loop-packet.invariant.left, c.loop-packet-test.true, c.requires);

@@ -26,11 +26,16 @@ loop-channel-preserved-then-is_any c =
       c.in-Some.ensures.within,
       found.bound,
       (let room = c.push_reserved.ensures.capacity in let places = before.2 in omega (arith, room, places)),
-      subst (AreListed c.in-Some.channel 0) (sym pushed) (more_listed c.args.times c.args.now c.args.old.now l.list.items l.at l.past c.in-Some.channel c.channel-awaits.result.awaits c.find-place.result.1 before.3 before.4 c.in-Some.ensures.higher (sym c.is_any.ensures ∙ c.if-is_any.true) found.wait),
+      subst (AreListed c.in-Some.channel 0) (sym pushed)
+          (more_listed c.args.times c.args.now c.args.old.now l.list.items l.at l.past c.in-Some.channel c.channel-awaits.result.awaits c.find-place.result.1
+          before.3 before.4 c.in-Some.ensures.higher (sym c.is_any.ensures ∙ c.if-is_any.true) found.wait),
       (λ h high. found.rest h high ∙ before.4 h (let higher = c.in-Some.ensures.higher in omega (arith, high, higher))),
-      (λ d s fits. subst (λ (ws : List Wait). (h : ℕ) → 1 ≤ h → h ≤ c.in-Some.channel → wait_at h ws ≡ heeded_on c.args.times c.args.now (layer_settings d) s.layer (wait_at h c.args.old.now)) (sym pushed)
-          (one_heard c.args.times c.args.now (λ k. awaited_at (layer_settings d) s.layer k) c.args.most c.args.old.now c.requires.listed l.list.items l.at l.past c.in-Some.channel c.channel-awaits.result.awaits c.find-place.result.1
-          before.3 before.4 (before.5 d s fits) c.in-Some.ensures.higher (c.in-Some.ensures.between d s fits) (c.channel-awaits.ensures.awaits d s fits) found.wait)),
+      (λ d s fits. subst (λ (ws : List Wait). (h : ℕ) → 1 ≤ h → h ≤ c.in-Some.channel → wait_at h ws
+          ≡ heeded_on c.args.times c.args.now (layer_settings d) s.layer (wait_at h c.args.old.now)) (sym pushed)
+          (one_heard c.args.times c.args.now (λ k. awaited_at (layer_settings d) s.layer k) c.args.most c.args.old.now c.requires.listed l.list.items l.at
+          l.past c.in-Some.channel c.channel-awaits.result.awaits c.find-place.result.1
+          before.3 before.4 (before.5 d s fits) c.in-Some.ensures.higher (c.in-Some.ensures.between d s fits) (c.channel-awaits.ensures.awaits d s fits)
+          found.wait)),
     )
 
 pub loop-channel-preserved : goal.loop-channel-preserved
@@ -43,8 +48,10 @@ loop-channel-preserved c =
       before.2,
       still_listed l.past c.in-Some.channel 0 l.list.items (omega (arith, higher)) before.3,
       (λ h high. before.4 h (omega (arith, high, higher))),
-      (λ d s fits. one_idle c.args.times c.args.now (λ k. awaited_at (layer_settings d) s.layer k) c.args.most c.args.old.now c.requires.listed l.list.items l.past c.in-Some.channel c.channel-awaits.result.awaits
-          before.3 (before.5 d s fits) (c.in-Some.ensures.between d s fits) (c.channel-awaits.ensures.awaits d s fits) (sym c.is_any.ensures ∙ c.if-is_any.false)),
+      (λ d s fits. one_idle c.args.times c.args.now (λ k. awaited_at (layer_settings d) s.layer k) c.args.most c.args.old.now c.requires.listed l.list.items
+          l.past c.in-Some.channel c.channel-awaits.result.awaits
+          before.3 (before.5 d s fits) (c.in-Some.ensures.between d s fits) (c.channel-awaits.ensures.awaits d s fits)
+          (sym c.is_any.ensures ∙ c.if-is_any.false)),
     )
 
 pub returns-clause-listed : goal.returns-clause-listed
@@ -55,5 +62,6 @@ returns-clause-listed c =
 pub returns-clause-heeds : goal.returns-clause-heeds
 returns-clause-heeds c = λ d s fits h low high.
     let l = c.loop-channel in
-    all_heard c.args.times c.args.now (λ k. awaited_at (layer_settings d) s.layer k) c.args.most c.args.old.now c.requires.listed l.list.items l.past (c.args.most + 1)
+    all_heard c.args.times c.args.now (λ k. awaited_at (layer_settings d) s.layer k) c.args.most c.args.old.now c.requires.listed l.list.items l.past
+    (c.args.most + 1)
     l.invariant.3 (l.invariant.5 d s fits) (c.in_default.ensures.none d s fits) h low (omega (arith, high))

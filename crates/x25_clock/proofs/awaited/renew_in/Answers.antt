@@ -20,4 +20,5 @@ returns-clause-items c =
     let same : length c.loop-wait.wait-items ≡ length c.args.waits.now.items = c.loop-wait.auto.wait-items ∙ ap length value in
     let all : length c.loop-wait.wait-items ≤ c.loop-wait.wait-index = omega arith in
     let high : length c.args.waits.now.items ≤ c.args.waits.now.len = omega arith in
-    written_back f c.loop-wait.wait-index c.args.waits.now.len c.loop-wait.wait-items c.args.waits.now.items (c.loop-wait.invariant ∙ ap (map f) value) all high same
+    written_back f c.loop-wait.wait-index c.args.waits.now.len c.loop-wait.wait-items c.args.waits.now.items (c.loop-wait.invariant ∙ ap (map f) value) all
+    high same

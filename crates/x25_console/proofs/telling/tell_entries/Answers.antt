@@ -13,4 +13,5 @@ returns-in_err-tell_entry-clause-tells g c = λ old told h.
     let first = lines_of_all c.args.at (take c.loop-entry.entry-index c.args.entries.now) in
     rw p.1 (part_of_all old _ told (first ++ entry_line c.args.at (plain_entry c.entry-item.result)) _ _
     (all_parts c.args.at c.args.entries.now c.loop-entry.entry-index c.entry-item.result c.loop-entry-test.true c.entry-item.is)
-    (subst (AppendsPrefix old (g.W.Sink.contents c.tell_entry.new.writer)) (append_assoc told first _) (c.in_err-tell_entry.ensures.tells old (told ++ first) (c.loop-entry.invariant.1 old told h))))
+    (subst (AppendsPrefix old (g.W.Sink.contents c.tell_entry.new.writer)) (append_assoc told first _)
+    (c.in_err-tell_entry.ensures.tells old (told ++ first) (c.loop-entry.invariant.1 old told h))))

@@ -4,7 +4,8 @@ use Rattle.x25_decode.proofs.decoding.decode_plainly.Goals as goal
 
 pub returns-in_err-decoder-clause-runs : goal.returns-in_err-decoder-clause-runs
 returns-in_err-decoder-clause-runs g c =
-    none_ran g.R.Source g.W.Sink (program c.args.reading) c.args.reader.now c.args.writer.now c.from_residual-in_err-decoder.result c.from_residual-in_err-decoder.ensures.1
+    none_ran g.R.Source g.W.Sink (program c.args.reading) c.args.reader.now c.args.writer.now c.from_residual-in_err-decoder.result
+    c.from_residual-in_err-decoder.ensures.1
 
 pub returns-clause-runs : goal.returns-clause-runs
 returns-clause-runs g c =

@@ -12,7 +12,8 @@ use Rattle.x25_frame.proofs.reading.decode.Goals as goal
 pub returns-clause-found : goal.returns-clause-found
 returns-clause-found c = go c.read_addressed.result c.read_addressed.ensures
   where
-    go : (r : Result Frame FrameError) → Gives r (addressed_frame c.args.from c.args.n1 c.args.octets.now) → IfOk r (λ v. Spells c.args.from c.args.n1 (plain v) c.args.octets.now)
+    go : (r : Result Frame FrameError) → Gives r (addressed_frame c.args.from c.args.n1 c.args.octets.now)
+        → IfOk r (λ v. Spells c.args.from c.args.n1 (plain v) c.args.octets.now)
     go (Ok v) e = found_spells c.args.from c.args.n1 c.args.octets.now (plain v) (λ i. omega (arith, c.type_inv.octets i))
         (record { long = c.if-octets-lt4.false; sealed = c.check.ensures.sealed.0 c.if-not-check.false }) e
     go (Err f) e = tt
@@ -28,7 +29,8 @@ returns-clause-only c = λ v spells. go c.read_addressed.result c.read_addressed
 pub returns-clause-error : goal.returns-clause-error
 returns-clause-error c = go c.read_addressed.result c.read_addressed.ensures
   where
-    go : (r : Result Frame FrameError) → Gives r (addressed_frame c.args.from c.args.n1 c.args.octets.now) → IfErr r (λ e. IsFirstError c.args.from c.args.n1 c.args.octets.now e)
+    go : (r : Result Frame FrameError) → Gives r (addressed_frame c.args.from c.args.n1 c.args.octets.now)
+        → IfErr r (λ e. IsFirstError c.args.from c.args.n1 c.args.octets.now e)
     go (Ok v) e = tt
     go (Err f) e = error_is_first c.args.from c.args.n1 c.args.octets.now f (λ i. omega (arith, c.type_inv.octets i))
         (record { long = c.if-octets-lt4.false; sealed = c.check.ensures.sealed.0 c.if-not-check.false }) e

@@ -10,5 +10,7 @@ if_so b x y e = rw e refl
 pub returns-then-octets-address : goal.returns-then-octets-address
 returns-then-octets-address c =
     let octets = c.args.octets.now in
-    let e : (slice_index octets 0 == address_of c.args.from true) ≡ true = let h = c.if-octets-address.true ∙ c.address.ensures in grind (arith, nat_tests, h) in
-    subst (Gives c.read_kind.result) (sym (if_so _ _ _ e ∙ ap (λ n. kind_of c.args.n1 true (slice_index octets 1) (take n (drop 2 octets))) (omega arith))) c.read_kind.ensures
+    let e : (slice_index octets 0 == address_of c.args.from true) ≡ true =
+    let h = c.if-octets-address.true ∙ c.address.ensures in grind (arith, nat_tests, h) in
+    subst (Gives c.read_kind.result) (sym (if_so _ _ _ e ∙ ap (λ n. kind_of c.args.n1 true (slice_index octets 1) (take n (drop 2 octets))) (omega arith)))
+    c.read_kind.ensures

@@ -13,14 +13,19 @@ addresses-requires-clause-long c =
     let p = c.in-Call in
     let body = p.body.now in
     long_enough p.channel c.len.result c.len-in-Call.result (called_of p.a body) (calling_of p.a body) (field_of p.a body) (user_of p.a body) c.args.octets.now
-    (c.in-Ok.ensures.found.spelling ∙ ap (λ v. spelling_of (plain v)) p.is) (c.len.ensures.number ∙ ap length c.called_digits.ensures.digits) (c.len-in-Call.ensures.number ∙ ap length c.calling_digits.ensures.digits)
+    (c.in-Ok.ensures.found.spelling ∙ ap (λ v. spelling_of (plain v)) p.is) (c.len.ensures.number ∙ ap length c.called_digits.ensures.digits)
+    (c.len-in-Call.ensures.number ∙ ap length c.calling_digits.ensures.digits)
 
 pub returns-in-Call-clause-written : goal.returns-in-Call-clause-written
 returns-in-Call-clause-written c =
     let p = c.in-Call in
     let body = p.body.now in
     c.spelled.ensures.items
-    ∙ ap (λ (user : List ℕ). c.head.result ++ (c.addresses.result.now ++ fields_octets (Some (fields (c.as_slice.result.now ++ c.args.given.now.facilities.now) user)))) c.user_data.ensures
-    ∙ call_written (plain_given c.args.given.now) p.channel c.len.result c.len-in-Call.result (called_of p.a body) (calling_of p.a body) (field_of p.a body) (user_of p.a body) c.args.octets.now _ c.addresses.result.now c.as_slice.result.now
-    (c.in-Ok.ensures.found.spelling ∙ ap (λ v. spelling_of (plain v)) p.is) (c.in-Ok.ensures.exact ∙ ap (λ v. Ok (plain v)) p.is) (c.len.ensures.number ∙ ap length c.called_digits.ensures.digits)
-    (c.len-in-Call.ensures.number ∙ ap length c.calling_digits.ensures.digits) c.head.ensures c.addresses.ensures (c.as_slice.ensures.octets ∙ c.facility_field.ensures)
+    ∙ ap (λ (user : List ℕ). c.head.result
+    ++ (c.addresses.result.now ++ fields_octets (Some (fields (c.as_slice.result.now ++ c.args.given.now.facilities.now) user)))) c.user_data.ensures
+    ∙ call_written (plain_given c.args.given.now) p.channel c.len.result c.len-in-Call.result (called_of p.a body) (calling_of p.a body) (field_of p.a body)
+    (user_of p.a body) c.args.octets.now _ c.addresses.result.now c.as_slice.result.now
+    (c.in-Ok.ensures.found.spelling ∙ ap (λ v. spelling_of (plain v)) p.is) (c.in-Ok.ensures.exact ∙ ap (λ v. Ok (plain v)) p.is)
+    (c.len.ensures.number ∙ ap length c.called_digits.ensures.digits)
+    (c.len-in-Call.ensures.number ∙ ap length c.calling_digits.ensures.digits) c.head.ensures c.addresses.ensures
+    (c.as_slice.ensures.octets ∙ c.facility_field.ensures)

@@ -10,7 +10,8 @@ pub record Writes (old now : Option (List ℕ)) (octets rest : List ℕ) (mark b
   pub kept : mark ≡ before
 
 abbrev pub invariant-loop-rest : goal.invariant-loop-rest
-invariant-loop-rest g l = Writes (g.W.Sink.contents l.fn.writer) (g.W.Sink.contents l.writer) l.fn.octets l.rest (g.W.Sink.is_marked l.writer) (g.W.Sink.is_marked l.fn.writer)
+invariant-loop-rest g l = Writes (g.W.Sink.contents l.fn.writer) (g.W.Sink.contents l.writer) l.fn.octets l.rest (g.W.Sink.is_marked l.writer)
+    (g.W.Sink.is_marked l.fn.writer)
 
 abbrev pub decreases-loop-rest : goal.decreases-loop-rest
 decreases-loop-rest g l = length l.rest

@@ -18,7 +18,8 @@ returns-then-count-eq0-clause-answers g c = λ setting old begins.
     answered _ (g.R.Source.remaining c.args.reader.now) _ old _ c.end.result
     (λ text is few.
     let at = c.loop.invariant.2 setting old text is (begins text) in
-    let end = at_end _ _ at.0 c.read.new.buffer c.in-Ok.count at.1 c.in-Ok.ensures.octets.0 c.if-count-eq0.true (c.in-Ok.ensures.octets.1 c.if-count-eq0.true (omega arith)) in
+    let end = at_end _ _ at.0 c.read.new.buffer c.in-Ok.count at.1 c.in-Ok.ensures.octets.0 c.if-count-eq0.true
+    (c.in-Ok.ensures.octets.1 c.if-count-eq0.true (omega arith)) in
     c.end.ensures.all setting old text (subst (λ rest. g.T.TextTaker.leads setting c.loop.taker old (g.W.Sink.contents c.loop.writer) rest text) end at.3))
     c.end.ensures.read
 
@@ -29,7 +30,8 @@ returns-in_err-take_piece-clause-answers g c = λ setting old begins.
     (λ text is few.
     let at = c.loop.invariant.2 setting old text is (begins text) in
     let left = consumed _ _ at.0 _ at.1 c.in-Ok.ensures.octets.0 in
-    c.in_err-take_piece.ensures.on setting old left.0 text (subst (λ rest. g.T.TextTaker.leads setting c.loop.taker old (g.W.Sink.contents c.loop.writer) rest text) left.2 at.3))
+    c.in_err-take_piece.ensures.on setting old left.0 text
+    (subst (λ rest. g.T.TextTaker.leads setting c.loop.taker old (g.W.Sink.contents c.loop.writer) rest text) left.2 at.3))
     (λ err. c.in_err-take_piece.ensures.read (cc (err, p.2))))
 
 pub loop-preserved : goal.loop-preserved

@@ -32,7 +32,8 @@ returns c =
     record {
       fits = λ s f fits. subst (λ (vs : List circuit_code.Circuit). FitsCircuits s vs at_rest.circuits) (sym all)
           (changed_all s c.loop-circuit.circuit-index c.loop-circuit.circuit-items f at_rest.circuits
-          (c.loop-circuit.invariant.fits s f (subst (λ (vs : List circuit_code.Circuit). FitsCircuits s vs f) (sym c.deref_mut-circuit-items.ensures.value) fits))
+          (c.loop-circuit.invariant.fits s f (subst (λ (vs : List circuit_code.Circuit). FitsCircuits s vs f) (sym c.deref_mut-circuit-items.ensures.value)
+          fits))
           (omega arith));
       count = ap length all ∙ count;
     }

@@ -31,7 +31,8 @@ returns c =
     record {
       fits = λ s f fits. subst (λ (vs : List circuit_code.Circuit). FitsCircuits s vs (λ k. forgotten (f k))) (sym all)
           (changed_all s c.loop-circuit.circuit-index c.loop-circuit.circuit-items f (λ k. forgotten (f k))
-          (c.loop-circuit.invariant.fits s f (subst (λ (vs : List circuit_code.Circuit). FitsCircuits s vs f) (sym c.deref_mut-circuit-items.ensures.value) fits))
+          (c.loop-circuit.invariant.fits s f (subst (λ (vs : List circuit_code.Circuit). FitsCircuits s vs f) (sym c.deref_mut-circuit-items.ensures.value)
+          fits))
           (omega arith));
       count = ap length all ∙ count;
     }

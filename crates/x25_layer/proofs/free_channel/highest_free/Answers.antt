@@ -6,7 +6,8 @@ use Rattle.x25_layer.proofs.free_channel.highest_free.Goals as goal
 pub returns-then-is_free-clause-value : goal.returns-then-is_free-clause-value
 returns-then-is_free-clause-value c = λ s f fits.
     let high = c.loop-channel.invariant.high in
-    let free = freed s c.args.circuits.now f (c.loop-channel.channel - 1) c.index-circuits-channel.result c.is_free.result fits (omega (arith, high)) c.index-circuits-channel.is c.is_free.ensures in
+    let free = freed s c.args.circuits.now f (c.loop-channel.channel - 1) c.index-circuits-channel.result c.is_free.result fits (omega (arith, high))
+    c.index-circuits-channel.is c.is_free.ensures in
     sym (c.loop-channel.invariant.free s f fits ∙ highest_at f c.loop-channel.channel true (omega arith) (free ∙ c.if-is_free.true))
 
 pub loop-channel-preserved : goal.loop-channel-preserved
@@ -15,7 +16,8 @@ loop-channel-preserved c =
     record {
       high = omega (arith, high);
       free = λ s f fits.
-          let free = freed s c.args.circuits.now f (c.loop-channel.channel - 1) c.index-circuits-channel.result c.is_free.result fits (omega (arith, high)) c.index-circuits-channel.is c.is_free.ensures in
+          let free = freed s c.args.circuits.now f (c.loop-channel.channel - 1) c.index-circuits-channel.result c.is_free.result fits (omega (arith, high))
+          c.index-circuits-channel.is c.is_free.ensures in
           c.loop-channel.invariant.free s f fits ∙ highest_at f c.loop-channel.channel false (omega arith) (free ∙ c.if-is_free.false);
     }
 

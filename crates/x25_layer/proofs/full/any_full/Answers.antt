@@ -13,7 +13,8 @@ full_more f (suc k) n full =
     let next : suc k + n ≡ suc (k + n) = omega arith in
     rw next (ap (λ (b : Bool). b || (is_most (f (suc (k + n))).clears || is_most (f (suc (k + n))).resets)) (full_more f k n full))
 
-full_found : (f : ℕ → Circuit) (i n : ℕ) → i < n → full_up_to f i ≡ false → (is_most (f (suc i)).clears || is_most (f (suc i)).resets) ≡ true → full_up_to f n ≡ true
+full_found : (f : ℕ → Circuit) (i n : ℕ) → i < n → full_up_to f i ≡ false → (is_most (f (suc i)).clears || is_most (f (suc i)).resets) ≡ true → full_up_to f n
+    ≡ true
 full_found f i n low before here =
     let rest : n ≡ (n - suc i) + suc i = omega (arith, low) in
     ap (λ (m : ℕ). full_up_to f m) rest
@@ -32,7 +33,8 @@ loop-circuit-preserved c =
           sym (ap (λ (n : ℕ). full_up_to f n) next)
           ∙ ap (λ (b : Bool). b || (is_most (f (suc i)).clears || is_most (f (suc i)).resets)) (c.loop-circuit.invariant.value s f fits)
           ∙ sym here;
-      left = below_next HasCountsLeft c.args.circuits.now i c.circuit-item.result found c.loop-circuit.invariant.left (c.is_full.ensures.left c.if-is_full.false);
+      left = below_next HasCountsLeft c.args.circuits.now i c.circuit-item.result found c.loop-circuit.invariant.left
+          (c.is_full.ensures.left c.if-is_full.false);
     }
 
 pub returns-then-is_full-clause-value : goal.returns-then-is_full-clause-value

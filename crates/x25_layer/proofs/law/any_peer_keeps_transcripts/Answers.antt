@@ -6,7 +6,12 @@ known c = record {
   quiet = c.any_peer_keeps_layers.ensures.quiet;
   order = c.any_peer_keeps_layers.ensures.order;
   arrived = c.any_peer_keeps_layers.ensures.arrived;
-  params = record { said = c.values_are_agreed.ensures.said; field = c.values_are_agreed.ensures.field; allowed = c.values_are_agreed.ensures.allowed; answered = c.values_are_agreed.ensures.answer };
+  params = record {
+    said = c.values_are_agreed.ensures.said;
+    field = c.values_are_agreed.ensures.field;
+    allowed = c.values_are_agreed.ensures.allowed;
+    answered = c.values_are_agreed.ensures.answer;
+  };
 }
 
 pub returns : goal.returns

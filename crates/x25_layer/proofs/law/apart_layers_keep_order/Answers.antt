@@ -13,7 +13,8 @@ over_links : goal.After-names_are_told → (long_data : Bool) (channels : Ranges
 over_links c long_data channels = apart_is_over_links long_data channels (c.two_layers_keep_order.ensures.order long_data channels)
 
 -- what always holds of two layers over links
-apart : goal.After-names_are_told → (P : TwoLayers → Type 0) (long_data : Bool) (channels : Ranges) → Always P long_data channels → AlwaysApart P long_data channels
+apart : goal.After-names_are_told → (P : TwoLayers → Type 0) (long_data : Bool) (channels : Ranges) → Always P long_data channels
+    → AlwaysApart P long_data channels
 apart c P long_data channels = always_apart P long_data channels (over_links c long_data channels)
 
 pub returns-clause-runs : goal.returns-clause-runs

@@ -16,7 +16,12 @@ known c = record {
   interrupts = c.keeps_order.ensures.interrupts;
   calls = c.keeps_order.ensures.calls;
   arrived = c.keeps_order.ensures.arrived;
-  params = record { said = c.values_are_agreed.ensures.said; field = c.values_are_agreed.ensures.field; allowed = c.values_are_agreed.ensures.allowed; answered = c.values_are_agreed.ensures.answer };
+  params = record {
+    said = c.values_are_agreed.ensures.said;
+    field = c.values_are_agreed.ensures.field;
+    allowed = c.values_are_agreed.ensures.allowed;
+    answered = c.values_are_agreed.ensures.answer;
+  };
 }
 
 wait : goal.After-apart_layers_keep_order → (long_data : Bool) (channels : Ranges) → Always (WaitForUsersAlone long_data channels) long_data channels
@@ -29,13 +34,16 @@ pub returns-clause-still : goal.returns-clause-still
 returns-clause-still c = still_pulls_none
 
 pub returns-clause-closed : goal.returns-clause-closed
-returns-clause-closed c = λ long_data channels. always_apart ClosedKeepNone long_data channels (c.apart_layers_keep_order.ensures.runs long_data channels) (always_closed (known c) long_data channels)
+returns-clause-closed c = λ long_data channels. always_apart ClosedKeepNone long_data channels (c.apart_layers_keep_order.ensures.runs long_data channels)
+    (always_closed (known c) long_data channels)
 
 pub returns-clause-restarting : goal.returns-clause-restarting
-returns-clause-restarting c = λ long_data channels. always_apart NoneOpenInRestart long_data channels (c.apart_layers_keep_order.ensures.runs long_data channels) (always_shut (known c) long_data channels)
+returns-clause-restarting c = λ long_data channels. always_apart NoneOpenInRestart long_data channels
+    (c.apart_layers_keep_order.ensures.runs long_data channels) (always_shut (known c) long_data channels)
 
 pub returns-clause-waits : goal.returns-clause-waits
 returns-clause-waits c = wait c
 
 pub returns-clause-apart : goal.returns-clause-apart
-returns-clause-apart c = λ long_data channels. always_apart (WaitForUsersAlone long_data channels) long_data channels (c.apart_layers_keep_order.ensures.runs long_data channels) (wait c long_data channels)
+returns-clause-apart c = λ long_data channels. always_apart (WaitForUsersAlone long_data channels) long_data channels
+    (c.apart_layers_keep_order.ensures.runs long_data channels) (wait c long_data channels)

@@ -11,7 +11,12 @@ known c = record {
   interrupts = c.keeps_order.ensures.interrupts;
   calls = c.keeps_order.ensures.calls;
   arrived = c.keeps_order.ensures.arrived;
-  params = record { said = c.values_are_agreed.ensures.said; field = c.values_are_agreed.ensures.field; allowed = c.values_are_agreed.ensures.allowed; answered = c.values_are_agreed.ensures.answer };
+  params = record {
+    said = c.values_are_agreed.ensures.said;
+    field = c.values_are_agreed.ensures.field;
+    allowed = c.values_are_agreed.ensures.allowed;
+    answered = c.values_are_agreed.ensures.answer;
+  };
 }
 
 pub returns-clause-names : goal.returns-clause-names

@@ -18,7 +18,8 @@ loop-next-preserved c =
     let same = c.from.ensures in
     let higher = c.in-Some.ensures.higher in
     let up : suc i ≡ c.in-Some.next = omega (arith, same, higher) in
-    let low : i < length c.loop-next.circuits.items = (let within = c.in-Some.ensures.within in let places = c.loop-next.invariant.places in omega (arith, up, within, places)) in
+    let low : i < length c.loop-next.circuits.items =
+    (let within = c.in-Some.ensures.within in let places = c.loop-next.invariant.places in omega (arith, up, within, places)) in
     let p = c.pull_one-is_put.ensures.pulls in
     let not_put = c.if-is_put.false in
     let read = read_at c.loop-next.circuits.items i c.index_mut-circuit.result.now low c.index_mut-circuit.ensures.value in
@@ -27,19 +28,24 @@ loop-next-preserved c =
       stands = λ s f before.
           let found = c.loop-next.invariant.stands s f before i _ read in
           fits_same s c.loop-next.circuits.items f i c.pull_one-is_put.new.circuit (c.loop-next.invariant.stands s f before)
-          (kept_one c.pull_one-is_put.result c.pull_one-is_put.new.sheet s.circuit c.in-Some.next c.pull_one-is_put.new.circuit (f (suc i)) not_put (p.put s.circuit (f (suc i)) found) (p.next s.circuit (f (suc i)) found));
+          (kept_one c.pull_one-is_put.result c.pull_one-is_put.new.sheet s.circuit c.in-Some.next c.pull_one-is_put.new.circuit (f (suc i)) not_put
+          (p.put s.circuit (f (suc i)) found) (p.next s.circuit (f (suc i)) found));
       none = λ s f before.
           let stands = c.loop-next.invariant.stands s f before in
           let here = none_put c.pull_one-is_put.result c.pull_one-is_put.new.sheet _ not_put (p.put s.circuit (f (suc i)) (stands i _ read)) in
           none_to s f c.args.behind c.in-Some.next
-          (none_before c.what_waits_is_pulled.ensures s c.loop-next.circuits.items c.loop-next.busy.channels.items f stands c.loop-next.invariant.still c.args.behind c.loop-next.channel c.in-Some.next (omega (arith, low, up))
+          (none_before c.what_waits_is_pulled.ensures s c.loop-next.circuits.items c.loop-next.busy.channels.items f stands c.loop-next.invariant.still
+          c.args.behind c.loop-next.channel c.in-Some.next (omega (arith, low, up))
           (c.loop-next.invariant.none s f before) c.in-Some.ensures.between)
           (subst (λ (h : ℕ). packet_on c.in-Some.next (pulled s.circuit (f h)).packet ≡ None) up here);
-      left = λ all. all_changed (λ (k : ℕ) (v : circuit_code.Circuit). HasCountsLeft v) c.loop-next.circuits.items i c.pull_one-is_put.new.circuit (c.loop-next.invariant.left all)
+      left = λ all. all_changed (λ (k : ℕ) (v : circuit_code.Circuit). HasCountsLeft v) c.loop-next.circuits.items i c.pull_one-is_put.new.circuit
+          (c.loop-next.invariant.left all)
           (counts_left _ c.pull_one-is_put.new.circuit p.clears p.resets (c.loop-next.invariant.left all i _ read));
       places = c.leave_idle.ensures.places ∙ c.loop-next.invariant.places ∙ sym (length-set c.loop-next.circuits.items i c.pull_one-is_put.new.circuit);
-      still = rest_changed (λ (k : ℕ) (v : circuit_code.Circuit). IsOutside c.leave_idle.new.self.channels.items (suc k) → IsIdle v) c.loop-next.circuits.items i c.pull_one-is_put.new.circuit
-          (λ k v differs at out. c.loop-next.invariant.still k v at (c.leave_idle.ensures.others (suc k) (λ on. differs (let e : k ≡ i = omega (arith, on, up) in e)) out))
+      still = rest_changed (λ (k : ℕ) (v : circuit_code.Circuit). IsOutside c.leave_idle.new.self.channels.items (suc k) → IsIdle v) c.loop-next.circuits.items
+          i c.pull_one-is_put.new.circuit
+          (λ k v differs at out. c.loop-next.invariant.still k v at
+          (c.leave_idle.ensures.others (suc k) (λ on. differs (let e : k ≡ i = omega (arith, on, up) in e)) out))
           (λ out. c.leave_idle.ensures.this (subst (λ (h : ℕ). IsOutside c.leave_idle.new.self.channels.items h) up out));
       low = (let low = c.loop-next.invariant.low in omega (arith, low, higher));
     }
@@ -50,7 +56,8 @@ returns-then-is_put c =
     let same = c.from.ensures in
     let higher = c.in-Some.ensures.higher in
     let up : suc i ≡ c.in-Some.next = omega (arith, same, higher) in
-    let low : i < length c.loop-next.circuits.items = (let within = c.in-Some.ensures.within in let places = c.loop-next.invariant.places in omega (arith, up, within, places)) in
+    let low : i < length c.loop-next.circuits.items =
+    (let within = c.in-Some.ensures.within in let places = c.loop-next.invariant.places in omega (arith, up, within, places)) in
     let p = c.pull_one-is_put.ensures.pulls in
     let is_put = c.if-is_put.true in
     let count = length-set c.loop-next.circuits.items i c.pull_one-is_put.new.circuit in
@@ -60,22 +67,29 @@ returns-then-is_put c =
           let stands = c.loop-next.invariant.stands s f before in
           let found = stands i _ read in
           record {
-            between = none_before c.what_waits_is_pulled.ensures s c.loop-next.circuits.items c.loop-next.busy.channels.items f stands c.loop-next.invariant.still c.args.behind c.loop-next.channel c.in-Some.next (omega (arith, low, up))
+            between = none_before c.what_waits_is_pulled.ensures s c.loop-next.circuits.items c.loop-next.busy.channels.items f stands
+                c.loop-next.invariant.still c.args.behind c.loop-next.channel c.in-Some.next (omega (arith, low, up))
                 (c.loop-next.invariant.none s f before) c.in-Some.ensures.between;
-            circuits = subst (λ (h : ℕ). FitsCircuits s (set c.loop-next.circuits.items i c.pull_one-is_put.new.circuit) (put_at f h (pulled s.circuit (f h)).next)) up
-                (fits_put s c.loop-next.circuits.items f i c.pull_one-is_put.new.circuit (pulled s.circuit (f (suc i))).next stands (p.next s.circuit (f (suc i)) found));
+            circuits = subst (λ (h : ℕ). FitsCircuits s (set c.loop-next.circuits.items i c.pull_one-is_put.new.circuit)
+                (put_at f h (pulled s.circuit (f h)).next)) up
+                (fits_put s c.loop-next.circuits.items f i c.pull_one-is_put.new.circuit (pulled s.circuit (f (suc i))).next stands
+                (p.next s.circuit (f (suc i)) found));
             put = some_put c.pull_one-is_put.result c.pull_one-is_put.new.sheet (next_packet s f c.in-Some.next) is_put
-                (subst (λ (h : ℕ). IsPut c.pull_one-is_put.result c.pull_one-is_put.new.sheet (packet_on c.in-Some.next (pulled s.circuit (f h)).packet)) up (p.put s.circuit (f (suc i)) found));
+                (subst (λ (h : ℕ). IsPut c.pull_one-is_put.result c.pull_one-is_put.new.sheet (packet_on c.in-Some.next (pulled s.circuit (f h)).packet)) up
+                (p.put s.circuit (f (suc i)) found));
           };
       higher = (let low = c.loop-next.invariant.low in omega (arith, low, higher));
       within = omega (arith, low, up, count);
       long = p.long is_put;
       count = count ∙ c.loop-next.invariant.count;
-      left = λ all. all_changed (λ (k : ℕ) (v : circuit_code.Circuit). HasCountsLeft v) c.loop-next.circuits.items i c.pull_one-is_put.new.circuit (c.loop-next.invariant.left all)
+      left = λ all. all_changed (λ (k : ℕ) (v : circuit_code.Circuit). HasCountsLeft v) c.loop-next.circuits.items i c.pull_one-is_put.new.circuit
+          (c.loop-next.invariant.left all)
           (counts_left _ c.pull_one-is_put.new.circuit p.clears p.resets (c.loop-next.invariant.left all i _ read));
       places = c.leave_idle.ensures.places ∙ c.loop-next.invariant.places ∙ sym count;
-      still = rest_changed (λ (k : ℕ) (v : circuit_code.Circuit). IsOutside c.leave_idle.new.self.channels.items (suc k) → IsIdle v) c.loop-next.circuits.items i c.pull_one-is_put.new.circuit
-          (λ k v differs at out. c.loop-next.invariant.still k v at (c.leave_idle.ensures.others (suc k) (λ on. differs (let e : k ≡ i = omega (arith, on, up) in e)) out))
+      still = rest_changed (λ (k : ℕ) (v : circuit_code.Circuit). IsOutside c.leave_idle.new.self.channels.items (suc k) → IsIdle v) c.loop-next.circuits.items
+          i c.pull_one-is_put.new.circuit
+          (λ k v differs at out. c.loop-next.invariant.still k v at
+          (c.leave_idle.ensures.others (suc k) (λ on. differs (let e : k ≡ i = omega (arith, on, up) in e)) out))
           (λ out. c.leave_idle.ensures.this (subst (λ (h : ℕ). IsOutside c.leave_idle.new.self.channels.items h) up out));
     }
 
@@ -83,7 +97,8 @@ pub returns : goal.returns
 returns c = record {
   next = λ s f before.
       let stands = c.loop-next.invariant.stands s f before in
-      let none = none_before c.what_waits_is_pulled.ensures s c.loop-next.circuits.items c.loop-next.busy.channels.items f stands c.loop-next.invariant.still c.args.behind c.loop-next.channel (length c.loop-next.circuits.items + 1) (omega arith)
+      let none = none_before c.what_waits_is_pulled.ensures s c.loop-next.circuits.items c.loop-next.busy.channels.items f stands c.loop-next.invariant.still
+      c.args.behind c.loop-next.channel (length c.loop-next.circuits.items + 1) (omega arith)
       (c.loop-next.invariant.none s f before) (λ k more less. c.in_default.ensures.none k more) in
       record { between = λ k more high. none k more (omega (arith, high)); circuits = stands };
   higher = search rules;

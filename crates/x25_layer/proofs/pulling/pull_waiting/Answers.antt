@@ -19,7 +19,8 @@ returns-clause-pulls c = record {
   next = search rules;
   put = λ s x fits.
       let spelled = c.with_channel-packet.ensures.moved ∙ ap (moved_to c.args.channel) c.packet.ensures in
-      subst (λ (o : Option PlainPacket). IsPut true c.spell.new.self (packet_on c.args.channel o)) (c.in-Some.ensures.packet s x fits) (c.spell.ensures.put ∙ ap spelling_of spelled);
+      subst (λ (o : Option PlainPacket). IsPut true c.spell.new.self (packet_on c.args.channel o)) (c.in-Some.ensures.packet s x fits)
+      (c.spell.ensures.put ∙ ap spelling_of spelled);
   long = search rules;
   clears = search rules;
   resets = search rules;

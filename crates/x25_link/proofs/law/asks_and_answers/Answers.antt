@@ -1,4 +1,5 @@
-use Rattle.x25_link.proofs.rows.AnswerRows.{timer_asks, poll_is_answered, final_ends_recovery, ready_is_heard, rej_goes_back, wanted_is_taken, other_is_passed_over, out_declines, dm_leaves_up}
+use Rattle.x25_link.proofs.rows.AnswerRows.{timer_asks, poll_is_answered, final_ends_recovery, ready_is_heard, rej_goes_back, wanted_is_taken}
+use Rattle.x25_link.proofs.rows.AnswerRows.{other_is_passed_over, out_declines, dm_leaves_up}
 use Rattle.x25_link.proofs.law.asks_and_answers.Goals as goal
 
 pub returns : goal.returns

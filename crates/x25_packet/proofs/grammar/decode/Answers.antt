@@ -13,7 +13,8 @@ use Rattle.x25_packet.proofs.grammar.decode.Goals as goal
 pub returns-clause-found : goal.returns-clause-found
 returns-clause-found c = go c.read_any.result c.read_any.ensures
   where
-    go : (r : Result Form PacketError) → Gives plain r (form_in c.args.most c.args.octets.now) → IfOk r (λ w. Spells Any c.args.most (plain w) c.args.octets.now)
+    go : (r : Result Form PacketError) → Gives plain r (form_in c.args.most c.args.octets.now)
+        → IfOk r (λ w. Spells Any c.args.most (plain w) c.args.octets.now)
     go (Ok w) e = found_spells Any c.args.most c.args.octets.now (plain w) (λ i. omega (arith, c.type_inv.octets i)) e
     go (Err f) e = tt
 

@@ -14,7 +14,8 @@ use Rattle.x25_packet.proofs.reading.decode_within.Goals as goal
 pub returns-clause-found : goal.returns-clause-found
 returns-clause-found c = go c.read_forms.result c.read_forms.ensures
   where
-    go : (r : Result Packet PacketError) → Gives plain r (packet_of c.args.most c.args.octets.now) → IfOk r (λ v. Spells c.args.most (plain v) c.args.octets.now)
+    go : (r : Result Packet PacketError) → Gives plain r (packet_of c.args.most c.args.octets.now)
+        → IfOk r (λ v. Spells c.args.most (plain v) c.args.octets.now)
     go (Ok v) e = found_written c.args.most c.args.octets.now (λ i. omega (arith, c.type_inv.octets i)) (plain v) e
     go (Err f) e = tt
 

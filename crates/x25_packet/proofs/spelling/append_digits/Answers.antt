@@ -13,7 +13,8 @@ pub loop-pair-preserved : goal.loop-pair-preserved
 loop-pair-preserved c =
     let size = length-pairs c.args.called.now c.args.calling.now in (
       c.push_reserved.ensures.items
-          ∙ one_pair (c.args.called.now ++ c.args.calling.now) c.args.octets.now.items c.loop-pair.octets.items c.loop-pair.pair c.digit_at-high.result c.digit_at-low.result
+          ∙ one_pair (c.args.called.now ++ c.args.calling.now) c.args.octets.now.items c.loop-pair.octets.items c.loop-pair.pair c.digit_at-high.result
+          c.digit_at-low.result
           (omega (arith, c.loop-pair-test.true)) c.loop-pair.invariant.0 c.digit_at-high.ensures.value c.digit_at-low.ensures.value,
       omega (arith, c.loop-pair.invariant.1, c.push_reserved.ensures.len),
       omega (arith, c.loop-pair.invariant.2, c.push_reserved.ensures.capacity),

@@ -9,4 +9,9 @@ returns c =
     let station = c.stations_ask_or_rest.ensures in
     let heeded = c.pulls_are_heeded_at_once.ensures in
     let event : EventIsDone = event_is_done station.pulled station.stays heeded in
-    record { event = event; due = due_is_done station.pulled station.stays heeded; nothing = nothing_is_due; watched = pipe_is_watched event station.new station.stays }
+    record {
+      event = event;
+      due = due_is_done station.pulled station.stays heeded;
+      nothing = nothing_is_due;
+      watched = pipe_is_watched event station.new station.stays;
+    }

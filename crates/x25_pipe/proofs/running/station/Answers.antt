@@ -9,23 +9,27 @@ use Rattle.x25_pipe.proofs.running.station.Goals as goal
 
 pub returns-in_err-piece : goal.returns-in_err-piece
 returns-in_err-piece g c =
-    none_ran g.R.Source g.W.Sink (program (settings_from c.args.end c.args.cfg)) c.args.reader.now c.args.writer.now c.from_residual.result c.from_residual.ensures.1
+    none_ran g.R.Source g.W.Sink (program (settings_from c.args.end c.args.cfg)) c.args.reader.now c.args.writer.now c.from_residual.result
+    c.from_residual.ensures.1
 
 pub returns-in_err-held : goal.returns-in_err-held
 returns-in_err-held g c =
-    none_ran g.R.Source g.W.Sink (program (settings_from c.args.end c.args.cfg)) c.args.reader.now c.args.writer.now c.from_residual-in_err-held.result c.from_residual-in_err-held.ensures.1
+    none_ran g.R.Source g.W.Sink (program (settings_from c.args.end c.args.cfg)) c.args.reader.now c.args.writer.now c.from_residual-in_err-held.result
+    c.from_residual-in_err-held.ensures.1
 
 pub returns-in_err-pipe : goal.returns-in_err-pipe
 returns-in_err-pipe g c =
     let p = err_from_is_err_and c.from_residual-in_err-pipe.result c.from_residual-in_err-pipe.ensures.1 in
-    rw p.1 (none_ran g.R.Source g.W.Sink (program (settings_from c.args.end c.args.cfg)) c.args.reader.now c.args.writer.now (Err p.0) (p.2 ∙ c.in_err-pipe.ensures.memory))
+    rw p.1 (none_ran g.R.Source g.W.Sink (program (settings_from c.args.end c.args.cfg)) c.args.reader.now c.args.writer.now (Err p.0)
+    (p.2 ∙ c.in_err-pipe.ensures.memory))
 
 pub returns-in-Err : goal.returns-in-Err
 returns-in-Err g c =
     let k = settings_from c.args.end c.args.cfg in
     let written = g.W.Sink.contents c.args.writer.now in
     let first = c.in_ok-pipe.ensures in
-    stopped g.R.Source g.W.Sink (program k) c.args.reader.now c.args.writer.now c.mark_standing.new.writer c.in-Err.fault (Err c.in-Err.fault) refl c.in-Err.ensures.faults
+    stopped g.R.Source g.W.Sink (program k) c.args.reader.now c.args.writer.now c.mark_standing.new.writer c.in-Err.fault (Err c.in-Err.fault) refl
+    c.in-Err.ensures.faults
     (λ input. mark_failed k written (g.W.Sink.contents c.mark_standing.new.writer) c.mark_standing.new.self input
     (c.in-Err.ensures.turns k written new_station [] false (stands_first k written c.in_ok-pipe.pipe first.fits first.role first.empty first.is_refused)))
 
@@ -34,10 +38,12 @@ returns g c =
     let k = settings_from c.args.end c.args.cfg in
     let written = g.W.Sink.contents c.args.writer.now in
     let first = c.in_ok-pipe.ensures in
-    ran_on g.R.Source g.W.Sink (program k) c.args.reader.now c.args.writer.now c.take_text.new.writer c.take_text.new.reader c.mark_standing.new.writer c.take_text.result
+    ran_on g.R.Source g.W.Sink (program k) c.args.reader.now c.args.writer.now c.take_text.new.writer c.take_text.new.reader c.mark_standing.new.writer
+    c.take_text.result
     c.in_default.ensures.faults.kept c.take_text.ensures.zero_or_one
     (c.take_text.ensures.answers k written
-    (λ input. input_begins k written (g.W.Sink.contents c.mark_standing.new.writer) c.mark_standing.new.self input c.new-lines.result.taker c.new-lines.result.held c.in_ok-held.held
+    (λ input. input_begins k written (g.W.Sink.contents c.mark_standing.new.writer) c.mark_standing.new.self input c.new-lines.result.taker
+    c.new-lines.result.held c.in_ok-held.held
     c.new-lines.ensures.held c.new-lines.ensures.taker c.in_ok-held.ensures
     (c.in_default.ensures.turns k written new_station [] false (stands_first k written c.in_ok-pipe.pipe first.fits first.role first.empty first.is_refused))))
     c.take_text.ensures.marks

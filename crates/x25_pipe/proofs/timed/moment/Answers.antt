@@ -6,12 +6,14 @@ use Rattle.x25_pipe.proofs.timed.moment.Goals as goal
 pub returns-in_err-text : goal.returns-in_err-text
 returns-in_err-text c = c.from_residual.ensures
     ∙ sym (moment_refused c.args.figures.now (λ n small same.
-    not_text c.args.figures.now c.from_utf8.result c.ok.result _ c.from_utf8.ensures.cases c.ok.ensures.value c.in_err-text.was (subst IsUtf8 (sym same) (decimal_is_text n small))))
+    not_text c.args.figures.now c.from_utf8.result c.ok.result _ c.from_utf8.ensures.cases c.ok.ensures.value c.in_err-text.was
+    (subst IsUtf8 (sym same) (decimal_is_text n small))))
 
 pub returns-in_err-number : goal.returns-in_err-number
 returns-in_err-number c =
     let text = c.in_ok-text.text in
-    let is : text.now ≡ c.args.figures.now = text_is c.args.figures.now c.from_utf8.result c.ok.result text _ c.from_utf8.ensures.cases c.ok.ensures.value c.in_ok-text.was in
+    let is : text.now ≡ c.args.figures.now = text_is c.args.figures.now c.from_utf8.result c.ok.result text _ c.from_utf8.ensures.cases c.ok.ensures.value
+    c.in_ok-text.was in
     c.from_residual-in_err-number.ensures
     ∙ sym (moment_refused c.args.figures.now (λ n small same.
     let read : c.ok-2.result ≡ Some n = parsed text.now c.parse.result c.ok-2.result n c.parse.ensures.value.0 c.ok-2.ensures.value small (is ∙ same) in
@@ -21,7 +23,8 @@ returns-in_err-number c =
 pub returns-then-is_decimal : goal.returns-then-is_decimal
 returns-then-is_decimal c =
     let text = c.in_ok-text.text in
-    let is : text.now ≡ c.args.figures.now = text_is c.args.figures.now c.from_utf8.result c.ok.result text _ c.from_utf8.ensures.cases c.ok.ensures.value c.in_ok-text.was in
+    let is : text.now ≡ c.args.figures.now = text_is c.args.figures.now c.from_utf8.result c.ok.result text _ c.from_utf8.ensures.cases c.ok.ensures.value
+    c.in_ok-text.was in
     let number = c.in_ok-number.number in
     let small : number < 2 ^ 64 = omega arith in
     sym (moment_read number c.args.figures.now small (c.is_decimal.ensures.0 c.if-is_decimal.true ∙ is))
@@ -29,7 +32,8 @@ returns-then-is_decimal c =
 pub returns-else-is_decimal : goal.returns-else-is_decimal
 returns-else-is_decimal c =
     let text = c.in_ok-text.text in
-    let is : text.now ≡ c.args.figures.now = text_is c.args.figures.now c.from_utf8.result c.ok.result text _ c.from_utf8.ensures.cases c.ok.ensures.value c.in_ok-text.was in
+    let is : text.now ≡ c.args.figures.now = text_is c.args.figures.now c.from_utf8.result c.ok.result text _ c.from_utf8.ensures.cases c.ok.ensures.value
+    c.in_ok-text.was in
     let number = c.in_ok-number.number in
     sym (moment_refused c.args.figures.now (λ n small same.
     let read : c.ok-2.result ≡ Some n = parsed text.now c.parse.result c.ok-2.result n c.parse.ensures.value.0 c.ok-2.ensures.value small (is ∙ same) in

@@ -16,7 +16,8 @@ returns-in-Some-behind-2 c = λ no_send no_accept. rw (command_behind Reset _ _ 
 
 pub returns-in-Some-behind-3 : goal.returns-in-Some-behind-3
 unfolding with_fields
-returns-in-Some-behind-3 c = λ no_send no_accept. rw (command_behind Clear _ _ c.in-Some-behind-3.ensures) (c.alone_in-in-Some-behind-3.ensures _ c.clear.ensures)
+returns-in-Some-behind-3 c = λ no_send no_accept. rw (command_behind Clear _ _ c.in-Some-behind-3.ensures)
+    (c.alone_in-in-Some-behind-3.ensures _ c.clear.ensures)
 
 pub returns-in-Some-behind-4 : goal.returns-in-Some-behind-4
 returns-in-Some-behind-4 c = λ no_send no_accept. rw (command_behind Ready _ _ c.in-Some-behind-4.ensures) c.ready.ensures

@@ -24,4 +24,5 @@ returns-in-Some c =
       | else-text-gt1-via-else-text-gt1 w ↦ λ e. w.if-text-gt1.false
     ] in
     c.sixteen_bits.ensures
-    ∙ number_valued text c.in-Some.value (some_characters (length text) (sym c.is_empty.ensures ∙ c.if-is_empty.false)) first c.in-Some.ensures.0 c.in-Some.ensures.1
+    ∙ number_valued text c.in-Some.value (some_characters (length text) (sym c.is_empty.ensures ∙ c.if-is_empty.false)) first c.in-Some.ensures.0
+    c.in-Some.ensures.1

@@ -11,4 +11,5 @@ returns-in-Some g c =
 pub returns-in-Some-behind : goal.returns-in-Some-behind
 unfolding with_fields
 returns-in-Some-behind g c =
-    c.hand_command-in-Some-behind.ensures c.args.text.now (subst (GivesCommand c.accept.result) (sym (command_behind Accept _ _ c.in-Some-behind.ensures)) c.accept.ensures)
+    c.hand_command-in-Some-behind.ensures c.args.text.now
+    (subst (GivesCommand c.accept.result) (sym (command_behind Accept _ _ c.in-Some-behind.ensures)) c.accept.ensures)

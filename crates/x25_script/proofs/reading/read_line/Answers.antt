@@ -18,4 +18,5 @@ returns-clause-found g c =
 
 pub returns-clause-only : goal.returns-clause-only
 returns-clause-only g c = λ v spells.
-    subst (g.T.ScriptTaker.gives c.args.taker.now c.args.with.now c.read.new.taker c.read.new.with c.read.result) (line_again v c.args.line.now spells) c.read.ensures
+    subst (g.T.ScriptTaker.gives c.args.taker.now c.args.with.now c.read.new.taker c.read.new.with c.read.result) (line_again v c.args.line.now spells)
+    c.read.ensures

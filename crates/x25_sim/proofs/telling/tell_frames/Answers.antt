@@ -17,7 +17,8 @@ returns-in_err-tell_frame-clause-tells g c = λ old told h.
     let first = frames_text c.args.from (drop c.args.before (take c.loop-place.place frames)) in
     rw p.1 (part_of_all old _ told (first ++ saying_line (taps (record { from = c.args.from; octets = c.in-Some.octets.now }))) _ _
     (frame_parts c.args.from frames c.args.before c.loop-place.place c.in-Some.octets.now c.loop-place.invariant.0 within c.in-Some.ensures)
-    (subst (AppendsPrefix old (g.W.Sink.contents c.tell_frame.new.writer)) (append_assoc told first _) (c.in_err-tell_frame.ensures.tells old (told ++ first) (c.loop-place.invariant.2 old told h))))
+    (subst (AppendsPrefix old (g.W.Sink.contents c.tell_frame.new.writer)) (append_assoc told first _)
+    (c.in_err-tell_frame.ensures.tells old (told ++ first) (c.loop-place.invariant.2 old told h))))
 
 pub loop-place-preserved : goal.loop-place-preserved
 unfolding saying_line
@@ -31,7 +32,8 @@ loop-place-preserved g c =
         w.in_ok-tell_frame.ensures.faults.kept ∙ c.loop-place.invariant.1,
         λ old told h.
             subst (Tells old (g.W.Sink.contents w.tell_frame.new.writer) w.tell_frame.new.output)
-            (append_assoc told first _ ∙ ap (λ t. told ++ t) (sym (frame_more c.args.from frames c.args.before c.loop-place.place w.in-Some.octets.now c.loop-place.invariant.0 within w.in-Some.ensures)))
+            (append_assoc told first _ ∙ ap (λ t. told ++ t)
+            (sym (frame_more c.args.from frames c.args.before c.loop-place.place w.in-Some.octets.now c.loop-place.invariant.0 within w.in-Some.ensures)))
             (w.in_ok-tell_frame.ensures.tells old (told ++ first) (c.loop-place.invariant.2 old told h)),
       )
       | in_default w ↦ none_there frames c.loop-place.place within w.in_default.ensures

@@ -13,5 +13,7 @@ pub returns : goal.returns
 returns c = λ c' l fits configured brief.
     let h = c.args.channel in
     let entry = code.Asked h c.name_on-name.result c.asked_of-asked.result in
-    ap (λ (es : List Entry). map plain_entry es) (c.push_reserved.ensures.items ∙ ap (λ (es : List Entry). es ++ entry ∷ []) (ap (λ (e : ShownEntries). e.items) c.entries.view_is ∙ c.requires))
-    ∙ ap₂ (λ (n : Name) (q : Request). of_channel (record { channel = h; name = n; said = Asked q }) ∷ []) (c.name_on-name.ensures c' l fits configured) (c.asked_of-asked.ensures.asked c' l fits configured brief)
+    ap (λ (es : List Entry). map plain_entry es)
+    (c.push_reserved.ensures.items ∙ ap (λ (es : List Entry). es ++ entry ∷ []) (ap (λ (e : ShownEntries). e.items) c.entries.view_is ∙ c.requires))
+    ∙ ap₂ (λ (n : Name) (q : Request). of_channel (record { channel = h; name = n; said = Asked q }) ∷ []) (c.name_on-name.ensures c' l fits configured)
+    (c.asked_of-asked.ensures.asked c' l fits configured brief)

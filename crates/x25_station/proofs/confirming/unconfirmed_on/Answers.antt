@@ -7,7 +7,8 @@ pub returns-then-count-eq0 : goal.returns-then-count-eq0
 returns-then-count-eq0 c = λ c' l fits next.
     elim c.then-count-eq0.branch [
       | then-count-eq0-via-then-count-eq0 w ↦ none_before c' l next c.args.channel _ (c.unconfirmed-count.ensures c' l fits) w.if-count-eq0.true
-      | then-count-eq0-via-else-count-eq0+then-not-is_open w ↦ closed_before c' l next c.args.channel (sym (w.is_open.ensures c' l fits) ∙ w.if-not-is_open.true)
+      | then-count-eq0-via-else-count-eq0+then-not-is_open w ↦ closed_before c' l next c.args.channel
+          (sym (w.is_open.ensures c' l fits) ∙ w.if-not-is_open.true)
     ]
 
 pub returns-in_default : goal.returns-in_default

@@ -9,7 +9,12 @@ pub drive_with-requires-clause-free : goal.drive_with-requires-clause-free
 drive_with-requires-clause-free c = takes_it c.state.result c.args.link.now (c.ask.new.self.sheet ≡ []) c.state.ensures.full c.in_ok-ask.ensures.free
 
 pub returns-in_err-ask : goal.returns-in_err-ask
-returns-in_err-ask c = drove_with_not _ c.from_residual.result c.in_err-ask.field-0.0 c.args.writing c.state.result c.args.layer.now c.ask.new.self c.args.link.now (Asks c.args.channel (plain_request c.args.request)) (record { up = c.state.ensures.up; full = c.state.ensures.waits }) c.from_residual.ensures.1 c.in_err-ask.ensures
+returns-in_err-ask c = drove_with_not _ c.from_residual.result c.in_err-ask.field-0.0 c.args.writing c.state.result c.args.layer.now c.ask.new.self
+    c.args.link.now (Asks c.args.channel (plain_request c.args.request)) (record { up = c.state.ensures.up; full = c.state.ensures.waits })
+    c.from_residual.ensures.1 c.in_err-ask.ensures
 
 pub returns : goal.returns
-returns c = drove_with c.in_ok-ask.field-0 c.args.writing c.state.result c.args.layer.now c.ask.new.self c.drive_with.new.layer c.args.link.now c.drive_with.new.link (Asks c.args.channel (plain_request c.args.request)) (record { up = c.state.ensures.up; full = c.state.ensures.waits }) (λ s l. asked_puts c.args.writing s c.state.result.is_up c.state.result.is_full l c.args.channel (plain_request c.args.request) c.requires.packet) c.in_ok-ask.ensures c.drive_with.ensures.layer c.drive_with.ensures.link
+returns c = drove_with c.in_ok-ask.field-0 c.args.writing c.state.result c.args.layer.now c.ask.new.self c.drive_with.new.layer c.args.link.now
+    c.drive_with.new.link (Asks c.args.channel (plain_request c.args.request)) (record { up = c.state.ensures.up; full = c.state.ensures.waits })
+    (λ s l. asked_puts c.args.writing s c.state.result.is_up c.state.result.is_full l c.args.channel (plain_request c.args.request) c.requires.packet)
+    c.in_ok-ask.ensures c.drive_with.ensures.layer c.drive_with.ensures.link

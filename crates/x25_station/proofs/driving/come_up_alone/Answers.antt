@@ -14,12 +14,14 @@ pub returns : goal.returns
 returns c = record {
   layer = λ c' l t fits link.
       let lc = layer_settings c' in
-      subst (λ (p : Putting). FitsLayer lc c.up.new.self p.layer) (sym (c.calls_are_runs.ensures.up (view_of (link_settings c') t.near) lc)) (c.up.ensures.layer lc l fits);
+      subst (λ (p : Putting). FitsLayer lc c.up.new.self p.layer) (sym (c.calls_are_runs.ensures.up (view_of (link_settings c') t.near) lc))
+      (c.up.ensures.layer lc l fits);
   link = λ c' l t fits link.
       let lc = layer_settings c' in
       let lk = link_settings c' in
       let owed = (goes_up lc).owed in
       subst (λ (p : Putting). FitsWhole c.put.new.link (kept_of lk (all_put lk p.put t))) (sym (c.calls_are_runs.ensures.up (view_of lk t.near) lc))
-      (subst (λ (y : LinkState). FitsWhole c.put.new.link y) (all_spelled (kept_of lk t) owed c.to_put.result.now (c.to_put.ensures ∙ c.up.ensures.put lc l fits) ∙ put_by_put lk (option_to_list owed) t)
+      (subst (λ (y : LinkState). FitsWhole c.put.new.link y)
+      (all_spelled (kept_of lk t) owed c.to_put.result.now (c.to_put.ensures ∙ c.up.ensures.put lc l fits) ∙ put_by_put lk (option_to_list owed) t)
       (c.put.ensures.link (kept_of lk t) link));
 }

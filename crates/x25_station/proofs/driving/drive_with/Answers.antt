@@ -9,22 +9,31 @@ use Rattle.x25_station.proofs.DriveLemmas.{rounds_go_behind, none_spelled, free_
 use Rattle.x25_station.proofs.driving.drive_with.Goals as goal
 
 pub returns-then-is_empty-clause-layer : goal.returns-then-is_empty-clause-layer
-returns-then-is_empty-clause-layer c = λ s l p x fits put link. absurd (none_spelled p c.to_put.result.now (c.to_put.ensures ∙ put) (sym c.is_empty.ensures ∙ c.if-is_empty.true))
+returns-then-is_empty-clause-layer c = λ s l p x fits put link. absurd
+    (none_spelled p c.to_put.result.now (c.to_put.ensures ∙ put) (sym c.is_empty.ensures ∙ c.if-is_empty.true))
 
 pub returns-then-is_empty-clause-link : goal.returns-then-is_empty-clause-link
-returns-then-is_empty-clause-link c = λ s l p x fits put link. absurd (none_spelled p c.to_put.result.now (c.to_put.ensures ∙ put) (sym c.is_empty.ensures ∙ c.if-is_empty.true))
+returns-then-is_empty-clause-link c = λ s l p x fits put link. absurd
+    (none_spelled p c.to_put.result.now (c.to_put.ensures ∙ put) (sym c.is_empty.ensures ∙ c.if-is_empty.true))
 
 pub put_with-requires-clause-free : goal.put_with-requires-clause-free
-put_with-requires-clause-free c = free_for c.args.layer.now.sheet c.args.link.now (ap (λ (os : List ℕ). length os == 0) (sym c.to_put.ensures) ∙ sym c.is_empty.ensures ∙ c.if-is_empty.false) c.requires.free
+put_with-requires-clause-free c = free_for c.args.layer.now.sheet c.args.link.now
+    (ap (λ (os : List ℕ). length os == 0) (sym c.to_put.ensures) ∙ sym c.is_empty.ensures ∙ c.if-is_empty.false) c.requires.free
 
 pub returns-clause-layer : goal.returns-clause-layer
 returns-clause-layer c = λ s l p x fits put link.
     let y : LinkState = after_put_to x (write c.args.writing (spelling_of p)) in
-    subst (λ (t : Putting). FitsLayer s c.pull_all.new.layer t.layer) (sym (rounds_go_behind (seen_with c.args.writing x) (seen_at y) s p (λ ps. refl) (begin l None)))
-    (c.pull_all.ensures.layer s (begin l None) y fits (subst (λ (os : List ℕ). FitsWhole c.put_with.new.link (after_put_to x (write c.args.writing os))) (c.to_put-2.ensures ∙ put) (c.put_with.ensures.link x link)))
+    subst (λ (t : Putting). FitsLayer s c.pull_all.new.layer t.layer)
+    (sym (rounds_go_behind (seen_with c.args.writing x) (seen_at y) s p (λ ps. refl) (begin l None)))
+    (c.pull_all.ensures.layer s (begin l None) y fits
+    (subst (λ (os : List ℕ). FitsWhole c.put_with.new.link (after_put_to x (write c.args.writing os))) (c.to_put-2.ensures ∙ put)
+    (c.put_with.ensures.link x link)))
 
 pub returns-clause-link : goal.returns-clause-link
 returns-clause-link c = λ s l p x fits put link.
     let y : LinkState = after_put_to x (write c.args.writing (spelling_of p)) in
-    subst (λ (t : Putting). FitsWhole c.pull_all.new.link (all_with c.args.writing x t.put)) (sym (rounds_go_behind (seen_with c.args.writing x) (seen_at y) s p (λ ps. refl) (begin l None)))
-    (c.pull_all.ensures.link s (begin l None) y fits (subst (λ (os : List ℕ). FitsWhole c.put_with.new.link (after_put_to x (write c.args.writing os))) (c.to_put-2.ensures ∙ put) (c.put_with.ensures.link x link)))
+    subst (λ (t : Putting). FitsWhole c.pull_all.new.link (all_with c.args.writing x t.put))
+    (sym (rounds_go_behind (seen_with c.args.writing x) (seen_at y) s p (λ ps. refl) (begin l None)))
+    (c.pull_all.ensures.link s (begin l None) y fits
+    (subst (λ (os : List ℕ). FitsWhole c.put_with.new.link (after_put_to x (write c.args.writing os))) (c.to_put-2.ensures ∙ put)
+    (c.put_with.ensures.link x link)))

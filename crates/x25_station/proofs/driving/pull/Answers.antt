@@ -2,7 +2,10 @@ use Rattle.x25_station.proofs.DriveLemmas.{pulled, pulled_not}
 use Rattle.x25_station.proofs.driving.pull.Goals as goal
 
 pub returns-in-Some : goal.returns-in-Some
-returns-in-Some c = pulled_not c.state.result c.args.layer.now c.args.link.now c.in-Some.error (record { up = c.state.ensures.up; full = c.state.ensures.waits }) c.in-Some.ensures.kinds c.in-Some.ensures.refused
+returns-in-Some c = pulled_not c.state.result c.args.layer.now c.args.link.now c.in-Some.error
+    (record { up = c.state.ensures.up; full = c.state.ensures.waits }) c.in-Some.ensures.kinds c.in-Some.ensures.refused
 
 pub returns : goal.returns
-returns c = pulled c.state.result c.args.layer.now c.pull_all.new.layer c.args.link.now c.pull_all.new.link (record { up = c.state.ensures.up; full = c.state.ensures.waits }) c.in_default.ensures.up c.in_default.ensures.ready c.pull_all.ensures.layer c.pull_all.ensures.link
+returns c = pulled c.state.result c.args.layer.now c.pull_all.new.layer c.args.link.now c.pull_all.new.link
+    (record { up = c.state.ensures.up; full = c.state.ensures.waits }) c.in_default.ensures.up c.in_default.ensures.ready c.pull_all.ensures.layer
+    c.pull_all.ensures.link

@@ -20,7 +20,8 @@ loop-left-preserved-in-Some c =
       within = λ s x p fits link.
           let w = now.within s x p fits link in
           let fewer : c.loop-left.left ≡ (c.loop-left.left - 1) + 1 = omega (arith, some) in
-          one_more s x p c.loop-left.layer c.pull.new.self c.loop-left.link c.put.new.link c.loop-left.channel c.in-Some.next c.loop-left.left (c.loop-left.left - 1) c.in-Some.ensures.higher fewer w
+          one_more s x p c.loop-left.layer c.pull.new.self c.loop-left.link c.put.new.link c.loop-left.channel c.in-Some.next c.loop-left.left
+          (c.loop-left.left - 1) c.in-Some.ensures.higher fewer w
           (room_when c.loop-left.link _ c.waiting.result w.link c.waiting.ensures.value c.if-waiting-lt-FEW.true)
           (c.in-Some.ensures.next s _ w.layer)
           (λ y f. subst (λ (octets : List ℕ). FitsWhole c.put.new.link (after_octets y octets)) c.to_put.ensures (c.put.ensures.link y f));
@@ -37,7 +38,8 @@ loop-left-preserved c =
       high = omega arith;
       within = λ s x p fits link.
           let w = now.within s x p fits link in
-          next_round c.calls_are_runs.ensures.on s x p c.loop-left.layer c.pull.new.self c.loop-left.link c.loop-left.channel c.loop-left.left w (c.in-None.ensures.next s _ w.layer);
+          next_round c.calls_are_runs.ensures.on s x p c.loop-left.layer c.pull.new.self c.loop-left.link c.loop-left.channel c.loop-left.left w
+          (c.in-None.ensures.next s _ w.layer);
     }
 
 pub returns-then-channel-eq0-clause-layer : goal.returns-then-channel-eq0-clause-layer
@@ -45,14 +47,16 @@ returns-then-channel-eq0-clause-layer c = λ s p x fits link.
     let w = c.loop-left.invariant.within s x p fits link in
     let none = c.in-None.ensures.next s _ w.layer in
     subst (λ (u : Putting). FitsLayer s c.pull.new.self u.layer)
-    (sym (ends_here c.calls_are_runs.ensures.end s x p c.loop-left.layer c.pull.new.self c.loop-left.link c.loop-left.channel c.loop-left.left c.if-channel-eq0.true w none)) none.layer
+    (sym (ends_here c.calls_are_runs.ensures.end s x p c.loop-left.layer c.pull.new.self c.loop-left.link c.loop-left.channel c.loop-left.left
+    c.if-channel-eq0.true w none)) none.layer
 
 pub returns-then-channel-eq0-clause-link : goal.returns-then-channel-eq0-clause-link
 returns-then-channel-eq0-clause-link c = λ s p x fits link.
     let w = c.loop-left.invariant.within s x p fits link in
     let none = c.in-None.ensures.next s _ w.layer in
     subst (λ (u : Putting). FitsWhole c.loop-left.link (after_all x u.put))
-    (sym (ends_here c.calls_are_runs.ensures.end s x p c.loop-left.layer c.pull.new.self c.loop-left.link c.loop-left.channel c.loop-left.left c.if-channel-eq0.true w none)) w.link
+    (sym (ends_here c.calls_are_runs.ensures.end s x p c.loop-left.layer c.pull.new.self c.loop-left.link c.loop-left.channel c.loop-left.left
+    c.if-channel-eq0.true w none)) w.link
 
 pub returns-else-waiting-lt-FEW-clause-layer : goal.returns-else-waiting-lt-FEW-clause-layer
 returns-else-waiting-lt-FEW-clause-layer c = λ s p x fits link.
@@ -60,7 +64,8 @@ returns-else-waiting-lt-FEW-clause-layer c = λ s p x fits link.
     let high : 8 ≤ c.waiting.result = omega arith in
     let shut = shut_when c.loop-left.link _ c.waiting.result w.link c.waiting.ensures.value high in
     subst (λ (u : Putting). FitsLayer s c.loop-left.layer u.layer)
-    (sym (ends_shut c.calls_are_runs.ensures.on c.calls_are_runs.ensures.end s x p c.loop-left.layer c.loop-left.link c.loop-left.channel c.loop-left.left w shut)) w.layer
+    (sym (ends_shut c.calls_are_runs.ensures.on c.calls_are_runs.ensures.end s x p c.loop-left.layer c.loop-left.link c.loop-left.channel c.loop-left.left w
+    shut)) w.layer
 
 pub returns-else-waiting-lt-FEW-clause-link : goal.returns-else-waiting-lt-FEW-clause-link
 returns-else-waiting-lt-FEW-clause-link c = λ s p x fits link.
@@ -68,7 +73,8 @@ returns-else-waiting-lt-FEW-clause-link c = λ s p x fits link.
     let high : 8 ≤ c.waiting.result = omega arith in
     let shut = shut_when c.loop-left.link _ c.waiting.result w.link c.waiting.ensures.value high in
     subst (λ (u : Putting). FitsWhole c.loop-left.link (after_all x u.put))
-    (sym (ends_shut c.calls_are_runs.ensures.on c.calls_are_runs.ensures.end s x p c.loop-left.layer c.loop-left.link c.loop-left.channel c.loop-left.left w shut)) w.link
+    (sym (ends_shut c.calls_are_runs.ensures.on c.calls_are_runs.ensures.end s x p c.loop-left.layer c.loop-left.link c.loop-left.channel c.loop-left.left w
+    shut)) w.link
 
 pub returns-after-loop-left-clause-layer : goal.returns-after-loop-left-clause-layer
 returns-after-loop-left-clause-layer c = λ s p x fits link.
@@ -76,7 +82,8 @@ returns-after-loop-left-clause-layer c = λ s p x fits link.
     let none : c.loop-left.left ≡ 0 = omega arith in
     let shut = shut_after c.loop-left.link _ c.loop-left.left w.link none w.enough in
     subst (λ (u : Putting). FitsLayer s c.loop-left.layer u.layer)
-    (sym (ends_shut c.calls_are_runs.ensures.on c.calls_are_runs.ensures.end s x p c.loop-left.layer c.loop-left.link c.loop-left.channel c.loop-left.left w shut)) w.layer
+    (sym (ends_shut c.calls_are_runs.ensures.on c.calls_are_runs.ensures.end s x p c.loop-left.layer c.loop-left.link c.loop-left.channel c.loop-left.left w
+    shut)) w.layer
 
 pub returns-after-loop-left-clause-link : goal.returns-after-loop-left-clause-link
 returns-after-loop-left-clause-link c = λ s p x fits link.
@@ -84,4 +91,5 @@ returns-after-loop-left-clause-link c = λ s p x fits link.
     let none : c.loop-left.left ≡ 0 = omega arith in
     let shut = shut_after c.loop-left.link _ c.loop-left.left w.link none w.enough in
     subst (λ (u : Putting). FitsWhole c.loop-left.link (after_all x u.put))
-    (sym (ends_shut c.calls_are_runs.ensures.on c.calls_are_runs.ensures.end s x p c.loop-left.layer c.loop-left.link c.loop-left.channel c.loop-left.left w shut)) w.link
+    (sym (ends_shut c.calls_are_runs.ensures.on c.calls_are_runs.ensures.end s x p c.loop-left.layer c.loop-left.link c.loop-left.channel c.loop-left.left w
+    shut)) w.link

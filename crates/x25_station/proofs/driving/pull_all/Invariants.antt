@@ -16,7 +16,8 @@ invariant-loop-left l = record {
   few : l.left ≤ 15;
   places : l.left ≤ places_left l.link.frames;
   high : l.channel ≤ 4095;
-  within : (c : LayerSettings) (x : LinkState) (s : Putting) → FitsLayer c l.initial.layer s.layer → FitsWhole l.initial.link (after_all x s.put) → Within c x s l.layer l.link l.channel l.left;
+  within : (c : LayerSettings) (x : LinkState) (s : Putting) → FitsLayer c l.initial.layer s.layer → FitsWhole l.initial.link (after_all x s.put)
+      → Within c x s l.layer l.link l.channel l.left;
 }
 
 abbrev pub decreases-loop-left : goal.decreases-loop-left

@@ -11,5 +11,6 @@ returns-in-Fields-Some c = record {
       let few = subst (λ (b : Beside). AreFew (plain_beside b)) c.in-Fields-Some.is-0 c.requires.few in
       let short : length c.in-Fields-Some.fields.facilities.now ≤ 128 = omega (arith, few.0) in
       c.push_beside.ensures short few.1
-      ∙ sym (ap₂ (λ (b : Beside) (k : Option ℕ). map plain_entry c.args.entries.now.items ++ entries_beside (plain_beside b) k) c.in-Fields-Some.is-0 c.in-Fields-Some.is-1);
+      ∙ sym (ap₂ (λ (b : Beside) (k : Option ℕ). map plain_entry c.args.entries.now.items ++ entries_beside (plain_beside b) k) c.in-Fields-Some.is-0
+      c.in-Fields-Some.is-1);
 }

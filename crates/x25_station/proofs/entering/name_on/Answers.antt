@@ -9,7 +9,8 @@ use Rattle.x25_station.proofs.ToldLemmas.{named, not_unnamed}
 use Rattle.x25_station.proofs.entering.name_on.Goals as goal
 
 -- a configured channel has a name
-named_or : (o : Option Stretch) (none : Stretch) (configured : Bool) (m : Name) → configured ≡ true → plain_stretch o ≡ (if configured then Some m else None) → plain_name (unwrap_or o none) ≡ m
+named_or : (o : Option Stretch) (none : Stretch) (configured : Bool) (m : Name) → configured ≡ true → plain_stretch o ≡ (if configured then Some m else None)
+    → plain_name (unwrap_or o none) ≡ m
 named_or (Some name) none configured m is same = named configured (plain_name name) m is same
 named_or None none configured m is same = absurd (not_unnamed configured m is same)
 

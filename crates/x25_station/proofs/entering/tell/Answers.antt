@@ -12,4 +12,5 @@ returns-clause-entered c = λ c' l fits configured.
     let entry = code.Told c.args.channel c.name_on-name.result c.args.told in
     ap (λ es. map plain_entry es) c.push_reserved.ensures.items
     ∙ map-append plain_entry before (entry ∷ [])
-    ∙ ap (λ n. map plain_entry before ++ of_channel (record { channel = c.args.channel; name = n; said = Told (plain_told c.args.told) }) ∷ []) (c.name_on-name.ensures c' l fits configured)
+    ∙ ap (λ n. map plain_entry before ++ of_channel (record { channel = c.args.channel; name = n; said = Told (plain_told c.args.told) }) ∷ [])
+    (c.name_on-name.ensures c' l fits configured)

@@ -8,7 +8,8 @@ use Rattle.x25_circuit.specs.code.Replies.{plain_notice}
 use Rattle.x25_station.specs.Receiving.{IsShort}
 use Rattle.x25_station.proofs.entering.told_of.Goals as goal
 
-incoming_is : (a b k d u v : List ℕ) (params : Params) → a ≡ b → k ≡ d → u ≡ v → incoming (record { called = a; calling = k; user = u; params = params }) ≡ incoming (record { called = b; calling = d; user = v; params = params })
+incoming_is : (a b k d u v : List ℕ) (params : Params) → a ≡ b → k ≡ d → u ≡ v → incoming (record { called = a; calling = k; user = u; params = params })
+    ≡ incoming (record { called = b; calling = d; user = v; params = params })
 incoming_is a b k d u v params p q r =
     ap (λ (x : List ℕ). incoming (record { called = x; calling = k; user = u; params = params })) p
     ∙ ap (λ (x : List ℕ). incoming (record { called = b; calling = x; user = u; params = params })) q
@@ -18,11 +19,13 @@ pub returns-in-Incoming-clause-told : goal.returns-in-Incoming-clause-told
 returns-in-Incoming-clause-told c = λ short.
     let now = subst (λ (n : Notice). IsShort (plain_notice n)) c.in-Incoming.is short in
     let user = user_of c.in-Incoming.a c.in-Incoming.body.now in
-    incoming_is _ _ _ _ _ _ c.in-Incoming.params (c.digits-called.ensures.text ∙ c.called_digits.ensures.digits) (c.digits-calling.ensures.text ∙ c.calling_digits.ensures.digits)
+    incoming_is _ _ _ _ _ _ c.in-Incoming.params (c.digits-called.ensures.text ∙ c.called_digits.ensures.digits)
+    (c.digits-calling.ensures.text ∙ c.calling_digits.ensures.digits)
     (c.text-user.ensures.text ∙ ap (λ (octets : List ℕ). take 128 octets) c.user_data.ensures ∙ take_all 128 user now)
     ∙ sym (ap plain_notice c.in-Incoming.is)
 
 pub returns-in-Interrupted-clause-told : goal.returns-in-Interrupted-clause-told
 returns-in-Interrupted-clause-told c = λ short.
     let now = subst (λ (n : Notice). IsShort (plain_notice n)) c.in-Interrupted.is short in
-    ap (λ (x : List ℕ). interrupted x) (c.text-user-in-Interrupted.ensures.text ∙ take_all 128 c.in-Interrupted.user.now now) ∙ sym (ap plain_notice c.in-Interrupted.is)
+    ap (λ (x : List ℕ). interrupted x) (c.text-user-in-Interrupted.ensures.text ∙ take_all 128 c.in-Interrupted.user.now now)
+    ∙ sym (ap plain_notice c.in-Interrupted.is)

@@ -17,4 +17,11 @@ known c = record {
 }
 
 pub returns : goal.returns
-returns c = record { connect = connect_kept (known c); timer = timer_kept (known c); request = request_kept (known c).put; command = command_kept (known c) (given_kept (known c).put); given = given_kept (known c).put; receive = receive_kept (known c) }
+returns c = record {
+  connect = connect_kept (known c);
+  timer = timer_kept (known c);
+  request = request_kept (known c).put;
+  command = command_kept (known c) (given_kept (known c).put);
+  given = given_kept (known c).put;
+  receive = receive_kept (known c);
+}

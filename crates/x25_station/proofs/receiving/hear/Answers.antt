@@ -52,8 +52,11 @@ returns-clause-entries c = λ c' l t fits link.
     let next = (hears view lc c.args.wide l octets).step.layer in
     let bytes : All (λ octet. octet < 256) octets = All-from_get_or (λ octet. octet < 256) octets 0 (λ i low. omega (arith, c.type_inv.packet i)) in
     let tellable = told_tellable c.taking_keeps_octets.ensures.range c.args.wide lc l octets bytes in
-    c.enter_told.ensures.entered lc next (subst (λ (v : LinkView). FitsLayer lc c.drive.new.layer (rounds v lc (begin a.next a.owed)).layer) (same_view (link_settings c') t)
-    (c.drive.ensures.layer lc a.next a.owed (kept_of (link_settings c') t) (c.packet-told.ensures.layer lc l fits) (c.packet-told.ensures.put lc l fits) link)) (subst (λ (ns : List LayerNotice). AreTellable lc ns) (sym told) tellable)
-    ∙ ap (λ (es : List Entry). map plain_entry es ++ station_told next (plain_report c.packet-told.result)) (ap (λ (e : ShownEntries). e.items) c.entries.view_is ∙ c.requires.none)
+    c.enter_told.ensures.entered lc next
+    (subst (λ (v : LinkView). FitsLayer lc c.drive.new.layer (rounds v lc (begin a.next a.owed)).layer) (same_view (link_settings c') t)
+    (c.drive.ensures.layer lc a.next a.owed (kept_of (link_settings c') t) (c.packet-told.ensures.layer lc l fits) (c.packet-told.ensures.put lc l fits) link))
+    (subst (λ (ns : List LayerNotice). AreTellable lc ns) (sym told) tellable)
+    ∙ ap (λ (es : List Entry). map plain_entry es ++ station_told next (plain_report c.packet-told.result))
+    (ap (λ (e : ShownEntries). e.items) c.entries.view_is ∙ c.requires.none)
     ∙ ap (λ ns. station_told next ns) told
     ∙ same_told next a.next a.notices (rounds_name view lc (begin a.next a.owed))

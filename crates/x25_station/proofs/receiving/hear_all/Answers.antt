@@ -24,7 +24,8 @@ returns-in-Some-clause-entries c = λ c' l t fits link.
     let tells = subst (λ o. Tells next (named_by octets) (confirmed lc l next (named_by octets)) o) c.in-Some.is
     (c.confirmed.ensures.tells lc (named_by octets) l next stands (c.hear-bringing.ensures.puts.layer c' l t fits link)) in
     heard_all (view_of (link_settings c') t.near) lc l octets _ _ (plain_entry c.in-Some.entry ∷ []) (c.hear-bringing.ensures.entries c' l t fits link)
-    (ap (λ es. map plain_entry es) c.push.ensures ∙ map-append plain_entry _ (c.in-Some.entry ∷ [])) (tells (entries_beside (beside_in true octets) (bringing a.notices)))
+    (ap (λ es. map plain_entry es) c.push.ensures ∙ map-append plain_entry _ (c.in-Some.entry ∷ []))
+    (tells (entries_beside (beside_in true octets) (bringing a.notices)))
 
 pub returns-in-None-clause-entries : goal.returns-in-None-clause-entries
 returns-in-None-clause-entries c = λ c' l t fits link.
@@ -35,7 +36,8 @@ returns-in-None-clause-entries c = λ c' l t fits link.
     let stands = subst (λ (h : ℕ). Stands lc l h c.unconfirmed_on-before.result) c.named.ensures (c.unconfirmed_on-before.ensures lc l fits) in
     let none = subst (λ o. Tells next (named_by octets) (confirmed lc l next (named_by octets)) o) c.in-None.is
     (c.confirmed.ensures.tells lc (named_by octets) l next stands (c.hear-bringing.ensures.puts.layer c' l t fits link)) in
-    heard_all (view_of (link_settings c') t.near) lc l octets _ _ (entries_beside (beside_in true octets) (bringing a.notices)) (c.hear-bringing.ensures.entries c' l t fits link)
+    heard_all (view_of (link_settings c') t.near) lc l octets _ _ (entries_beside (beside_in true octets) (bringing a.notices))
+    (c.hear-bringing.ensures.entries c' l t fits link)
     (c.enter_beside.ensures.entered ∙ ap (λ (es : List StationEntry). map plain_entry c.hear-bringing.new.entries.items ++ es)
     (c.beside_of.ensures.told ∙ ap (entries_beside (beside_in true octets)) (c.hear-bringing.ensures.bringing c' l t fits link)))
     (nothing_behind next (named_by octets) (confirmed lc l next (named_by octets)) _ none)

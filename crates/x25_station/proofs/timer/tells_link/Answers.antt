@@ -12,7 +12,8 @@ returns-then-matches c = link_here c.args.entries.now c.loop-entry.entry-index c
     ])
 
 pub loop-entry-preserved : goal.loop-entry-preserved
-loop-entry-preserved c = link_behind c.args.entries.now c.loop-entry.entry-index c.entry-item.result c.loop-entry-test.true c.entry-item.is c.loop-entry.invariant
+loop-entry-preserved c = link_behind c.args.entries.now c.loop-entry.entry-index c.entry-item.result c.loop-entry-test.true c.entry-item.is
+    c.loop-entry.invariant
     (elim c.match-matches.branch [
       | in_default w ↦ search rules
       | in-LinkUp w ↦ search rules

@@ -11,4 +11,5 @@ returns c =
     let v = c.args.octets in
     let itself : v ≡ map (λ x. x) v = sym (map-id v) in
     let splat : (n : ℕ) → replicate 8 n ≡ map (λ _. n) v = λ n. splat_is_map v 8 n c.fits-octets.0 in
-    octets_shown _ _ 8 v _ _ c.fits-octets.0 (fits_each v c.fits-octets.1) refl refl (zip2_of_maps _ _ _ v itself (splat 4)) (zip2_of_maps _ _ _ v itself (splat 15))
+    octets_shown _ _ 8 v _ _ c.fits-octets.0 (fits_each v c.fits-octets.1) refl refl (zip2_of_maps _ _ _ v itself (splat 4))
+    (zip2_of_maps _ _ _ v itself (splat 15))

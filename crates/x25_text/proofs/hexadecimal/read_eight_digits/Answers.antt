@@ -19,11 +19,14 @@ returns-clause-octets c =
     let small : list_all (λ x. nat_lt x 16) (map value_of v) ≡ true = digits_tested v fits ∙ digits in
     let all : list_all (λ x. nat_lt x 16) c.values_of_digits-values.result ≡ true = ap (list_all (λ x. nat_lt x 16)) values ∙ small in
     let size : length c.values_of_digits-values.result ≡ 16 = ap length values ∙ length-map v value_of ∙ long in
-    let whole : take 16 c.values_of_digits-values.result ≡ c.values_of_digits-values.result = take_all 16 c.values_of_digits-values.result (omega (arith, size)) in
+    let whole : take 16 c.values_of_digits-values.result ≡ c.values_of_digits-values.result =
+    take_all 16 c.values_of_digits-values.result (omega (arith, size)) in
     let joined : c.joined.result ≡ paired c.values_of_digits-values.result =
-    sym (take_all 8 c.joined.result (omega (arith, c.joined.ensures.size))) ∙ c.joined.ensures.front 8 (omega arith) (ap (list_all (λ x. nat_lt x 16)) whole ∙ all) ∙ ap paired whole in
+    sym (take_all 8 c.joined.result (omega (arith, c.joined.ensures.size)))
+    ∙ c.joined.ensures.front 8 (omega arith) (ap (list_all (λ x. nat_lt x 16)) whole ∙ all) ∙ ap paired whole in
     block_read 8 v long fits small
-    ∙ ap (λ l. Some l) (ap paired (sym values) ∙ sym joined ∙ sym (stored_block c.args.place 8 c.args.octets.now c.joined.result c.joined.ensures.size c.requires.room))
+    ∙ ap (λ l. Some l) (ap paired (sym values) ∙ sym joined
+    ∙ sym (stored_block c.args.place 8 c.args.octets.now c.joined.result c.joined.ensures.size c.requires.room))
 
 pub returns-clause-before : goal.returns-clause-before
 returns-clause-before c =

@@ -26,4 +26,5 @@ returns c =
     (omega (arith, c.if-count-lt8.false)) c.read_eight_digits.ensures.octets c.read_eight_digits.ensures.before c.read_eight_digits.auto.octets in
     reads_last size 8 (size - 8) 8 digits c.read_eight_digits.new.octets c.read_eight_digits-2.new.octets true first c.requires.length
     (omega (arith, c.requires.few)) (omega (arith, c.if-count-lt8.false)) (omega (arith, c.if-count-lt8.false))
-    c.read_eight_digits-2.ensures.octets c.read_eight_digits-2.ensures.before (omega (arith, c.read_eight_digits-2.auto.octets, c.read_eight_digits.auto.octets))
+    c.read_eight_digits-2.ensures.octets c.read_eight_digits-2.ensures.before
+    (omega (arith, c.read_eight_digits-2.auto.octets, c.read_eight_digits.auto.octets))

@@ -29,6 +29,9 @@ pub returns : goal.returns
 returns c =
     let size = length c.args.octets.now in
     decode_read c.args.digits.now size c.requires
-    ∙ reads_last size (8 * c.loop-eight.eight) (size - 8) 8 c.args.digits.now c.loop-eight.octets c.read_eight-2.new.octets c.read_eight-2.result c.loop-eight.invariant c.requires
-    (omega (arith, c.loop-eight-test.false, c.loop-eight.auto.eight-end, c.if-count-lt8.false)) (omega (arith, c.loop-eight.auto.eight-end, c.loop-eight-test.false))
-    (omega (arith, c.if-count-lt8.false)) c.read_eight-2.ensures.octets c.read_eight-2.ensures.before (omega (arith, c.read_eight-2.auto.octets, c.loop-eight.invariant.long))
+    ∙ reads_last size (8 * c.loop-eight.eight) (size - 8) 8 c.args.digits.now c.loop-eight.octets c.read_eight-2.new.octets c.read_eight-2.result
+    c.loop-eight.invariant c.requires
+    (omega (arith, c.loop-eight-test.false, c.loop-eight.auto.eight-end, c.if-count-lt8.false))
+    (omega (arith, c.loop-eight.auto.eight-end, c.loop-eight-test.false))
+    (omega (arith, c.if-count-lt8.false)) c.read_eight-2.ensures.octets c.read_eight-2.ensures.before
+    (omega (arith, c.read_eight-2.auto.octets, c.loop-eight.invariant.long))

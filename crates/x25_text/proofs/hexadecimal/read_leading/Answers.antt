@@ -27,7 +27,8 @@ returns-clause-octets c = λ count le.
     let all = front_all (λ x. nat_lt x 16) (2 * count) c.values-values.result (omega (arith, le, c.leading.ensures)) in
     ap octets_of (sym (take-take (2 * count) 16 (drop (2 * c.args.place) c.args.text.now) few))
     ∙ front_read count c.leading.result v c.values-values.result long fits c.values-values.ensures c.leading.ensures le few
-    ∙ ap (λ l. Some l) (sym (stored_front c.args.place count c.args.octets.now c.joined.result c.joined.ensures.size c.requires.room (omega (arith, few)) ∙ c.joined.ensures.front count (omega (arith, few)) all))
+    ∙ ap (λ l. Some l) (sym (stored_front c.args.place count c.args.octets.now c.joined.result c.joined.ensures.size c.requires.room (omega (arith, few))
+    ∙ c.joined.ensures.front count (omega (arith, few)) all))
 
 pub returns-clause-before : goal.returns-clause-before
 returns-clause-before c = before_block c.args.place c.args.octets.now c.joined.result (omega (arith, c.joined.ensures.size, c.requires.room))

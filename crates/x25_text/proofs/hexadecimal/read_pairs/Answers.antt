@@ -14,10 +14,12 @@ returns-then-high-gt15 c =
     elim c.then-high-gt15.branch [
       | then-high-gt15-via-then-high-gt15 w ↦
           fault_high size i digits c.loop-i.octets c.loop-i.invariant within c.requires
-          (no_digit (slice_index digits (2 * i)) c.value-high.result (omega (arith, c.type_inv.digits (2 * i))) c.value-high.ensures (omega (arith, w.if-high-gt15)))
+          (no_digit (slice_index digits (2 * i)) c.value-high.result (omega (arith, c.type_inv.digits (2 * i))) c.value-high.ensures
+          (omega (arith, w.if-high-gt15)))
       | then-high-gt15-via-else-high-gt15+then-low-gt15 w ↦
           fault_low size i digits c.loop-i.octets c.loop-i.invariant within c.requires
-          (no_digit (slice_index digits (2 * i + 1)) c.value-low.result (omega (arith, c.type_inv.digits (2 * i + 1))) c.value-low.ensures (omega (arith, w.if-low-gt15)))
+          (no_digit (slice_index digits (2 * i + 1)) c.value-low.result (omega (arith, c.type_inv.digits (2 * i + 1))) c.value-low.ensures
+          (omega (arith, w.if-low-gt15)))
     ]
 
 pub loop-i-preserved : goal.loop-i-preserved
@@ -28,11 +30,13 @@ loop-i-preserved c =
     record {
       long = length-set _ _ _ ∙ c.loop-i.invariant.long;
       same =
-          next size i c.value-high.result c.value-low.result digits c.loop-i.octets c.loop-i.invariant (omega (arith, c.loop-i-test.true, c.loop-i.auto.i-end)) c.requires
+          next size i c.value-high.result c.value-low.result digits c.loop-i.octets c.loop-i.invariant (omega (arith, c.loop-i-test.true, c.loop-i.auto.i-end))
+          c.requires
           (a_digit (slice_index digits (2 * i)) c.value-high.result c.value-high.ensures (omega (arith, c.if-high-gt15.false)))
           (a_digit (slice_index digits (2 * i + 1)) c.value-low.result c.value-low.ensures (omega (arith, c.if-low-gt15.false)));
     }
 
 pub returns : goal.returns
 returns c =
-    at_end (length c.args.octets.now) c.loop-i.i c.args.digits.now c.loop-i.octets c.loop-i.invariant (omega (arith, c.loop-i-test.false, c.loop-i.auto.i-end)) c.requires
+    at_end (length c.args.octets.now) c.loop-i.i c.args.digits.now c.loop-i.octets c.loop-i.invariant (omega (arith, c.loop-i-test.false, c.loop-i.auto.i-end))
+    c.requires

@@ -16,6 +16,8 @@ returns-then-count-lt4 c =
 pub returns : goal.returns
 returns c =
     let size = length c.args.octets.now in
-    let first = shows_more 0 4 c.args.octets.now c.args.digits.now c.write_four.new.digits (shows_none c.args.octets.now c.args.digits.now c.requires.length) c.write_four.ensures c.write_four.auto.digits in
+    let first = shows_more 0 4 c.args.octets.now c.args.digits.now c.write_four.new.digits (shows_none c.args.octets.now c.args.digits.now c.requires.length)
+    c.write_four.ensures c.write_four.auto.digits in
     shows_last (size - 4) 4 4 c.args.octets.now c.write_four.new.digits c.write_four-2.new.digits first
-    (omega (arith, c.requires.few)) (omega (arith, c.if-count-lt4.false)) (omega (arith, c.if-count-lt4.false)) c.write_four-2.ensures c.write_four-2.auto.digits
+    (omega (arith, c.requires.few)) (omega (arith, c.if-count-lt4.false)) (omega (arith, c.if-count-lt4.false)) c.write_four-2.ensures
+    c.write_four-2.auto.digits

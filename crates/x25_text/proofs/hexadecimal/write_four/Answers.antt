@@ -8,5 +8,6 @@ returns c =
     let v = take 4 (drop c.args.place c.args.octets.now) in
     let long : length v ≡ 4 = length-chunk c.args.place 4 c.args.octets.now c.requires.room in
     let size : length c.digits_of_four.result ≡ 8 = ap length c.digits_of_four.ensures ∙ length_shown v ∙ ap (λ n. 2 * n) long in
-    take_more_put_chunk (2 * c.args.place) c.args.digits.now c.digits_of_four.result (2 * (c.args.place + 4)) (omega (arith, size)) (omega (arith, c.requires.digits, c.requires.room))
+    take_more_put_chunk (2 * c.args.place) c.args.digits.now c.digits_of_four.result (2 * (c.args.place + 4)) (omega (arith, size))
+    (omega (arith, c.requires.digits, c.requires.room))
     ∙ ap (λ digits. take (2 * c.args.place) c.args.digits.now ++ digits) c.digits_of_four.ensures

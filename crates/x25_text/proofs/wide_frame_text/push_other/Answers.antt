@@ -11,6 +11,7 @@ returns-then-push_other_head-clause-text c =
     let front = unwrap_or head [] in
     let behind = other_information_text c.args.information.now in
     c.push.ensures.text
-    ∙ ap (λ t. t ++ codes " ~ wide") (c.push_other_information.ensures.text ∙ ap (λ t. t ++ behind) c.push_other_head.ensures.text ∙ append_assoc old front behind)
+    ∙ ap (λ t. t ++ codes " ~ wide") (c.push_other_information.ensures.text ∙ ap (λ t. t ++ behind) c.push_other_head.ensures.text
+    ∙ append_assoc old front behind)
     ∙ append_assoc old (front ++ behind) (codes " ~ wide")
     ∙ ap (λ t. old ++ t) (headed c.args.control c.args.information.now head (sym c.push_other_head.ensures.is ∙ c.if-push_other_head.true))

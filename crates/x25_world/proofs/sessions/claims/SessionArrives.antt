@@ -164,6 +164,7 @@ module _ (laws : SessionLaws) {cfg : Cfg} (fine : IsConfigured cfg) where
   latest_meet {end} {w} h k name here =
       rw (sym (latest_near h)) ((meet_from h k name here).told ∙ ap (λ m. Some m) (latest_far h))
 
+  -- where a stretch is open at both ends the sessions that stand meet
   pub open_stretches_meet : (w : World) → SessionsJoined cfg Dte w → OpenStretchesMeet cfg w
   open_stretches_meet w h Dte channel there name name_there here at_other = latest_meet h channel name here
   open_stretches_meet w h Dce channel there name name_there here at_other = latest_meet (sessions_swapped h) channel name here
@@ -198,6 +199,7 @@ module _ (laws : SessionLaws) {cfg : Cfg} (fine : IsConfigured cfg) where
       (subst (λ es. HasAllOf k (name_of giver.layer k) es (handed_in (other end) m w)) near_session.entries
       (subst (λ es. HasAllOf k (name_of giver.layer k) giver.entries es) far_session.entries has_all))))
 
+  -- an idle end's messages have come
   pub all_arrive : (w : World) → SessionsJoined cfg Dte w → AllArrive cfg w
   all_arrive w h Dte k name idle here there = arrives_from h k name idle here there
   all_arrive w h Dce k name idle here there = arrives_from (sessions_swapped h) k name idle here there

@@ -150,6 +150,7 @@ module _ (laws : SessionLaws) {cfg : Cfg} (fine : IsConfigured cfg) where
       ap (λ l. name_of l k) (sym now.layer) ∙ own_counts laws cfg end n pair.0 h.trace pair.1 k now.out ∙ ap (λ ns. counted k first_name ns) session.told
       ∙ ap (λ p. counted k first_name (layer_notices (session_at end p.begun w.transcript))) (sym h.near.progress)
 
+  -- the name of a stretch is what the transcript of its session counts
   pub are_named : (w : World) → SessionsJoined cfg Dte w → AreNamedInSessions cfg w
   are_named w h Dte k up = named_from h k up
   are_named w h Dce k up = named_from (sessions_swapped h) k up

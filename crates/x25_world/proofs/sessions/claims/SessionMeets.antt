@@ -119,6 +119,7 @@ module _ (laws : SessionLaws) (cfg : Cfg) (fine : IsConfigured cfg) (w : World) 
     | inr apart ↦ elim apart [ inl below ↦ absurd (omega (arith, below.0)) | inr above ↦ absurd (omega (arith, above.0)) ]
   ]
 
+  -- sessions meet one to one, in order at both ends
   pub meet_in_step : MeetInStep cfg w
   meet_in_step = record {
     begun = λ end n m told. let met = met_by_links end n m told in let high = begun end n m met.has_met in (met.begun.0, high.0, met.begun.1, high.1);

@@ -98,6 +98,7 @@ module _ (laws : SessionLaws) {cfg : Cfg} (fine : IsConfigured cfg) where
 
   -- ---- of a world
 
+  -- no FRMR is sent and no procedure error is told
   pub has_no_error : (w : World) → SessionsJoined cfg Dte w → HasNoProcedureError cfg w
   has_no_error w h =
       let whole = known_sessions AllSessionsSendWhole laws.whole fine h.reach in

@@ -10,7 +10,8 @@ use Rattle.x25_bit_line.proofs.frame_sender.FrameSender.finish.Goals as goal
 pub returns-in_err-send_rest-clause-text : goal.returns-in_err-send_rest-clause-text
 returns-in_err-send_rest-clause-text g c = λ old bits h.
     let p = err_from_is_err_and c.from_residual.result c.from_residual.ensures.1 in
-    rw p.1 (subst (AppendsPrefix old (g.W.Sink.contents c.send_rest.new.writer)) (all_sent old _ _ _ bits h) (c.in_err-send_rest.ensures.tells old h.told h.tells))
+    rw p.1 (subst (AppendsPrefix old (g.W.Sink.contents c.send_rest.new.writer)) (all_sent old _ _ _ bits h)
+    (c.in_err-send_rest.ensures.tells old h.told h.tells))
 
 pub returns-clause-text : goal.returns-clause-text
 returns-clause-text g c = λ old bits h.

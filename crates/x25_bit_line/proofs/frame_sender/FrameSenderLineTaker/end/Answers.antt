@@ -16,7 +16,8 @@ pub returns-in_err-finish-clause-all : goal.returns-in_err-finish-clause-all
 returns-in_err-finish-clause-all g c = λ setting old input h.
     let p = err_from_is_err_and c.from_residual.result c.from_residual.ensures.1 in
     let done = none_left old _ input c.args.self.now h in
-    rw p.1 (subst (λ bits. AppendsPrefix old (g.W.Sink.contents c.finish.new.writer) (octets_of (filled bits))) done.0 (c.in_err-finish.ensures.text old h.bits h.sends))
+    rw p.1 (subst (λ bits. AppendsPrefix old (g.W.Sink.contents c.finish.new.writer) (octets_of (filled bits))) done.0
+    (c.in_err-finish.ensures.text old h.bits h.sends))
 
 pub returns-clause-all : goal.returns-clause-all
 returns-clause-all g c = λ setting old input h.

@@ -14,7 +14,8 @@ use Rattle.x25_bit_line.proofs.frame_sender.FrameSenderLineTaker.take_line.Goals
 pub returns-in-Some-clause-on : goal.returns-in-Some-clause-on
 returns-in-Some-clause-on g c = λ setting old first lines input line h.
     let is = subst (λ o. MatchOption o (most_line < length first) (λ held. (held.now ≡ first) × (length first ≤ most_line))) c.in-Some.is line in
-    let sends = subst (λ line. SendsLine c.take.result (g.W.Sink.contents c.args.writer.now) (g.W.Sink.contents c.take.new.writer) c.args.self.now.bits.bits c.take.new.self.bits.bits c.args.self.now.output c.take.new.self.output (line_bits line))
+    let sends = subst (λ line. SendsLine c.take.result (g.W.Sink.contents c.args.writer.now) (g.W.Sink.contents c.take.new.writer) c.args.self.now.bits.bits
+    c.take.new.self.bits.bits c.args.self.now.output c.take.new.self.output (line_bits line))
     is.0 c.take.ensures.sends in
     let wrong = subst (λ line. OnOk c.take.result (c.take.new.self.is_wrong ≡ (c.args.self.now.is_wrong || is_wrong line))) is.0
     (c.take.ensures.wrong (subst (λ line. length line ≤ most_line) (sym is.0) is.1)) in
@@ -27,4 +28,5 @@ returns-in-None-clause-on g c = λ setting old first lines input line h.
     let long = subst (λ o. MatchOption o (most_line < length first) (λ held. (held.now ≡ first) × (length first ≤ most_line))) c.in-None.is line in
     let none = c.long_lines_send_nothing.ensures.sent first long in
     line_taken old _ _ input c.args.self.now _ first lines h (sends_nothing old _ _ _ h.bits (line_bits first) (sends_none first none) h.sends)
-    (sym (ap (λ b. c.args.self.now.is_wrong || b) (long_is_wrong first none (c.long_lines_send_nothing.ensures.gap first long) long) ∙ or-true c.args.self.now.is_wrong))
+    (sym (ap (λ b. c.args.self.now.is_wrong || b) (long_is_wrong first none (c.long_lines_send_nothing.ensures.gap first long) long)
+    ∙ or-true c.args.self.now.is_wrong))

@@ -15,7 +15,8 @@ loop-index-preserved g c = (
   c.in_ok-tell.ensures.kept ∙ c.loop-index.invariant.0,
   λ old told h.
       subst (Tells old (g.W.Sink.contents c.tell.new.writer) c.tell.new.self)
-      (ap (λ o. (told ++ octets_by c.loop-index.index c.args.self.now.bits) ++ o ∷ []) c.octet_at-octet.ensures ∙ octets_told told c.loop-index.index c.args.self.now.bits)
+      (ap (λ o. (told ++ octets_by c.loop-index.index c.args.self.now.bits) ++ o ∷ []) c.octet_at-octet.ensures
+      ∙ octets_told told c.loop-index.index c.args.self.now.bits)
       (c.in_ok-tell.ensures.tells old (told ++ octets_by c.loop-index.index c.args.self.now.bits) (c.loop-index.invariant.1 old told h)),
 )
 

@@ -27,6 +27,9 @@ returns-in_err-tell_digits-clause-tells g c = λ old told h.
 pub returns-clause-tells : goal.returns-clause-tells
 returns-clause-tells g c = λ old told h.
     let digits = flat_map octet_text c.args.octets.now in
-    subst (λ t. MatchResult c.tell-2.result (λ _. Tells old (g.W.Sink.contents c.tell-2.new.writer) c.tell-2.new.self t) (λ _. AppendsPrefix old (g.W.Sink.contents c.tell-2.new.writer) t))
-    (ap (λ t. t ++ 10 ∷ []) (append_assoc told c.mark.result.now digits) ∙ append_assoc told (c.mark.result.now ++ digits) (10 ∷ []) ∙ ap (λ m. told ++ ((m ++ digits) ++ 10 ∷ [])) c.mark.ensures.mark)
-    (c.tell-2.ensures.tells old ((told ++ c.mark.result.now) ++ digits) (c.in_ok-tell_digits.ensures.tells old (told ++ c.mark.result.now) (c.in_ok-tell.ensures.tells old told h)))
+    subst (λ t. MatchResult c.tell-2.result (λ _. Tells old (g.W.Sink.contents c.tell-2.new.writer) c.tell-2.new.self t)
+    (λ _. AppendsPrefix old (g.W.Sink.contents c.tell-2.new.writer) t))
+    (ap (λ t. t ++ 10 ∷ []) (append_assoc told c.mark.result.now digits) ∙ append_assoc told (c.mark.result.now ++ digits) (10 ∷ [])
+    ∙ ap (λ m. told ++ ((m ++ digits) ++ 10 ∷ [])) c.mark.ensures.mark)
+    (c.tell-2.ensures.tells old ((told ++ c.mark.result.now) ++ digits)
+    (c.in_ok-tell_digits.ensures.tells old (told ++ c.mark.result.now) (c.in_ok-tell.ensures.tells old told h)))

@@ -15,8 +15,10 @@ returns-then-not-closed-clause-found c = λ v fits. not_open c.args.self.now v f
 
 pub returns-then-is_some-clause-found : goal.returns-then-is_some-clause-found
 returns-then-is_some-clause-found c = λ v fits.
-    closes_some c.args.self.now v c.swap.new.self.last c.span_of.result c.swap.ensures.last fits (opened _ c.if-not-closed.false) c.span_of.ensures (sym c.is_some.ensures ∙ c.if-is_some.true)
+    closes_some c.args.self.now v c.swap.new.self.last c.span_of.result c.swap.ensures.last fits (opened _ c.if-not-closed.false) c.span_of.ensures
+    (sym c.is_some.ensures ∙ c.if-is_some.true)
 
 pub returns-clause-found : goal.returns-clause-found
 returns-clause-found c = λ v fits.
-    closes_none c.args.self.now v c.swap.new.self.last c.span_of.result c.swap.ensures.last fits (opened _ c.if-not-closed.false) c.span_of.ensures (sym c.is_some.ensures ∙ c.if-is_some.false)
+    closes_none c.args.self.now v c.swap.new.self.last c.span_of.result c.swap.ensures.last fits (opened _ c.if-not-closed.false) c.span_of.ensures
+    (sym c.is_some.ensures ∙ c.if-is_some.false)

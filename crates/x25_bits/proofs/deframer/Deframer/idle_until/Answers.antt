@@ -23,6 +23,8 @@ loop-place-preserved c =
     record {
       low = omega (arith, before.low);
       high = omega (arith, c.loop-place-test.true);
-      seen = one_more_seen c.args.self.now c.args.at c.loop-place.place c.in-Some.octet c.args.octets.now before.low (omega arith) c.if-octets-place.false c.in-Some.ensures.seen before.seen;
-      found = one_more_found c.args.self.now c.args.at c.loop-place.place c.in-Some.octet c.args.octets.now before.low (omega arith) c.if-octets-place.false c.in-Some.ensures.found before.seen before.found;
+      seen = one_more_seen c.args.self.now c.args.at c.loop-place.place c.in-Some.octet c.args.octets.now before.low (omega arith) c.if-octets-place.false
+          c.in-Some.ensures.seen before.seen;
+      found = one_more_found c.args.self.now c.args.at c.loop-place.place c.in-Some.octet c.args.octets.now before.low (omega arith) c.if-octets-place.false
+          c.in-Some.ensures.found before.seen before.found;
     }

@@ -23,7 +23,8 @@ loop-place-preserved-then-behind-end c =
     let was : c.args.at ≤ place = c.loop-place.invariant.low in
     let on : place ≤ behind = content.low in
     let low : c.args.at ≤ behind = omega arith in
-    let reads = reads_part c.args.self.now c.loop-place.self e c.args.at place behind (bits_of c.args.octets.now) c.loop-place.invariant.reads was on content.fits content.found in
+    let reads = reads_part c.args.self.now c.loop-place.self e c.args.at place behind (bits_of c.args.octets.now) c.loop-place.invariant.reads was on
+    content.fits content.found in
     record { low = low; high = content.high; reads = reads }
 
 pub loop-place-preserved-in-Some : goal.loop-place-preserved-in-Some
@@ -35,7 +36,8 @@ loop-place-preserved-in-Some c =
     let was : c.args.at ≤ place = c.loop-place.invariant.low in
     let on : place ≤ behind = content.low in
     let low : c.args.at ≤ behind = omega arith in
-    let reads = reads_part c.args.self.now c.loop-place.self e c.args.at place behind (bits_of c.args.octets.now) c.loop-place.invariant.reads was on content.fits content.found in
+    let reads = reads_part c.args.self.now c.loop-place.self e c.args.at place behind (bits_of c.args.octets.now) c.loop-place.invariant.reads was on
+    content.fits content.found in
     let stretch = c.in-Some.stretch in
     let there = c.in-Some.ensures in
     let later : behind < stretch.end = there.low in
@@ -59,7 +61,8 @@ loop-place-preserved-in-Some-skip_at c =
     let was : c.args.at ≤ place = c.loop-place.invariant.low in
     let on : place ≤ behind = content.low in
     let low : c.args.at ≤ behind = omega arith in
-    let reads = reads_part c.args.self.now c.loop-place.self e c.args.at place behind (bits_of c.args.octets.now) c.loop-place.invariant.reads was on content.fits content.found in
+    let reads = reads_part c.args.self.now c.loop-place.self e c.args.at place behind (bits_of c.args.octets.now) c.loop-place.invariant.reads was on
+    content.fits content.found in
     let skipped = c.in-Some-skip_at.skipped in
     let there = c.in-Some-skip_at.ensures in
     let later : behind < skipped.end = there.low in
@@ -81,7 +84,8 @@ loop-place-preserved-then-next-behind c =
     let was : c.args.at ≤ place = c.loop-place.invariant.low in
     let on : place ≤ behind = content.low in
     let low : c.args.at ≤ behind = omega arith in
-    let reads = reads_part c.args.self.now c.loop-place.self e c.args.at place behind (bits_of c.args.octets.now) c.loop-place.invariant.reads was on content.fits content.found in
+    let reads = reads_part c.args.self.now c.loop-place.self e c.args.at place behind (bits_of c.args.octets.now) c.loop-place.invariant.reads was on
+    content.fits content.found in
     let next : behind ≤ c.idle_bits_until-next.result = c.idle_bits_until-next.ensures.low in
     record {
       low = omega arith;
@@ -101,13 +105,16 @@ loop-place-preserved c =
     let was : c.args.at ≤ place = c.loop-place.invariant.low in
     let on : place ≤ behind = content.low in
     let low : c.args.at ≤ behind = omega arith in
-    let reads = reads_part c.args.self.now c.loop-place.self e c.args.at place behind (bits_of c.args.octets.now) c.loop-place.invariant.reads was on content.fits content.found in
+    let reads = reads_part c.args.self.now c.loop-place.self e c.args.at place behind (bits_of c.args.octets.now) c.loop-place.invariant.reads was on
+    content.fits content.found in
     let inside : behind < c.args.end = omega (arith, content.high, c.if-behind-end.false) in
     record {
       low = omega arith;
       high = omega arith;
-      reads = reads_more c.args.self.now e c.step-closed.new.self c.step-closed.result c.args.at behind (bits_of c.args.octets.now) c.step-closed.new.self.last c.read_bit.result
-          reads (omega arith) (omega arith) c.read_bit.ensures c.step-closed.ensures.fits c.step-closed.ensures.found (sym c.is_some.ensures ∙ c.if-is_some.false);
+      reads = reads_more c.args.self.now e c.step-closed.new.self c.step-closed.result c.args.at behind (bits_of c.args.octets.now) c.step-closed.new.self.last
+          c.read_bit.result
+          reads (omega arith) (omega arith) c.read_bit.ensures c.step-closed.ensures.fits c.step-closed.ensures.found
+          (sym c.is_some.ensures ∙ c.if-is_some.false);
     }
 
 pub returns-then-is_some-clause-fits : goal.returns-then-is_some-clause-fits
@@ -120,10 +127,12 @@ returns-then-is_some-clause-fits c = λ before h.
     let was : c.args.at ≤ place = c.loop-place.invariant.low in
     let on : place ≤ behind = content.low in
     let low : c.args.at ≤ behind = omega arith in
-    let reads = reads_part c.args.self.now c.loop-place.self e c.args.at place behind (bits_of c.args.octets.now) c.loop-place.invariant.reads was on content.fits content.found in
+    let reads = reads_part c.args.self.now c.loop-place.self e c.args.at place behind (bits_of c.args.octets.now) c.loop-place.invariant.reads was on
+    content.fits content.found in
     let inside : behind < c.args.end = omega (arith, content.high, c.if-behind-end.false) in
     all_fit c.args.self.now c.step-closed.new.self c.args.at (behind + 1) (bits_of c.args.octets.now) before
-    (bit_fits c.args.self.now e c.step-closed.new.self c.args.at behind (bits_of c.args.octets.now) c.read_bit.result reads (omega arith) (omega arith) c.read_bit.ensures c.step-closed.ensures.fits) h
+    (bit_fits c.args.self.now e c.step-closed.new.self c.args.at behind (bits_of c.args.octets.now) c.read_bit.result reads (omega arith) (omega arith)
+    c.read_bit.ensures c.step-closed.ensures.fits) h
 
 pub returns-then-is_some-clause-found : goal.returns-then-is_some-clause-found
 returns-then-is_some-clause-found c = λ before h.
@@ -135,10 +144,12 @@ returns-then-is_some-clause-found c = λ before h.
     let was : c.args.at ≤ place = c.loop-place.invariant.low in
     let on : place ≤ behind = content.low in
     let low : c.args.at ≤ behind = omega arith in
-    let reads = reads_part c.args.self.now c.loop-place.self e c.args.at place behind (bits_of c.args.octets.now) c.loop-place.invariant.reads was on content.fits content.found in
+    let reads = reads_part c.args.self.now c.loop-place.self e c.args.at place behind (bits_of c.args.octets.now) c.loop-place.invariant.reads was on
+    content.fits content.found in
     let inside : behind < c.args.end = omega (arith, content.high, c.if-behind-end.false) in
     all_lend c.args.self.now c.step-closed.result c.args.at (behind + 1) (bits_of c.args.octets.now) c.step-closed.new.self.last before
-    (bit_lends c.args.self.now e c.step-closed.result c.args.at behind (bits_of c.args.octets.now) c.step-closed.new.self.last c.read_bit.result reads (omega arith) (omega arith) c.read_bit.ensures c.step-closed.ensures.found) h
+    (bit_lends c.args.self.now e c.step-closed.result c.args.at behind (bits_of c.args.octets.now) c.step-closed.new.self.last c.read_bit.result reads
+    (omega arith) (omega arith) c.read_bit.ensures c.step-closed.ensures.found) h
 
 pub returns-then-is_some-clause-first : goal.returns-then-is_some-clause-first
 returns-then-is_some-clause-first c = λ before n h less.
@@ -149,7 +160,8 @@ returns-then-is_some-clause-first c = λ before n h less.
     let was : c.args.at ≤ place = c.loop-place.invariant.low in
     let on : place ≤ behind = content.low in
     let low : c.args.at ≤ behind = omega arith in
-    let reads = reads_part c.args.self.now c.loop-place.self e c.args.at place behind (bits_of c.args.octets.now) c.loop-place.invariant.reads was on content.fits content.found in
+    let reads = reads_part c.args.self.now c.loop-place.self e c.args.at place behind (bits_of c.args.octets.now) c.loop-place.invariant.reads was on
+    content.fits content.found in
     none_first c.args.self.now e c.args.at n behind (bits_of c.args.octets.now) before reads (omega arith) h
 
 pub returns-clause-fits : goal.returns-clause-fits
@@ -161,8 +173,10 @@ returns-clause-fits c = λ before h.
 
 pub returns-clause-found : goal.returns-clause-found
 returns-clause-found c = λ before h.
-    none_first c.args.self.now c.loop-place.self c.args.at c.args.end c.loop-place.place (bits_of c.args.octets.now) before c.loop-place.invariant.reads (omega (arith, c.loop-place-test.false)) h
+    none_first c.args.self.now c.loop-place.self c.args.at c.args.end c.loop-place.place (bits_of c.args.octets.now) before c.loop-place.invariant.reads
+    (omega (arith, c.loop-place-test.false)) h
 
 pub returns-clause-first : goal.returns-clause-first
 returns-clause-first c = λ before n h less.
-    none_first c.args.self.now c.loop-place.self c.args.at n c.loop-place.place (bits_of c.args.octets.now) before c.loop-place.invariant.reads (omega (arith, c.loop-place-test.false)) h
+    none_first c.args.self.now c.loop-place.self c.args.at n c.loop-place.place (bits_of c.args.octets.now) before c.loop-place.invariant.reads
+    (omega (arith, c.loop-place-test.false)) h

@@ -30,7 +30,8 @@ returns-clause-fits c =
     let at : c.args.at ≡ 8 * (c.args.at / 8) = omega (arith, c.if-at-ne0.false) in
     whole_part c.args.self.now _ c.args.at (c.args.at / 8) taken.end c.args.octets.now at
     (content_fits c.args.self.now _ taken.run taken.is_inserted (part (8 * (c.args.at / 8)) (8 * taken.end) (bits_of c.args.octets.now))
-    (c.is_in_content.ensures.opened is) (c.is_in_content.ensures.going is) (omega arith) there.few there.passes scan.run scan.opened scan.aborted scan.inserted there.bits)
+    (c.is_in_content.ensures.opened is) (c.is_in_content.ensures.going is) (omega arith) there.few there.passes scan.run scan.opened scan.aborted scan.inserted
+    there.bits)
 
 pub returns-clause-found : goal.returns-clause-found
 returns-clause-found c =

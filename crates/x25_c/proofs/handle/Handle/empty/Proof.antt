@@ -40,7 +40,8 @@ stays = (stay_dropped an_allocator yes, tt)
 pub empty_spec : {M : Type 1} → statement M
 empty_spec 𝓤 𝓛 𝓜 𝓡 wired =
     let 𝓣 = tables 𝓤 𝓛.H 𝓜 𝓡 𝓡.env in let clauses = empty.clauses 𝓛 𝓜.mem 𝓡.returns in
-    proved_at 𝓛 empty.ended stays clauses 𝓜 𝓡 (Goes-dropped 𝓛 0 an_allocator yes (λ κs x kept. refl), tt) empty.Key.name code.function (code.unfolded 𝓤 𝓛.H 𝓜 𝓡 wired) (λ z are.
+    proved_at 𝓛 empty.ended stays clauses 𝓜 𝓡 (Goes-dropped 𝓛 0 an_allocator yes (λ κs x kept. refl), tt) empty.Key.name code.function
+    (code.unfolded 𝓤 𝓛.H 𝓜 𝓡 wired) (λ z are.
     let Post = (walk_of 𝓛 empty.ended stays clauses).post z in let alloc = z.0.3.0 in let To = type_at (empty.signature).result tt in
     let made : To.Denot = record { at = null_ptr; alloc = alloc; held = None } in
     qed 𝓛 ((‵ ftrue ⊛ ‵ (fsep ((Heap.the_row).own_val alloc z.0.4.0) ftrue)) ∷ raw (emp 𝓤) ∷ []) ∵ split ! $ drop ! $ fsplit ! $
@@ -55,6 +56,7 @@ empty_spec 𝓤 𝓛 𝓜 𝓡 wired =
     -- what the handle owns: its two fields, and nothing beside
     nothing ! $ move ! (1 ∷ []) $ fjoin ! $ feq_i ! (List Val) (vnull ∷ []) (vnull ∷ []) refl $ fjoin ! $
     feq_i ! (List Val) (w ∷ []) (w ∷ []) refl $ fjoin ! $
-    fpack ! (Valss (RawPtr ∷ Heap.the_row ∷ [])) (within (shape Handle.the_type) (null_ptr, (((tt, tt), tt), tt)) (w ∷ [])) (vnull ∷ [], (h ∷ [], tt)) $ nothing ! $ move ! (1 ∷ []) $ fjoin ! $
+    fpack ! (Valss (RawPtr ∷ Heap.the_row ∷ [])) (within (shape Handle.the_type) (null_ptr, (((tt, tt), tt), tt)) (w ∷ []))
+    (vnull ∷ [], (h ∷ [], tt)) $ nothing ! $ move ! (1 ∷ []) $ fjoin ! $
     suffices ! _ (ends_at 𝓛 empty.ended stays clauses z w made (tt, tt) (tt, tt)) $ says ! refl $
     nothing ! $ nothing ! $ fjoin ! $ join ! $ nothing ! $ join ! $ done !)))))

@@ -28,7 +28,8 @@ stays = (stay_dropped its_pieces yes, tt)
 pub holding_spec : {M : Type 1} → statement M
 holding_spec 𝓤 𝓛 𝓜 𝓡 wired =
     let 𝓣 = tables 𝓤 𝓛.H 𝓜 𝓡 𝓡.env in let clauses = holding.clauses 𝓛 𝓜.mem 𝓡.returns in
-    proved_at 𝓛 holding.ended stays clauses 𝓜 𝓡 (Goes-dropped 𝓛 0 its_pieces yes (λ κs x kept. refl), tt) holding.Key.name code.function (code.unfolded 𝓤 𝓛.H 𝓜 𝓡 wired) (λ z are.
+    proved_at 𝓛 holding.ended stays clauses 𝓜 𝓡 (Goes-dropped 𝓛 0 its_pieces yes (λ κs x kept. refl), tt) holding.Key.name code.function
+    (code.unfolded 𝓤 𝓛.H 𝓜 𝓡 wired) (λ z are.
     let Post = (walk_of 𝓛 holding.ended stays clauses).post z in let pieces = z.0.3.0 in let To = type_at (holding.signature).result tt in
     let box : D boxed = record { ptr = pieces.at; alloc = pieces.alloc; value = pieces.value } in
     let made : To.Denot = record { at = pieces.at; alloc = pieces.alloc; held = Some pieces.value } in

@@ -31,9 +31,11 @@ stays = (stay_dropped its_handle yes, tt)
 pub release_spec : {M : Type 1} → statement M
 release_spec 𝓤 𝓛 𝓜 𝓡 wired =
     let 𝓣 = tables 𝓤 𝓛.H 𝓜 𝓡 𝓡.env in let clauses = release.clauses 𝓛 𝓜.mem 𝓡.returns in
-    proved_at 𝓛 release.ended stays clauses 𝓜 𝓡 (Goes-dropped 𝓛 0 its_handle yes (λ κs x kept. refl), tt) release.Key.name code.function (code.unfolded 𝓤 𝓛.H 𝓜 𝓡 wired) (λ z are.
+    proved_at 𝓛 release.ended stays clauses 𝓜 𝓡 (Goes-dropped 𝓛 0 its_handle yes (λ κs x kept. refl), tt) release.Key.name code.function
+    (code.unfolded 𝓤 𝓛.H 𝓜 𝓡 wired) (λ z are.
     let Post = (walk_of 𝓛 release.ended stays clauses).post z in let handle = z.0.3.0 in let To = type_at (release.signature).result tt in
-    qed 𝓛 ((‵ ftrue ⊛ ‵ (fsep ((Handle.the_row).own_val handle z.0.4.0) ftrue)) ∷ raw (fact 𝓤 (IsSome handle.held)) ∷ []) ∵ move ! (1 ∷ []) $ heard ! _ (λ is_some. split ! $ drop ! $ fsplit ! $
+    qed 𝓛 ((‵ ftrue ⊛ ‵ (fsep ((Handle.the_row).own_val handle z.0.4.0) ftrue)) ∷ raw (fact 𝓤 (IsSome handle.held)) ∷ []) ∵ move !
+    (1 ∷ []) $ heard ! _ (λ is_some. split ! $ drop ! $ fsplit ! $
     let held = held_of handle.held is_some in let box : D boxed = record { ptr = handle.at; alloc = handle.alloc; value = held.0 } in
     let made : To.Denot = record { at = handle.at; alloc = handle.alloc; value = held.0 } in
     rewrite ! 0 (λ (x : Option Held). ‵ ((Handle.the_row).own_val (record handle { held = x }) z.0.4.0)) held.1 refl $

@@ -5,11 +5,17 @@ use Rattle.x25_c.proofs.held.Held.pass.Goals as goal
 pub returns-in-Some : goal.returns-in-Some
 unfolding Passes
 returns-in-Some c =
-    let mid = record c.args.self.now { clock = c.take_due.new.clock; time = c.args.now } in
-    (mid, record { is = refl; clock = c.take_due.ensures.told }, subst (λ due. PassesAt due mid c.insist.new.self c.insist.result) c.in-Some.ensures.due c.insist.ensures)
+    let mid = record c.args.self.now { clock = c.take_due.new.clock; time = c.args.now } in (
+      mid,
+      record { is = refl; clock = c.take_due.ensures.told },
+      subst (λ due. PassesAt due mid c.insist.new.self c.insist.result) c.in-Some.ensures.due c.insist.ensures,
+    )
 
 pub returns-in-None : goal.returns-in-None
 unfolding Passes
 returns-in-None c =
-    let mid = record c.args.self.now { clock = c.take_due.new.clock; time = c.args.now } in
-    (mid, record { is = refl; clock = c.take_due.ensures.told }, subst (λ due. PassesAt due mid c.rest.new.self (Ok tt)) c.in-None.ensures.due (refl, c.rest.ensures))
+    let mid = record c.args.self.now { clock = c.take_due.new.clock; time = c.args.now } in (
+      mid,
+      record { is = refl; clock = c.take_due.ensures.told },
+      subst (λ due. PassesAt due mid c.rest.new.self (Ok tt)) c.in-None.ensures.due (refl, c.rest.ensures),
+    )

@@ -48,7 +48,8 @@ from_box_spec 𝓤 𝓛 𝓜 𝓡 wired T A laws_T laws_A ghosts dict drops glue
     let 𝓣 = tables 𝓤 𝓛.H 𝓜 𝓡 𝓡.env in let ended = from_box.ended T A ghosts dict drops glue in
     let clauses = from_box.clauses T A ghosts dict drops glue 𝓛 𝓜.mem 𝓡.returns in
     let stays : Stays ended.signature.params ended.kept = (stay_dropped (plain (λ _. B E)) no, tt) in
-    proved_at 𝓛 ended stays clauses 𝓜 𝓡 (Goes-blank 𝓛 2 (plain (λ _. B E)) no (λ κs x kept. tt), tt) (from_box.Key.name passed) body (code.unfolded 𝓤 𝓛.H 𝓜 𝓡 wired (T, (A, tt)) dict drops glue) (λ z are.
+    proved_at 𝓛 ended stays clauses 𝓜 𝓡 (Goes-blank 𝓛 2 (plain (λ _. B E)) no (λ κs x kept. tt), tt) (from_box.Key.name passed) body
+    (code.unfolded 𝓤 𝓛.H 𝓜 𝓡 wired (T, (A, tt)) dict drops glue) (λ z are.
     let κs = z.0.0 in let qs = z.0.1 in let box = z.0.3.0 in let Post = (walk_of 𝓛 ended stays clauses).post z in
     let To : RattleType = Unboxed.the_row (R E) (P E) ghosts in
     let tokens : Item 𝓤 = ‵ (flft κs.0 qs.0) ⊛ ‵ (flft κs.1.0 qs.1.0) ⊛ ‵ ftrue in
@@ -63,11 +64,14 @@ from_box_spec 𝓤 𝓛 𝓜 𝓡 wired T A laws_T laws_A ghosts dict drops glue
     by ! (subst (λ (us : List Val). ent 𝓤 (types.Kit.⋆ 𝓛 Γ) (WpFn 𝓤 𝓛.H 𝓣.C 𝓣.Λ body (us ++ []) Post)) (sym spelled)
     (qed 𝓛 Γ ∵ enter ! 𝓣.C 𝓣.Λ body (w ∷ []) _ $ alloc_all ! (λ ls. pass_all ! refl (box_typed E h p o fits, tt) $
     sets ! (of_opd ! (get ! refl)) refl (box_typed E h p o fits) $
-    calls_at ! (framed 𝓤 𝓛.H 𝓜 𝓣) call (into_raw_met.met 𝓤 𝓛 𝓜 𝓡 (code.calls-std_alloc::boxed::Box::into_raw_with_allocator 𝓡.env wired) T A laws_T laws_A ghosts dict drops glue dict_met drops_met glue_met) given (and_then ! (get ! refl) (no_more !)) (λ answer.
-    use1 𝓛 (later (some (λ (r : Ptr × A.Denot). (tokens ⊛ ‵ ((Tuple (RawPtr ∷ P E ∷ [])).own_val r (answer ∷ []))) ⊛ some (λ (_ : (Unit {0} × (Unit {0} × Unit {0})) × Unit {0}).
+    calls_at ! (framed 𝓤 𝓛.H 𝓜 𝓣) call (into_raw_met.met 𝓤 𝓛 𝓜 𝓡 (code.calls-std_alloc::boxed::Box::into_raw_with_allocator 𝓡.env wired) T A laws_T laws_A
+    ghosts dict drops glue dict_met drops_met glue_met) given (and_then ! (get ! refl) (no_more !)) (λ answer.
+    use1 𝓛 (later (some (λ (r : Ptr × A.Denot). (tokens ⊛ ‵ ((Tuple (RawPtr ∷ P E ∷ [])).own_val r (answer ∷ []))) ⊛ some
+    (λ (_ : (Unit {0} × (Unit {0} × Unit {0})) × Unit {0}).
     ‵ (fsep (fsep ftrue (fsep ftrue ftrue)) ftrue) ⊛ (raw (fact 𝓤 (r.1 ≡ box.alloc)) ⊛ ‵ (box_owns (token E.al box.alloc) (R E) r.0 box.value)))))) (id⊢ 𝓤 _) $
     await ! tt $ pick ! (λ r. split ! $ move ! (1 ∷ []) $ pick ! (λ _. split3 ! $ drop ! $ heard ! _ (λ same.
-    in_a_block ! r.0 (λ q. box_owns (token E.al box.alloc) (R E) q box.value) (fst∗ 𝓤 (never 𝓤) (sem 𝓛 (token E.al box.alloc (as_raw (τ E)) null_ptr))) (λ p' o' at.
+    in_a_block ! r.0 (λ q. box_owns (token E.al box.alloc) (R E) q box.value) (fst∗ 𝓤 (never 𝓤) (sem 𝓛 (token E.al box.alloc (as_raw (τ E)) null_ptr)))
+    (λ p' o' at.
     move ! (1 ∷ []) $ split ! $ move ! (1 ∷ []) $
     rewrite ! 0 (λ (a : A.Denot). ‵ ((Tuple (RawPtr ∷ P E ∷ [])).own_val (r.0, a) (answer ∷ []))) same refl $
     pair_out E ! r.0 box.alloc p' o' answer at (λ h' answered fits'. move ! (2 ∷ []) $ fsplit ! $ move ! (0 ∷ 1 ∷ 2 ∷ []) $

@@ -10,7 +10,8 @@ use contract.BorrowLft.{◌⊑◌}
 use contract.Monad.{fact}
 use contract.Running.{tables}
 use prog.Wp.{WpFn}
-use types.Kit.{Item, ‵, raw, ◌⊛◌, some, later, at_ret, ◌$◌, ◌∵◌, !, qed, by, move, drop, use1, join, split, split3, pick, rewrite, fsplit, fjoin, feq_i, suffices, await, done}
+use types.Kit.{Item, ‵, raw, ◌⊛◌, some, later, at_ret, ◌$◌, ◌∵◌, !, qed, by, move, drop, use1, join, split, split3, pick, rewrite, fsplit, fjoin}
+use types.Kit.{feq_i, suffices, await, done}
 use types.Part.{whole, sub}
 use types.Run.{stop, fld, no_more, and_then, of_opd, returns, enter, first, blocks, exec}
 use types.ByLocal.{alloc_all, pass_all, free_all, look_at, get, get_in, sets, lands_last, env}
@@ -45,7 +46,8 @@ into_box_spec 𝓤 𝓛 𝓜 𝓡 wired T' A laws_T laws_A ghosts dict drops dic
     let clauses = into_box.clauses T' A ghosts dict drops 𝓛 𝓜.mem 𝓡.returns in
     let From : RattleType = Unboxed.the_row (R E) (P E) ghosts in
     let stays : Stays ended.signature.params ended.kept = (stay_dropped (plain (λ _. From)) no, tt) in
-    proved_at 𝓛 ended stays clauses 𝓜 𝓡 (Goes-blank 𝓛 2 (plain (λ _. From)) no (λ κs x kept. tt), tt) (into_box.Key.name passed) body (code.unfolded 𝓤 𝓛.H 𝓜 𝓡 wired (T', (A, tt)) dict drops) (λ z are.
+    proved_at 𝓛 ended stays clauses 𝓜 𝓡 (Goes-blank 𝓛 2 (plain (λ _. From)) no (λ κs x kept. tt), tt) (into_box.Key.name passed) body
+    (code.unfolded 𝓤 𝓛.H 𝓜 𝓡 wired (T', (A, tt)) dict drops) (λ z are.
     let κs = z.0.0 in let qs = z.0.1 in let pieces = z.0.3.0 in let Post = (walk_of 𝓛 ended stays clauses).post z in
     let box : D E = record { ptr = pieces.at; alloc = pieces.alloc; value = pieces.value } in
     let tokens : Item 𝓤 = ‵ (flft κs.0 qs.0) ⊛ ‵ (flft κs.1.0 qs.1.0) ⊛ ‵ ftrue in
@@ -66,7 +68,8 @@ into_box_spec 𝓤 𝓛 𝓜 𝓡 wired T' A laws_T laws_A ghosts dict drops dic
     sets ! (of_opd ! (get_in ! (fld ! refl (stop !)) (sub ! 0 refl (whole !)))) refl (tt, tt) $
     sets ! (of_opd ! (get_in ! (fld ! refl (stop !)) (sub ! 1 refl (whole !)))) refl fits $
     first ! $ blocks ! $ sets ! (of_opd ! (get ! refl)) refl fits $
-    calls_at_last ! (framed 𝓤 𝓛.H 𝓜 𝓣) call (from_raw_met.met 𝓤 𝓛 𝓜 𝓡 (code.calls-std_alloc::boxed::Box::from_raw 𝓡.env wired) T' A laws_T laws_A ghosts dict drops dict_met drops_met) given
+    calls_at_last ! (framed 𝓤 𝓛.H 𝓜 𝓣) call
+    (from_raw_met.met 𝓤 𝓛 𝓜 𝓡 (code.calls-std_alloc::boxed::Box::from_raw 𝓡.env wired) T' A laws_T laws_A ghosts dict drops dict_met drops_met) given
     (and_then ! (get ! refl) (and_then ! (get ! refl) (no_more !))) (λ answer.
     use1 𝓛 (later (some (λ (r : D E). (tokens ⊛ ‵ ((B E).own_val r (answer ∷ []))) ⊛ some (λ (_ : Unit {0} × (Unit {0} × Unit {0})).
     ‵ (fsep ftrue (fsep ftrue ftrue)) ⊛ (raw (fact 𝓤 (r.value ≡ pieces.value)) ⊛ raw (fact 𝓤 (r.alloc ≡ pieces.alloc))))))) (id⊢ 𝓤 _) $
@@ -74,7 +77,8 @@ into_box_spec 𝓤 𝓛 𝓜 𝓡 wired T' A laws_T laws_A ghosts dict drops dic
     move ! (1 ∷ []) $
     box_out E ! r (answer ∷ []) (λ p' o' h' e' answered fits'. box_in E ! r p' o' r.value e' refl $
     rewrite ! 0 (λ (us : List Val). ‵ ((B E).own_val r us)) (sym answered) refl $
-    let typed : T (has_ty (box_ty E) answer) × WT answer = subst (λ (v : Val). T (has_ty (box_ty E) v) × WT v) (sym (ap only answered)) (box_typed E h' p' o' fits') in
+    let typed : T (has_ty (box_ty E) answer) × WT answer = subst (λ (v : Val). T (has_ty (box_ty E) v) × WT v) (sym (ap only answered))
+    (box_typed E h' p' o' fits') in
     lands_last ! refl typed $ exec ! 𝓣.C 𝓣.Λ (env body.locals ls) (after 3 body.body) (at_ret (env body.locals ls) Post) $
     sets ! (of_opd ! (get ! refl)) refl typed $ returns ! (look_at ! 0 refl) $ free_all ! refl $
     suffices ! _ (ends_at 𝓛 ended stays clauses z answer r ((tt, (tt, tt)), tt) (tt, tt)) $ says ! same $

@@ -51,7 +51,8 @@ returns-in-Some c = record {
       let made = with_transfer d c.args.self.now x _ _ _ fits (c.make.ensures.fits (outgoing x).size x.talk fits.talk) c.make.ensures.longest in
       let known = c.args.self.now.flow.params in
       let flow = c.in_ok-flow.ensures.flow ∙ ap (λ (a : Option (Bor Proposal)). params_answered (plain_answer a) known) c.in-Some.is in
-      let may = subst (λ (a : Option (Bor Proposal)). IfSome (plain_answer a) (λ said. may_answer known said.params ≡ true)) c.in-Some.is c.in_ok-flow.ensures.may_answer in
+      let may = subst (λ (a : Option (Bor Proposal)). IfSome (plain_answer a) (λ said. may_answer known said.params ≡ true)) c.in-Some.is
+      c.in_ok-flow.ensures.may_answer in
       rw (
         c.in-Some.is,
         accept_at x x.state (Some c.in-Some.answer.now) (sym fits.state ∙ c.in_ok-flow.ensures.arriving),
@@ -79,7 +80,8 @@ pub returns-in-None : goal.returns-in-None
 returns-in-None c = record {
   outcome = λ d x fits.
       let made = with_transfer d c.args.self.now x _ _ _ fits (c.make.ensures.fits (outgoing x).size x.talk fits.talk) c.make.ensures.longest in
-      let flow = c.in_ok-flow.ensures.flow ∙ ap (λ (a : Option (Bor Proposal)). params_answered (plain_answer a) c.args.self.now.flow.params) c.in-None.is ∙ fits.params in
+      let flow = c.in_ok-flow.ensures.flow ∙ ap (λ (a : Option (Bor Proposal)). params_answered (plain_answer a) c.args.self.now.flow.params) c.in-None.is
+      ∙ fits.params in
       rw (c.in-None.is, accept_at x x.state None (sym fits.state ∙ c.in_ok-flow.ensures.arriving))
       ((subst (λ (p : Params). FitsCircuit d c.enter.new.self (entered x Open p false)) flow (c.enter.ensures.fits d x made), rw c.none.ensures refl));
   range = ((lit≤ tt, lit≤ tt), subst IsFacilityField (sym c.none.ensures) no_field);

@@ -10,7 +10,8 @@ returns-in-Open-clause-next c = λ d x fits.
     let size = c.outgoing-terms.ensures.size d x fits in
     let window = c.outgoing-terms.ensures.window d x fits in
     let talk = own_talk d c.args.self.now x c.outgoing-terms.result fits size in
-    advances_next d c.args.self.now x c.outgoing-terms.result c.advance.new.self _ c.advance.result fits c.in-Open.is window size (c.advance.ensures.some x.talk talk) (c.advance.ensures.none x.talk talk) (c.advance.ensures.held x.talk talk)
+    advances_next d c.args.self.now x c.outgoing-terms.result c.advance.new.self _ c.advance.result fits c.in-Open.is window size
+    (c.advance.ensures.some x.talk talk) (c.advance.ensures.none x.talk talk) (c.advance.ensures.held x.talk talk)
     (ap (λ (p : ShownPartial). p.longest) c.advance.ensures.partial)
 
 pub returns-in-Open-clause-packet : goal.returns-in-Open-clause-packet
@@ -18,7 +19,8 @@ returns-in-Open-clause-packet c = λ d x fits.
     let size = c.outgoing-terms.ensures.size d x fits in
     let window = c.outgoing-terms.ensures.window d x fits in
     let talk = own_talk d c.args.self.now x c.outgoing-terms.result fits size in
-    advances_packet d c.args.self.now x c.outgoing-terms.result c.advance.new.self c.advance.result fits c.in-Open.is window size (c.advance.ensures.some x.talk talk) (c.advance.ensures.held x.talk talk)
+    advances_packet d c.args.self.now x c.outgoing-terms.result c.advance.new.self c.advance.result fits c.in-Open.is window size
+    (c.advance.ensures.some x.talk talk) (c.advance.ensures.held x.talk talk)
 
 pub returns-then-len-eq0-clause-next : goal.returns-then-len-eq0-clause-next
 returns-then-len-eq0-clause-next c = λ d x fits.

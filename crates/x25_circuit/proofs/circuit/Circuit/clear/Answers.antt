@@ -17,7 +17,11 @@ returns-in-Some c = record {
 pub returns : goal.returns
 returns c = record {
   outcome = λ d x fits.
-      rw (sym fits.state, clear_done d x _ c.args.cause c.args.diagnostic c.in_default.ensures.not_free c.in_default.ensures.not_clearing, subst (λ (r : Role). may_clear_for r c.args.cause ≡ true) fits.role c.in_default.ensures.given)
+      rw (
+        sym fits.state,
+        clear_done d x _ c.args.cause c.args.diagnostic c.in_default.ensures.not_free c.in_default.ensures.not_clearing,
+        subst (λ (r : Role). may_clear_for r c.args.cause ≡ true) fits.role c.in_default.ensures.given,
+      )
       ((c.end_call.ensures.fits d x fits, refl));
   range = search rules;
   control = search rules;

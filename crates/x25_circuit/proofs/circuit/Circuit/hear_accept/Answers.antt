@@ -5,15 +5,27 @@ use Rattle.x25_circuit.proofs.circuit.Circuit.hear_accept.Goals as goal
 pub returns-in-Calling : goal.returns-in-Calling
 returns-in-Calling c =
     elim c.in-Calling.is [
-      | inl e ↦ record { next = λ d x fits. rw e (c.connect.ensures.next d x fits); says = λ d x fits. rw e (c.connect.ensures.says d x fits); range = c.connect.ensures.range; handed = c.connect.ensures.handed }
-      | inr e ↦ record { next = λ d x fits. rw e (c.connect.ensures.next d x fits); says = λ d x fits. rw e (c.connect.ensures.says d x fits); range = c.connect.ensures.range; handed = c.connect.ensures.handed }
+      | inl e ↦ record {
+        next = λ d x fits. rw e (c.connect.ensures.next d x fits);
+        says = λ d x fits. rw e (c.connect.ensures.says d x fits);
+        range = c.connect.ensures.range;
+        handed = c.connect.ensures.handed;
+      }
+      | inr e ↦ record {
+        next = λ d x fits. rw e (c.connect.ensures.next d x fits);
+        says = λ d x fits. rw e (c.connect.ensures.says d x fits);
+        range = c.connect.ensures.range;
+        handed = c.connect.ensures.handed;
+      }
     ]
 
 pub returns-in_default : goal.returns-in_default
 returns-in_default c =
     record {
-      next = λ d x fits. rw (accept_strays d x _ _ c.in_default.not-Calling c.in_default.not-Collision c.in_default.not-Clearing) (c.unexpected.ensures.next d x fits);
-      says = λ d x fits. rw (accept_strays d x _ _ c.in_default.not-Calling c.in_default.not-Collision c.in_default.not-Clearing) (c.unexpected.ensures.says d x fits);
+      next = λ d x fits. rw (accept_strays d x _ _ c.in_default.not-Calling c.in_default.not-Collision c.in_default.not-Clearing)
+          (c.unexpected.ensures.next d x fits);
+      says = λ d x fits. rw (accept_strays d x _ _ c.in_default.not-Calling c.in_default.not-Collision c.in_default.not-Clearing)
+          (c.unexpected.ensures.says d x fits);
       range = c.unexpected.ensures.range;
       handed = c.unexpected.ensures.handed;
     }

@@ -12,7 +12,9 @@ pub returns-in-Free : goal.returns-in-Free
 returns-in-Free c = record {
   next = λ d x fits.
       rw c.in-Free.is
-      (subst (λ (p : Params). FitsCircuit d c.enter.new.self (entered x Arriving p false)) (c.said-flow.ensures ∙ ap (λ (field : List ℕ). said_in c.usual.result.params field) (c.as_slice.ensures.octets ∙ c.facility_field.ensures) ∙ ap (λ (p : Params). said_in p (field_of c.args.a c.args.body.now)) c.usual.ensures) (c.enter.ensures.fits d x fits));
+      (subst (λ (p : Params). FitsCircuit d c.enter.new.self (entered x Arriving p false))
+      (c.said-flow.ensures ∙ ap (λ (field : List ℕ). said_in c.usual.result.params field) (c.as_slice.ensures.octets ∙ c.facility_field.ensures)
+      ∙ ap (λ (p : Params). said_in p (field_of c.args.a c.args.body.now)) c.usual.ensures) (c.enter.ensures.fits d x fits));
   says = search rules;
   range = search rules;
   handed = search rules;

@@ -21,8 +21,10 @@ returns-in-Resetting c = record {
 pub returns-in_default : goal.returns-in_default
 returns-in_default c =
     record {
-      next = λ d x fits. rw (reset_conf_strays d x _ c.in_default.not-Open c.in_default.not-Resetting c.in_default.not-Clearing) (c.unexpected.ensures.next d x fits);
-      says = λ d x fits. rw (reset_conf_strays d x _ c.in_default.not-Open c.in_default.not-Resetting c.in_default.not-Clearing) (c.unexpected.ensures.says d x fits);
+      next = λ d x fits. rw (reset_conf_strays d x _ c.in_default.not-Open c.in_default.not-Resetting c.in_default.not-Clearing)
+          (c.unexpected.ensures.next d x fits);
+      says = λ d x fits. rw (reset_conf_strays d x _ c.in_default.not-Open c.in_default.not-Resetting c.in_default.not-Clearing)
+          (c.unexpected.ensures.says d x fits);
       range = c.unexpected.ensures.range;
       handed = c.unexpected.ensures.handed;
     }

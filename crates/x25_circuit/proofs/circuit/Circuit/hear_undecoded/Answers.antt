@@ -13,8 +13,13 @@ returns-in-Open c = record {
 pub returns-in_default : goal.returns-in_default
 returns-in_default c =
     record {
-      next = λ d x fits. rw (undecoded_clears d x _ _ c.in_default.not-Open c.in_default.not-Resetting c.in_default.not-Clearing) (c.clear_for.ensures.next d x fits);
-      says = λ d x fits. rw (undecoded_clears d x _ _ c.in_default.not-Open c.in_default.not-Resetting c.in_default.not-Clearing, sym c.cause_of.ensures, sym c.diagnostic-in_default.ensures) (c.clear_for.ensures.says d x fits);
+      next = λ d x fits. rw (undecoded_clears d x _ _ c.in_default.not-Open c.in_default.not-Resetting c.in_default.not-Clearing)
+          (c.clear_for.ensures.next d x fits);
+      says = λ d x fits. rw (
+        undecoded_clears d x _ _ c.in_default.not-Open c.in_default.not-Resetting c.in_default.not-Clearing,
+        sym c.cause_of.ensures,
+        sym c.diagnostic-in_default.ensures,
+      ) (c.clear_for.ensures.says d x fits);
       range = c.clear_for.ensures.range;
       handed = c.clear_for.ensures.handed;
     }

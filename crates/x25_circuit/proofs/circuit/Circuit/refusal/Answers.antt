@@ -9,7 +9,8 @@ pub returns-in-Call : goal.returns-in-Call
 returns-in-Call c = λ d x fits.
     let said = c.in-Call.proposal.now in
     rw (c.in-Call.is, c.err.ensures.value)
-    (subst (λ (p : Params). result_err c.call_fields.result ≡ refusal_of (call_in d x x.state c.in-Call.called.now c.in-Call.calling.now c.in-Call.user.now (record { params = p; says_all = said.says_all })))
+    (subst (λ (p : Params). result_err c.call_fields.result
+    ≡ refusal_of (call_in d x x.state c.in-Call.called.now c.in-Call.calling.now c.in-Call.user.now (record { params = p; says_all = said.says_all })))
     c.params.ensures (c.call_fields.ensures.refusal d x said.says_all fits))
 
 pub returns-in-Accept : goal.returns-in-Accept

@@ -6,15 +6,20 @@ use Rattle.x25_circuit.proofs.circuit.Circuit.refuse.Goals as goal
 pub returns-then-not-ack : goal.returns-then-not-ack
 returns-then-not-ack c = record {
   next = λ d x fits. c.reset_for.ensures.next d x (same_transfer d c.args.self.now x _ _ fits (c.ack.ensures.unchanged c.if-not-ack.true));
-  says = λ d x fits. rw (sym (c.ack.ensures.valid (outgoing x).size x.talk fits.talk) ∙ c.if-not-ack.true) (c.reset_for.ensures.says d x (same_transfer d c.args.self.now x _ _ fits (c.ack.ensures.unchanged c.if-not-ack.true)));
+  says = λ d x fits. rw (sym (c.ack.ensures.valid (outgoing x).size x.talk fits.talk) ∙ c.if-not-ack.true)
+      (c.reset_for.ensures.says d x (same_transfer d c.args.self.now x _ _ fits (c.ack.ensures.unchanged c.if-not-ack.true)));
   range = search rules;
   handed = search rules;
 }
 
 pub returns : goal.returns
 returns c = record {
-  next = λ d x fits. c.reset_for-2.ensures.next d _ (with_transfer d c.args.self.now x _ _ _ fits (c.ack.ensures.fits (outgoing x).size x.talk fits.talk c.if-not-ack.false) (same_longest _ _ c.ack.ensures.partial));
-  says = λ d x fits. rw (sym (c.ack.ensures.valid (outgoing x).size x.talk fits.talk) ∙ c.if-not-ack.false) (c.reset_for-2.ensures.says d _ (with_transfer d c.args.self.now x _ _ _ fits (c.ack.ensures.fits (outgoing x).size x.talk fits.talk c.if-not-ack.false) (same_longest _ _ c.ack.ensures.partial)));
+  next = λ d x fits. c.reset_for-2.ensures.next d
+      _ (with_transfer d c.args.self.now x _ _ _ fits (c.ack.ensures.fits (outgoing x).size x.talk fits.talk c.if-not-ack.false)
+      (same_longest _ _ c.ack.ensures.partial));
+  says = λ d x fits. rw (sym (c.ack.ensures.valid (outgoing x).size x.talk fits.talk) ∙ c.if-not-ack.false)
+      (c.reset_for-2.ensures.says d _ (with_transfer d c.args.self.now x _ _ _ fits (c.ack.ensures.fits (outgoing x).size x.talk fits.talk c.if-not-ack.false)
+      (same_longest _ _ c.ack.ensures.partial)));
   range = search rules;
   handed = search rules;
 }

@@ -15,7 +15,10 @@ returns-in-Some c = record {
 
 pub returns : goal.returns
 returns c = record {
-  outcome = λ d x fits. rw (sym fits.state ∙ c.in_default.ensures.open, subst (λ (r : Role). may_reset_for r c.args.cause ≡ true) fits.role c.in_default.ensures.given) ((c.begin_stretch.ensures.fits d x fits, refl));
+  outcome = λ d x fits. rw (
+    sym fits.state ∙ c.in_default.ensures.open,
+    subst (λ (r : Role). may_reset_for r c.args.cause ≡ true) fits.role c.in_default.ensures.given,
+  ) ((c.begin_stretch.ensures.fits d x fits, refl));
   range = search rules;
   control = search rules;
   keeps = search rules;

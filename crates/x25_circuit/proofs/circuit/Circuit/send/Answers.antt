@@ -15,4 +15,7 @@ returns-clause-outcome c = λ d x fits.
     rw (
       send_at d x x.state c.args.marks c.args.user.now (sym fits.state ∙ c.in_default.ensures.open),
       send_waits d x c.args.marks c.args.user.now (omega (arith, c.in_default.ensures.longest, fits.longest)) (omega (arith, waits, c.in_default.ensures.few)),
-    ) ((with_transfer d c.args.self.now x _ _ _ fits (c.in_ok-push.ensures.fits (outgoing x).size x.talk fits.talk) (same_longest _ _ c.push.ensures.partial), refl))
+    ) ((
+      with_transfer d c.args.self.now x _ _ _ fits (c.in_ok-push.ensures.fits (outgoing x).size x.talk fits.talk) (same_longest _ _ c.push.ensures.partial),
+      refl,
+    ))

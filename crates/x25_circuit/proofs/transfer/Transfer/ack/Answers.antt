@@ -4,7 +4,8 @@ use Rattle.x25_circuit.proofs.transfer.Transfer.ack.Goals as goal
 
 pub returns-then-self-eq0-clause-fits : goal.returns-then-self-eq0-clause-fits
 returns-then-self-eq0-clause-fits c = λ size t fits ok.
-    acked_unasked size c.args.self.now t c.ack.new.self c.ack.result c.args.pr.number c.ack.ensures.step c.ack.ensures.resolves (sym c.is_ok.ensures.value ∙ ok) c.if-self-eq0.true fits
+    acked_unasked size c.args.self.now t c.ack.new.self c.ack.result c.args.pr.number c.ack.ensures.step c.ack.ensures.resolves
+    (sym c.is_ok.ensures.value ∙ ok) c.if-self-eq0.true fits
 
 pub returns-clause-fits : goal.returns-clause-fits
 returns-clause-fits c = λ size t fits ok.

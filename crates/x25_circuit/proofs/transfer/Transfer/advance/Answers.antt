@@ -23,7 +23,8 @@ returns-clause-some c = λ t fits.
     record {
       others = others;
       first = first;
-      allowed = and_from _ _ (sym fits.peer_ready ∙ c.if-not-self.false) (lt-ltb _ _ (omega (arith, unacked, fits.numbers.acked, ap length fits.numbers.sent ∙ length-map t.sent asks, c.if-unacked-terms.false)));
+      allowed = and_from _ _ (sym fits.peer_ready ∙ c.if-not-self.false)
+          (lt-ltb _ _ (omega (arith, unacked, fits.numbers.acked, ap length fits.numbers.sent ∙ length-map t.sent asks, c.if-unacked-terms.false)));
       fits = record {
         numbers = numbers;
         taken = fits.taken;
@@ -31,7 +32,8 @@ returns-clause-some c = λ t fits.
         part = fits.part;
         short = fits.short;
         -- the packet is no more in front of what waits, and behind what was sent
-        unconfirmed = fits.unconfirmed ∙ ap (λ (ps : List Piece). asked_in (drop t.acked (t.sent ++ ps))) first ∙ ap (λ (ps : List Piece). asked_in (drop t.acked ps)) (sym (append_assoc t.sent (piece ∷ []) others));
+        unconfirmed = fits.unconfirmed ∙ ap (λ (ps : List Piece). asked_in (drop t.acked (t.sent ++ ps))) first
+            ∙ ap (λ (ps : List Piece). asked_in (drop t.acked ps)) (sym (append_assoc t.sent (piece ∷ []) others));
         int_out = fits.int_out;
         peer_ready = fits.peer_ready;
         own_ready = fits.own_ready;

@@ -38,4 +38,5 @@ returns-in-Some-clause-leads g c = λ old rest all any h.
 
 pub returns-in-None-clause-leads : goal.returns-in-None-clause-leads
 returns-in-None-clause-leads g c = λ old rest all any h.
-    c.take_found_line-in-None.ensures.leads old _ rest all any (rw (c.in-None.ensures.text, c.text.ensures.value) (written _ old _ _ _ _ _ _ all any _ h (c.in_ok-make_room.ensures.tells old h.told h.tells)))
+    c.take_found_line-in-None.ensures.leads old _ rest all any
+    (rw (c.in-None.ensures.text, c.text.ensures.value) (written _ old _ _ _ _ _ _ all any _ h (c.in_ok-make_room.ensures.tells old h.told h.tells)))

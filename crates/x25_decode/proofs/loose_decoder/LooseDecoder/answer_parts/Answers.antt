@@ -20,7 +20,8 @@ pub returns-in-Some-clause-tells : goal.returns-in-Some-clause-tells
 returns-in-Some-clause-tells g c = λ few old told h.
     let line = c.args.line.now in
     let head = c.split_loose.result.0.now in
-    let found = subst (λ o. MatchOption o (asked true line ≡ None) (λ found. asked true line ≡ Some found.now)) c.in-Some.is (c.split_loose.ensures.asked few) in
+    let found = subst (λ o. MatchOption o (asked true line ≡ None) (λ found. asked true line ≡ Some found.now)) c.in-Some.is (c.split_loose.ensures.asked few)
+    in
     told_behind c.answer_asked.result _ _ _ _ head (answer_to_asked c.args.self.now.reading (Some c.in-Some.line.now)) _
     (answer_parts c.args.self.now.reading line head (Some c.in-Some.line.now) (c.split_loose.ensures.carried few) found)
     c.answer_asked.ensures.tells old told (c.in_ok-tell.ensures.tells old told h)
@@ -28,8 +29,10 @@ returns-in-Some-clause-tells g c = λ few old told h.
 pub returns-in-Some-clause-refused : goal.returns-in-Some-clause-refused
 returns-in-Some-clause-refused g c = λ few.
     let line = c.args.line.now in
-    let found = subst (λ o. MatchOption o (asked true line ≡ None) (λ found. asked true line ≡ Some found.now)) c.in-Some.is (c.split_loose.ensures.asked few) in
-    subst (λ b. OnOk c.answer_asked.result (c.answer_asked.new.self.is_refused ≡ (c.args.self.now.is_refused || b))) (sym (refuses_parts line (Some c.in-Some.line.now) found))
+    let found = subst (λ o. MatchOption o (asked true line ≡ None) (λ found. asked true line ≡ Some found.now)) c.in-Some.is (c.split_loose.ensures.asked few)
+    in
+    subst (λ b. OnOk c.answer_asked.result (c.answer_asked.new.self.is_refused ≡ (c.args.self.now.is_refused || b)))
+    (sym (refuses_parts line (Some c.in-Some.line.now) found))
     c.answer_asked.ensures.refused
 
 pub returns-in-None-clause-tells : goal.returns-in-None-clause-tells
@@ -45,4 +48,5 @@ pub returns-in-None-clause-refused : goal.returns-in-None-clause-refused
 returns-in-None-clause-refused g c = λ few.
     let line = c.args.line.now in
     let none = subst (λ o. MatchOption o (asked true line ≡ None) (λ found. asked true line ≡ Some found.now)) c.in-None.is (c.split_loose.ensures.asked few) in
-    on_ok_weaker c.tell-in-None.result (λ _. sym (ap (λ b. c.args.self.now.is_refused || b) (refuses_parts line None none) ∙ or-false c.args.self.now.is_refused)) c.tell-in-None.ensures.kept
+    on_ok_weaker c.tell-in-None.result (λ _. sym
+    (ap (λ b. c.args.self.now.is_refused || b) (refuses_parts line None none) ∙ or-false c.args.self.now.is_refused)) c.tell-in-None.ensures.kept

@@ -7,4 +7,5 @@ returns-in_err-take_line-clause-on g c = λ setting old begun lines text holds s
     rw p.1 (c.in_err-take_line.ensures.on setting old begun lines text (c.line.ensures begun holds) stands)
 
 pub returns-clause-on : goal.returns-clause-on
-returns-clause-on g c = λ setting old begun lines text holds stands. c.in_ok-take_line.ensures.on setting old begun lines text (c.line.ensures begun holds) stands
+returns-clause-on g c = λ setting old begun lines text holds stands. c.in_ok-take_line.ensures.on setting old begun lines text (c.line.ensures begun holds)
+    stands

@@ -8,4 +8,5 @@ returns-in-Ok-clause-part g c = λ setting old rest text l. (c.in-Ok.ensures.on 
 pub returns-in-Ok-clause-lines : goal.returns-in-Ok-clause-lines
 returns-in-Ok-clause-lines g c = λ setting old rest text l read.
     led_ended (λ (lines : List (List ℕ)). g.T.LineTaker.stands setting c.args.self.taker old (g.W.Sink.contents c.args.writer.now) lines text)
-    (λ (lines : List (List ℕ)). g.T.LineTaker.ended setting old (g.W.Sink.contents c.write_out.new.writer) lines text) c.args.self.held rest l (c.in-Ok.ensures.on setting old _ text l.stands).1
+    (λ (lines : List (List ℕ)). g.T.LineTaker.ended setting old (g.W.Sink.contents c.write_out.new.writer) lines text) c.args.self.held rest l
+    (c.in-Ok.ensures.on setting old _ text l.stands).1

@@ -10,9 +10,11 @@ returns-in_err-write_all-clause-tells g c = λ old told h.
     let p = err_from_is_err_and c.from_residual.result c.from_residual.ensures.1 in
     rw p.1
     (part_written old _ _ _ told h
-    (subst (AppendsPrefix (g.W.Sink.contents c.args.writer.now) (g.W.Sink.contents c.write_all.new.writer)) (c.as_slice.ensures ∙ c.self.view_is) c.in_err-write_all.ensures.err))
+    (subst (AppendsPrefix (g.W.Sink.contents c.args.writer.now) (g.W.Sink.contents c.write_all.new.writer)) (c.as_slice.ensures ∙ c.self.view_is)
+    c.in_err-write_all.ensures.err))
 
 pub returns-clause-tells : goal.returns-clause-tells
 returns-clause-tells g c = λ old told h.
     all_written old _ _ _ _ told h
-    (subst (Appends (g.W.Sink.contents c.args.writer.now) (g.W.Sink.contents c.write_all.new.writer)) (c.as_slice.ensures ∙ c.self.view_is) c.in_ok-write_all.ensures.ok) c.clear.ensures
+    (subst (Appends (g.W.Sink.contents c.args.writer.now) (g.W.Sink.contents c.write_all.new.writer)) (c.as_slice.ensures ∙ c.self.view_is)
+    c.in_ok-write_all.ensures.ok) c.clear.ensures

@@ -13,7 +13,8 @@ loop-circuit-preserved c = record {
   idle = λ k v less at out. by k v less at out (place k c.loop-circuit.circuit-index);
 }
   where
-    by : (k : ℕ) (v : circuit_code.Circuit) → k < c.loop-circuit.circuit-index + 1 → slice_get c.args.circuits.now k ≡ Some v → IsOutside c.note.new.self.channels.items (suc k)
+    by : (k : ℕ) (v : circuit_code.Circuit) → k < c.loop-circuit.circuit-index + 1 → slice_get c.args.circuits.now k ≡ Some v
+        → IsOutside c.note.new.self.channels.items (suc k)
         → (k < c.loop-circuit.circuit-index) ⊎ ((k ≡ c.loop-circuit.circuit-index) ⊎ (c.loop-circuit.circuit-index < k)) → IsIdle v
     by k v less at out (inl below) =
         let channel = c.loop-circuit.invariant.channel in
@@ -22,7 +23,8 @@ loop-circuit-preserved c = record {
         let channel = c.loop-circuit.invariant.channel in
         let here : suc k ≡ c.loop-circuit.channel + 1 = omega (arith, same, channel) in
         let read = read_at c.args.circuits.now c.loop-circuit.circuit-index c.circuit-item.result c.loop-circuit-test.true c.circuit-item.is in
-        subst (λ (u : circuit_code.Circuit). IsIdle u) (same_Some c.circuit-item.result v (sym read ∙ ap (λ (n : ℕ). slice_get c.args.circuits.now n) (sym same) ∙ at))
+        subst (λ (u : circuit_code.Circuit). IsIdle u)
+        (same_Some c.circuit-item.result v (sym read ∙ ap (λ (n : ℕ). slice_get c.args.circuits.now n) (sym same) ∙ at))
         (c.note.ensures.this (subst (λ (h : ℕ). IsOutside c.note.new.self.channels.items h) here out))
     by k v less at out (inr (inr above)) = absurd (omega (arith, less, above))
 

@@ -13,4 +13,5 @@ invariant_of-self c =
 pub returns-clause-others : goal.returns-clause-others
 returns-clause-others c = λ k differs out.
     let at = found _ c.args.self.now.channels.items c.args.self.now.rising _ c.args.channel (Ok c.in-Ok.at) c.deref.ensures.value c.in-Ok.ensures.position in
-    outside_without _ c.args.self.now.channels.items c.args.self.now.rising c.in-Ok.at at.0 k (λ same. differs (same ∙ at.1)) (subst (λ (hs : List ℕ). IsOutside hs k) c.remove.ensures.items out)
+    outside_without _ c.args.self.now.channels.items c.args.self.now.rising c.in-Ok.at at.0 k (λ same. differs (same ∙ at.1))
+    (subst (λ (hs : List ℕ). IsOutside hs k) c.remove.ensures.items out)

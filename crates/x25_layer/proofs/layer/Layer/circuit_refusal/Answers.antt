@@ -11,4 +11,5 @@ returns-in-Some-refusal c = λ s l fits.
 
 pub returns-in-None : goal.returns-in-None
 returns-in-None c = λ s l fits.
-    accepted_on (outcome s.circuit (l.circuits c.args.channel) (plain_request c.args.request.now)) (sym c.in-None.is ∙ c.refusal.ensures s.circuit (l.circuits c.args.channel) (c.in-Some.ensures.fits s l fits))
+    accepted_on (outcome s.circuit (l.circuits c.args.channel) (plain_request c.args.request.now))
+    (sym c.in-None.is ∙ c.refusal.ensures s.circuit (l.circuits c.args.channel) (c.in-Some.ensures.fits s l fits))

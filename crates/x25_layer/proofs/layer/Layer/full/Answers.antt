@@ -23,7 +23,11 @@ returns-then-self-clause-value c = λ s l fits.
     let channels = fits.channels in
     let least : (l.restarts == 2 ^ 64 - 1) ≡ false = not_same l.restarts (2 ^ 64 - 1) (λ most. omega (arith, most, restarts, here)) in
     sym (ap (λ (b : Bool). b || full_up_to l.circuits s.channels.count) least
-    ∙ none_full s c.args.self.now.circuits.items l.circuits s.channels.count (omega (arith, channels)) fits.circuits (c.args.self.now.circuits_left c.if-self.true))
+    ∙ none_full s c.args.self.now.circuits.items l.circuits s.channels.count (omega (arith, channels)) fits.circuits
+    (c.args.self.now.circuits_left c.if-self.true))
 
 pub returns-then-self-clause-left : goal.returns-then-self-clause-left
-returns-then-self-clause-left c = λ is. record { restarts = c.args.self.now.restarts_left c.if-self.true; circuits = c.args.self.now.circuits_left c.if-self.true }
+returns-then-self-clause-left c = λ is. record {
+  restarts = c.args.self.now.restarts_left c.if-self.true;
+  circuits = c.args.self.now.circuits_left c.if-self.true;
+}

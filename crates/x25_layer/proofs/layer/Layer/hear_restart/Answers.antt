@@ -8,7 +8,8 @@ use Rattle.x25_layer.proofs.layer.Layer.hear_restart.Goals as goal
 pub returns-then-self : goal.returns-then-self
 returns-then-self c = record {
   layer = λ s l fits.
-      subst (λ (b : Bool). FitsLayer s c.restart_is_done.new.self (answers_in s b l.restarts l.circuits (restart c.args.cause c.args.diagnostic)).next) (sym (sym fits.restarting ∙ c.if-self.true))
+      subst (λ (b : Bool). FitsLayer s c.restart_is_done.new.self (answers_in s b l.restarts l.circuits (restart c.args.cause c.args.diagnostic)).next)
+      (sym (sym fits.restarting ∙ c.if-self.true))
       (c.restart_is_done.ensures.layer s l fits);
   put = search rules;
   told = search rules;
@@ -21,7 +22,8 @@ pub returns : goal.returns
 returns c = record {
   layer = λ s l fits.
       layer_same s c.restart_is_done-2.new.self _ _ (record { role = refl; long_data = refl; ranges = refl; restarting = refl; restarts = refl }) refl
-      (subst (λ (b : Bool). FitsLayer s c.restart_is_done-2.new.self (answers_in s b l.restarts l.circuits (restart c.args.cause c.args.diagnostic)).next) (sym (sym fits.restarting ∙ c.if-self.false))
+      (subst (λ (b : Bool). FitsLayer s c.restart_is_done-2.new.self (answers_in s b l.restarts l.circuits (restart c.args.cause c.args.diagnostic)).next)
+      (sym (sym fits.restarting ∙ c.if-self.false))
       (c.restart_is_done-2.ensures.layer s l fits));
   put = search rules;
   told = search rules;

@@ -7,7 +7,8 @@ use Rattle.x25_layer.proofs.layer.Layer.hear_restart_conf.Goals as goal
 pub returns-then-self : goal.returns-then-self
 returns-then-self c = record {
   layer = λ s l fits.
-      subst (λ (b : Bool). FitsLayer s c.restart_is_done.new.self (answers_in s b l.restarts l.circuits restart_conf).next) (sym (sym fits.restarting ∙ c.if-self.true))
+      subst (λ (b : Bool). FitsLayer s c.restart_is_done.new.self (answers_in s b l.restarts l.circuits restart_conf).next)
+      (sym (sym fits.restarting ∙ c.if-self.true))
       (c.restart_is_done.ensures.layer s l fits);
   put = search rules;
   told = search rules;
@@ -19,7 +20,8 @@ returns-then-self c = record {
 pub returns : goal.returns
 returns c = record {
   layer = λ s l fits.
-      subst (λ (b : Bool). FitsLayer s c.send_restart.new.self (answers_in s b l.restarts l.circuits restart_conf).next) (sym (sym fits.restarting ∙ c.if-self.false))
+      subst (λ (b : Bool). FitsLayer s c.send_restart.new.self (answers_in s b l.restarts l.circuits restart_conf).next)
+      (sym (sym fits.restarting ∙ c.if-self.false))
       (c.send_restart.ensures.layer s l fits);
   put = search rules;
   told = search rules;

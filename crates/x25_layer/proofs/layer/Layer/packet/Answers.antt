@@ -16,9 +16,11 @@ use Rattle.x25_layer.proofs.layer.Layer.packet.Goals.{in_default-read-via-in-Ok+
 
 pub returns-in_default : goal.returns-in_default
 returns-in_default c =
-    let none = λ (s : LayerSettings) (l : Layer). sym (hears_none c.args.wide (longest_user s.circuit.long_data) s l c.args.octets.now (sym c.channel.ensures ∙ c.in_default.is)) in
+    let none = λ (s : LayerSettings) (l : Layer). sym
+    (hears_none c.args.wide (longest_user s.circuit.long_data) s l c.args.octets.now (sym c.channel.ensures ∙ c.in_default.is)) in
     record {
-      layer = λ s l fits. fits_as s _ l _ (ap (λ (a : LayerAnswer). a.next) (none s l)) (layer_same s c.args.self.now _ l (record { role = refl; long_data = refl; ranges = refl; restarting = refl; restarts = refl }) refl fits);
+      layer = λ s l fits. fits_as s _ l _ (ap (λ (a : LayerAnswer). a.next) (none s l))
+          (layer_same s c.args.self.now _ l (record { role = refl; long_data = refl; ranges = refl; restarting = refl; restarts = refl }) refl fits);
       put = λ s l fits. c.clear.ensures ∙ ap (λ (a : LayerAnswer). spelled a.owed) (none s l);
       told = λ s l fits. ap (λ (a : LayerAnswer). a.notices) (none s l);
       nothing = search rules;
@@ -46,13 +48,18 @@ hear_on-requires-clause-kind c =
       | in_default-read-via-in-Ok+in_default w ↦ search rules
       | in_default-read-via-in_default w ↦ search rules
     ] in
-    of_channel c.taking_keeps_octets.ensures.memory c.args.wide c.longest_user.result c.args.octets.now c.read-read.result (All-from_get_or (λ octet. octet < 256) c.args.octets.now 0 (λ i low. omega (arith, c.type_inv.octets i))) c.read-read.ensures has
+    of_channel c.taking_keeps_octets.ensures.memory c.args.wide c.longest_user.result c.args.octets.now c.read-read.result
+    (All-from_get_or (λ octet. octet < 256) c.args.octets.now 0 (λ i low. omega (arith, c.type_inv.octets i))) c.read-read.ensures has
 
-same : (c : goal.After-hear_on) (s : LayerSettings) (l : Layer) → FitsLayer s c.args.self.now l → hears_on s l l.restarting c.in-Some.channel (plain_read c.read-read.result) ≡ layer_hears s c.args.wide l c.args.octets.now
+same : (c : goal.After-hear_on) (s : LayerSettings) (l : Layer) → FitsLayer s c.args.self.now l
+    → hears_on s l l.restarting c.in-Some.channel (plain_read c.read-read.result) ≡ layer_hears s c.args.wide l c.args.octets.now
 same c s l fits =
-    sym (hears_read c.taking_keeps_octets.ensures.channel c.args.wide c.longest_user.result s l c.args.octets.now c.in-Some.channel c.read-read.result (bytes c) c.read-read.ensures (of c) (sym c.channel.ensures ∙ c.in-Some.is))
+    sym (hears_read c.taking_keeps_octets.ensures.channel c.args.wide c.longest_user.result s l c.args.octets.now c.in-Some.channel c.read-read.result
+    (bytes c) c.read-read.ensures (of c) (sym c.channel.ensures ∙ c.in-Some.is))
     ∙ ap (λ (most : ℕ). answer_to s l c.args.octets.now (read_in c.args.wide most c.args.octets.now)) c.longest_user.ensures.value
     ∙ ap (λ (b : Bool). answer_to s l c.args.octets.now (read_in c.args.wide (longest_user b) c.args.octets.now)) fits.long_data
 
 pub returns-in_default-read : goal.returns-in_default-read
-returns-in_default-read c = heard_from c.args.self.now _ c.hear_on.new.self c.hear_on.result _ _ _ (λ s l fits. layer_same s c.args.self.now _ l (record { role = refl; long_data = refl; ranges = refl; restarting = refl; restarts = refl }) refl fits) (λ s l fits. same c s l fits) c.hear_on.ensures
+returns-in_default-read c = heard_from c.args.self.now _ c.hear_on.new.self c.hear_on.result
+    _ _ _ (λ s l fits. layer_same s c.args.self.now _ l (record { role = refl; long_data = refl; ranges = refl; restarting = refl; restarts = refl }) refl
+    fits) (λ s l fits. same c s l fits) c.hear_on.ensures

@@ -15,8 +15,11 @@ returns c = record {
   does = record {
     gives = λ s l fits.
         let at_l : l.restarting ≡ false = sym fits.restarting ∙ c.in_default.ensures.ready in
-        let given : may_restart_for s.circuit.role c.args.cause ≡ true = subst (λ (r : Role). may_restart_for r c.args.cause ≡ true) fits.role (sym c.may_restart_for.ensures ∙ c.if-not-may_restart_for.false) in
-        subst (λ (o : LayerOutcome). Gives s c.send_restart.new.self (Ok tt) o) (sym (restart_goes s c.args.link.is_up c.args.link.is_full l c.args.cause c.args.diagnostic true c.in_default.ensures.up at_l c.if-link.false given))
+        let given : may_restart_for s.circuit.role c.args.cause ≡ true =
+        subst (λ (r : Role). may_restart_for r c.args.cause ≡ true) fits.role (sym c.may_restart_for.ensures ∙ c.if-not-may_restart_for.false) in
+        subst (λ (o : LayerOutcome). Gives s c.send_restart.new.self (Ok tt) o)
+        (sym (restart_goes s c.args.link.is_up c.args.link.is_full l c.args.cause c.args.diagnostic true c.in_default.ensures.up at_l c.if-link.false
+        given))
         (c.send_restart.ensures.layer s l fits, c.send_restart.ensures.put);
     stays = search rules;
     short = subst (λ (octets : List ℕ). length octets ≤ 260) (sym c.send_restart.ensures.put) (omega arith);

@@ -9,4 +9,5 @@ returns-in-Some-clause-value c = λ s l fits.
     let room : ℕ = message_room (l.circuits h) in
     let is : is_channel s.channels h ≡ true = subst (λ (n : ℕ). is_number n h ≡ true) fits.channels c.in-Some.ensures.some in
     c.room.ensures.value s.circuit (l.circuits h) (c.in-Some.ensures.fits s l fits)
-    ∙ sym (ap (λ (b : Bool). if b then 0 else (if is_channel s.channels h then room else 0)) (sym fits.restarting ∙ c.if-self.false) ∙ ap (λ (b : Bool). if b then room else 0) is)
+    ∙ sym (ap (λ (b : Bool). if b then 0 else (if is_channel s.channels h then room else 0)) (sym fits.restarting ∙ c.if-self.false)
+    ∙ ap (λ (b : Bool). if b then room else 0) is)

@@ -20,14 +20,16 @@ returns-clause-layer c = λ s l fits. record {
 
 pub returns-clause-put : goal.returns-clause-put
 returns-clause-put c = λ s l fits.
-    let cause : c.restart_cause.result ≡ restart_cause s.circuit.role = subst (λ r. c.restart_cause.result ≡ restart_cause r) fits.role c.restart_cause.ensures in
+    let cause : c.restart_cause.result ≡ restart_cause s.circuit.role =
+    subst (λ r. c.restart_cause.result ≡ restart_cause r) fits.role c.restart_cause.ensures in
     c.spell.ensures.put ∙ ap (λ (n : ℕ). spelling_of (restart n 0)) cause
 
 pub returns-clause-short : goal.returns-clause-short
 returns-clause-short c = subst (λ (octets : List ℕ). length octets ≤ 260) (sym c.spell.ensures.put) (omega arith)
 
 pub invariant_of-self-clause-still : goal.invariant_of-self-clause-still
-invariant_of-self-clause-still c = subst (λ (vs : List circuit_code.Circuit). IdleBeside c.note_all.new.self.channels.items vs) c.deref.ensures.value c.note_all.ensures.idle
+invariant_of-self-clause-still c = subst (λ (vs : List circuit_code.Circuit). IdleBeside c.note_all.new.self.channels.items vs) c.deref.ensures.value
+    c.note_all.ensures.idle
 
 pub invariant_of-self-clause-places : goal.invariant_of-self-clause-places
 invariant_of-self-clause-places c = c.note_all.ensures.places ∙ c.args.self.now.places ∙ sym c.begin_all.ensures.count

@@ -31,4 +31,5 @@ returns-in-Interrupt-clause-short c =
 
 pub returns-in-Owed-clause-short : goal.returns-in-Owed-clause-short
 returns-in-Owed-clause-short c =
-    subst (λ (octets : List ℕ). length octets ≤ 260) (sym c.spell-in-Owed.ensures.put) (spelled_short (plain c.packet.result) c.packet.ensures.range c.packet.ensures.control)
+    subst (λ (octets : List ℕ). length octets ≤ 260) (sym c.spell-in-Owed.ensures.put)
+    (spelled_short (plain c.packet.result) c.packet.ensures.range c.packet.ensures.control)

@@ -7,4 +7,5 @@ invariant_of-self-clause-short c =
 
 pub invariant_of-self-clause-long : goal.invariant_of-self-clause-long
 invariant_of-self-clause-long c =
-    more_long _ _ _ _ _ c.args.self.now.queue _ _ _ c.push.ensures c.take-packet.ensures.packet c.take-packet.ensures.long c.take-packet.ensures.long_ones c.args.self.now.long
+    more_long _ _ _ _ _ c.args.self.now.queue _ _ _ c.push.ensures c.take-packet.ensures.packet c.take-packet.ensures.long c.take-packet.ensures.long_ones
+    c.args.self.now.long

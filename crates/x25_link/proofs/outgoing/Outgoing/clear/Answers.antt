@@ -10,21 +10,24 @@ use Rattle.x25_link.proofs.outgoing.Outgoing.clear.Goals as goal
 pub give-requires-clause-short : goal.give-requires-clause-short
 give-requires-clause-short c =
     let loop = c.loop-packet.self in
-    let short : loop.places.short.left + (length loop.queue + length loop.sender.items) ≡ 263 + (longs loop.queue + longs loop.sender.items) = omega (arith, loop.short) in
+    let short : loop.places.short.left + (length loop.queue + length loop.sender.items) ≡ 263 + (longs loop.queue + longs loop.sender.items) =
+    omega (arith, loop.short) in
     let long : loop.places.long.left + (longs loop.queue + longs loop.sender.items) ≡ loop.places.long.all = omega (arith, loop.long) in
     (goes _ _ _ _ _ loop.queue _ _ c.in-Some.ensures (longs_few loop.sender.items) short long).0
 
 pub give-requires-clause-long : goal.give-requires-clause-long
 give-requires-clause-long c =
     let loop = c.loop-packet.self in
-    let short : loop.places.short.left + (length loop.queue + length loop.sender.items) ≡ 263 + (longs loop.queue + longs loop.sender.items) = omega (arith, loop.short) in
+    let short : loop.places.short.left + (length loop.queue + length loop.sender.items) ≡ 263 + (longs loop.queue + longs loop.sender.items) =
+    omega (arith, loop.short) in
     let long : loop.places.long.left + (longs loop.queue + longs loop.sender.items) ≡ loop.places.long.all = omega (arith, loop.long) in
     (goes _ _ _ _ _ loop.queue _ _ c.in-Some.ensures (longs_few loop.sender.items) short long).1
 
 pub invariant_of-self-clause-short : goal.invariant_of-self-clause-short
 invariant_of-self-clause-short c =
     let loop = c.loop-packet.self in
-    let short : loop.places.short.left + (length loop.queue + length loop.sender.items) ≡ 263 + (longs loop.queue + longs loop.sender.items) = omega (arith, loop.short) in
+    let short : loop.places.short.left + (length loop.queue + length loop.sender.items) ≡ 263 + (longs loop.queue + longs loop.sender.items) =
+    omega (arith, loop.short) in
     let less = less_short _ _ _ _ loop.queue _ _ c.in-Some.ensures c.give.ensures.short short in
     omega (arith, less)
 
@@ -41,7 +44,8 @@ returns c = record {
       let none = nothing_left c.loop-packet.self.queue (omega (arith, c.loop-packet.invariant.left, c.loop-packet-test.false, c.len-waiting.ensures.value)) in
       record {
         sender = subst (λ (n : ℕ). Fits c.clear.new.self (fresh n))
-            (ap (λ (h : Held (List ℕ)). h.window) c.loop-packet.invariant.sender ∙ (c.release.ensures.sender (sending_of k o) fits.sender).window) c.clear.ensures.held;
+            (ap (λ (h : Held (List ℕ)). h.window) c.loop-packet.invariant.sender ∙ (c.release.ensures.sender (sending_of k o) fits.sender).window)
+            c.clear.ensures.held;
         queue = none;
         sent = omega arith;
         few = omega (arith, ap length none);

@@ -38,4 +38,5 @@ pub invariant_of-self-clause-long : goal.invariant_of-self-clause-long
 invariant_of-self-clause-long c =
     let loop = c.loop-packet.self in
     rw (ap (λ (h : Held (List ℕ)). h.items) c.release-packet.ensures.held)
-    (less_long _ _ _ _ _ loop.sender.items _ _ (first_of loop.sender.items _ c.release-packet.ensures.item) c.give.ensures.long c.give.ensures.long_ones loop.long)
+    (less_long _ _ _ _ _ loop.sender.items _ _ (first_of loop.sender.items _ c.release-packet.ensures.item) c.give.ensures.long c.give.ensures.long_ones
+    loop.long)

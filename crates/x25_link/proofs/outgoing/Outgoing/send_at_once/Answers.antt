@@ -17,7 +17,12 @@ returns-then-is_full-clause-sent c = λ k o fits shut.
 pub returns-then-is_full-clause-step : goal.returns-then-is_full-clause-step
 returns-then-is_full-clause-step c = λ k o fits shut.
     let more = added_fits k _ _ o c.args.packet.now _ c.take-packet.ensures.packet (parts k _ o fits) c.requires.few in
-    record { sender = more.sender; queue = c.push.ensures ∙ more.queue; sent = more.sent; few = subst (λ (m : List (List ℕ)). length m ≤ 256) (sym c.push.ensures) more.few }
+    record {
+      sender = more.sender;
+      queue = c.push.ensures ∙ more.queue;
+      sent = more.sent;
+      few = subst (λ (m : List (List ℕ)). length m ≤ 256) (sym c.push.ensures) more.few;
+    }
 
 pub returns-clause-sent : goal.returns-clause-sent
 returns-clause-sent c = λ k o fits shut.
@@ -35,7 +40,8 @@ returns-clause-step c = λ k o fits shut.
     let next = next_is k _ _ (added c.args.packet.now o) c.take-packet.result [] more (ap (λ (m : List (List ℕ)). m ++ c.take-packet.result ∷ []) left.none) in
     let l = sent_length k _ o fits in
     let room = part_length k _ _ (added c.args.packet.now o) more in
-    let all = new_fits k _ _ _ (added c.args.packet.now o) _ _ more left.place next (omega arith) (c.send_new.ensures.step (sending_of k (added c.args.packet.now o)) more.sender (omega (arith, l, room, free))) in
+    let all = new_fits k _ _ _ (added c.args.packet.now o) _ _ more left.place next (omega arith)
+    (c.send_new.ensures.step (sending_of k (added c.args.packet.now o)) more.sender (omega (arith, l, room, free))) in
     record { sender = all.sender; queue = left.none ∙ all.queue; sent = all.sent; few = fits.few }
 
 pub returns-clause-made : goal.returns-clause-made
@@ -53,12 +59,15 @@ invariant_of-self-clause-short c =
 
 pub invariant_of-self-clause-long : goal.invariant_of-self-clause-long
 invariant_of-self-clause-long c =
-    more_long _ _ _ _ _ c.args.self.now.queue _ _ _ c.push.ensures c.take-packet.ensures.packet c.take-packet.ensures.long c.take-packet.ensures.long_ones c.args.self.now.long
+    more_long _ _ _ _ _ c.args.self.now.queue _ _ _ c.push.ensures c.take-packet.ensures.packet c.take-packet.ensures.long c.take-packet.ensures.long_ones
+    c.args.self.now.long
 
 pub invariant_of-self-2-clause-short : goal.invariant_of-self-2-clause-short
 invariant_of-self-2-clause-short c =
-    sent_short _ _ _ _ c.args.self.now.sender.items _ _ _ (ap (λ (h : Held (List ℕ)). h.items) c.send_new.ensures.held) c.take-packet.ensures.packet c.take-packet.ensures.short c.args.self.now.short
+    sent_short _ _ _ _ c.args.self.now.sender.items _ _ _ (ap (λ (h : Held (List ℕ)). h.items) c.send_new.ensures.held) c.take-packet.ensures.packet
+    c.take-packet.ensures.short c.args.self.now.short
 
 pub invariant_of-self-2-clause-long : goal.invariant_of-self-2-clause-long
 invariant_of-self-2-clause-long c =
-    sent_long _ _ _ _ _ c.args.self.now.sender.items _ _ _ (ap (λ (h : Held (List ℕ)). h.items) c.send_new.ensures.held) c.take-packet.ensures.packet c.take-packet.ensures.long c.take-packet.ensures.long_ones c.args.self.now.long
+    sent_long _ _ _ _ _ c.args.self.now.sender.items _ _ _ (ap (λ (h : Held (List ℕ)). h.items) c.send_new.ensures.held) c.take-packet.ensures.packet
+    c.take-packet.ensures.long c.take-packet.ensures.long_ones c.args.self.now.long

@@ -3,7 +3,8 @@ use Rattle.x25_frame.specs.Frame.{PlainFrame, info}
 use Rattle.x25_frame.specs.Spelling.{spelling_of}
 use Rattle.x25_link.specs.Outgoing.{next_packet}
 use Rattle.x25_link.specs.code.OutgoingHeld.{sending_of}
-use Rattle.x25_link.proofs.OutgoingLemmas.{parts, whole, again_is, again_fits, all_sent, same_fits, empty_waits, next_is, new_fits, sent_length, new_frame, next_open, below_of}
+use Rattle.x25_link.proofs.OutgoingLemmas.{parts, whole, again_is, again_fits, all_sent, same_fits, empty_waits, next_is, new_fits, sent_length, new_frame}
+use Rattle.x25_link.proofs.OutgoingLemmas.{next_open, below_of}
 use Rattle.x25_link.proofs.EndLemmas.{none_open, full_closed}
 use Rattle.x25_window.specs.code.Held.{Held}
 use Rattle.x25_link.proofs.PlaceLemmas.{moves}
@@ -46,7 +47,12 @@ returns-in_default-clause-sent c = λ k o fits.
 pub returns-in_default-clause-step : goal.returns-in_default-clause-step
 returns-in_default-clause-step c = λ k o fits.
     let same = same_fits k _ _ _ o (parts k _ o fits) (c.if-send_again.ensures.step (sending_of k o) fits.sender) in
-    record { sender = same.sender; queue = c.in_default.ensures.1 ∙ sym c.in_default.ensures.0 ∙ fits.queue; sent = fits.sent; few = rw (c.in_default.ensures.1) (omega arith) }
+    record {
+      sender = same.sender;
+      queue = c.in_default.ensures.1 ∙ sym c.in_default.ensures.0 ∙ fits.queue;
+      sent = fits.sent;
+      few = rw (c.in_default.ensures.1) (omega arith);
+    }
 
 pub returns-in_default-clause-made : goal.returns-in_default-clause-made
 returns-in_default-clause-made c = λ k o fits. c.if-send_again.ensures.made (sending_of k o) fits.sender
@@ -66,7 +72,8 @@ returns-clause-step c = λ k o fits.
     let all = all_sent k _ _ o (parts k _ o fits) (c.if-send_again.ensures.sent (sending_of k o) fits.sender) in
     let next = next_is k _ _ o _ _ (parts k _ o fits) c.in-Some.ensures in
     let room = below_of _ _ sender.sound.room (λ e. sym c.if-is_closed.false ∙ (c.is_full-is_closed.ensures.state (sending_of k o) fits.sender).1 e) in
-    whole k _ _ (new_fits k _ _ _ o _ _ (parts k _ o fits) all next (omega (arith, fits.few, ap length c.in-Some.ensures)) (c.send_new.ensures.step (sending_of k o) sender room))
+    whole k _ _ (new_fits k _ _ _ o _ _ (parts k _ o fits) all next (omega (arith, fits.few, ap length c.in-Some.ensures))
+    (c.send_new.ensures.step (sending_of k o) sender room))
 
 pub returns-clause-made : goal.returns-clause-made
 returns-clause-made c = λ k o fits.

@@ -17,7 +17,8 @@ returns-clause-step c = λ d before t fits.
     let near = fits.near in
     let more : nat_lt t.near.tries d.retries ≡ true = lt-ltb _ _ (omega arith) in
     rw more (record {
-      side = c.ask_again.ensures.step d before (with_near t (record t.near { tries = t.near.tries + 1 })) (record { near = tries_fits d _ t.near _ _ (ap (λ n. n + 1) near.tries) near; out = fits.out });
+      side = c.ask_again.ensures.step d before (with_near t (record t.near { tries = t.near.tries + 1 }))
+          (record { near = tries_fits d _ t.near _ _ (ap (λ n. n + 1) near.tries) near; out = fits.out });
       packet = rw c.quiet.ensures.packet refl;
       notes = c.quiet.ensures.notes;
       acknowledged = c.quiet.ensures.acknowledged ∙ rw more at (none_fired d t);

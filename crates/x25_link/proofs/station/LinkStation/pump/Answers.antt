@@ -11,7 +11,8 @@ loop-frame-init c = record { step = λ d before t fits. fits; few = omega arith 
 
 pub loop-frame-preserved : goal.loop-frame-preserved
 loop-frame-preserved c = record {
-  step = λ d before t fits. rw pumped_more (c.pump_once.ensures.step d before (pumped c.loop-frame._frame d.window t) (c.loop-frame.invariant.step d before t fits));
+  step = λ d before t fits. rw pumped_more
+      (c.pump_once.ensures.step d before (pumped c.loop-frame._frame d.window t) (c.loop-frame.invariant.step d before t fits));
   few = omega (arith, c.pump_once.ensures.one, c.loop-frame.invariant.few);
 }
 
@@ -32,4 +33,5 @@ returns-then-not-pump_once-clause-step c = λ d before t fits.
     let now = c.loop-frame.invariant.step d before t fits in
     let none = sym (c.if-not-pump_once.ensures.sent d (pumped i k t).near now.near) in
     let all = ap (λ (n : ℕ). pumped n k t) seven ∙ pumped_settled (7 - i) i k t none in
-    subst (λ (u : Side). FitsSide d c.pump_once.new.self before c.pump_once.new.out u) (once_none k (pumped i k t) none ∙ sym all) (c.if-not-pump_once.ensures.step d before (pumped i k t) now)
+    subst (λ (u : Side). FitsSide d c.pump_once.new.self before c.pump_once.new.out u) (once_none k (pumped i k t) none ∙ sym all)
+    (c.if-not-pump_once.ensures.step d before (pumped i k t) now)

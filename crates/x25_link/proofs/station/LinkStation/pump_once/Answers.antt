@@ -9,9 +9,11 @@ returns-clause-step c = λ d before t fits.
     let o = t.near.outgoing in
     let outgoing = fits.near.outgoing in
     pump_fits d _ _ before _ _ t _ c.send_next.result fits c.if-self.false c.if-self-2.false (sym c.if-not-is_up.ensures)
-    (c.wanted-nr.ensures.state _ fits.near.taken) (c.send_next.ensures.sent k o outgoing) (c.send_next.ensures.step k o outgoing) (c.send_next.ensures.made k o outgoing)
+    (c.wanted-nr.ensures.state _ fits.near.taken) (c.send_next.ensures.sent k o outgoing) (c.send_next.ensures.step k o outgoing)
+    (c.send_next.ensures.made k o outgoing)
 
 pub returns-clause-sent : goal.returns-clause-sent
 returns-clause-sent c = λ d s fits.
     c.send_next.ensures.sent d.window s.outgoing fits.outgoing
-    ∙ sym (may_send_is d.window s (sym fits.recovery ∙ c.if-self.false) (sym fits.peer_busy ∙ c.if-self-2.false) (sym (ap is_up fits.phase) ∙ sym c.if-not-is_up.ensures))
+    ∙ sym (may_send_is d.window s (sym fits.recovery ∙ c.if-self.false) (sym fits.peer_busy ∙ c.if-self-2.false)
+    (sym (ap is_up fits.phase) ∙ sym c.if-not-is_up.ensures))

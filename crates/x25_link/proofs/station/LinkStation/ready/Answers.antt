@@ -9,7 +9,8 @@ pub returns-then-is_busy-clause-step : goal.returns-then-is_busy-clause-step
 returns-then-is_busy-clause-step c = λ d before t fits.
     let busy = c.if-is_busy.ensures d t.near fits.near in
     let number = c.wanted-nr.ensures.state _ fits.near.taken in
-    let sent = c.send.ensures.step d before (with_near t (record t.near { said_busy = true })) (record { near = said d _ t.near true fits.near; out = fits.out }) in
+    let sent = c.send.ensures.step d before (with_near t (record t.near { said_busy = true }))
+    (record { near = said d _ t.near true fits.near; out = fits.out }) in
     rw (sym busy) (rw number at sent)
 
 pub returns-else-is_busy-clause-step : goal.returns-else-is_busy-clause-step

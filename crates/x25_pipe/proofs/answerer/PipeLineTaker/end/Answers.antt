@@ -17,6 +17,7 @@ returns-in_err-flush-clause-all g c = λ k old input l.
 pub returns-clause-all : goal.returns-clause-all
 returns-clause-all g c = λ k old input l.
     let whole = piped k input in
-    let done = whole_told k old _ c.flush.new.self whole (left_written k old _ _ whole c.args.self.now c.flush.new.self (turns k []) l (c.in_ok-flush.ensures.stands k old l.at l.text l.status l.stands))
+    let done = whole_told k old _ c.flush.new.self whole
+    (left_written k old _ _ whole c.args.self.now c.flush.new.self (turns k []) l (c.in_ok-flush.ensures.stands k old l.at l.text l.status l.stands))
     c.in_ok-flush.ensures.written in
     (done.0, c.from.ensures ∙ ap bool_byte (c.is_refused.ensures ∙ done.1) ∙ byte_is _)

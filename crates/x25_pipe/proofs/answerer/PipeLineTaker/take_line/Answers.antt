@@ -13,6 +13,7 @@ returns-in_err-answer-clause-on g c = λ k old first lines input line l.
 pub returns-clause-on : goal.returns-clause-on
 returns-clause-on g c = λ k old first lines input line l.
     MatchResult-weaker c.mark.result
-    (marks_behind k old _ _ l.text l.status first l.at c.answer.new.self c.mark.new.self c.mark.result (c.in_ok-answer.ensures.acts k old first line l.at l.text l.status l.stands) (c.mark.ensures.turns k old))
+    (marks_behind k old _ _ l.text l.status first l.at c.answer.new.self c.mark.new.self c.mark.result
+    (c.in_ok-answer.ensures.acts k old first line l.at l.text l.status l.stands) (c.mark.ensures.turns k old))
     (λ _ done. line_done k old _ _ (piped k input) c.args.self.now c.mark.new.self first lines l done)
     (λ _ begins. line_failed k old _ _ (piped k input) c.args.self.now first lines l begins)

@@ -16,5 +16,6 @@ returns-in-Some-clause-acts g c = λ k old text line.
 pub returns-in-None-clause-acts : goal.returns-in-None-clause-acts
 returns-in-None-clause-acts g c = λ k old text line s told refused h.
     let long = subst (λ o. MatchOption o (most_line < length text) (λ held. (held.now ≡ text) × (length text ≤ most_line))) c.in-None.is line in
-    subst (λ event. Acted k old (g.W.Sink.contents c.read_nothing.new.writer) c.read_nothing.new.self told refused c.read_nothing.result (asked_act k s event)) (sym (event_long k.wide k.role text long))
+    subst (λ event. Acted k old (g.W.Sink.contents c.read_nothing.new.writer) c.read_nothing.new.self told refused c.read_nothing.result (asked_act k s event))
+    (sym (event_long k.wide k.role text long))
     (c.read_nothing.ensures.acts k old s told refused h)

@@ -28,7 +28,8 @@ returns-clause-acted g c = λ k old s event o told refused is timed come role te
     (λ _ t. record {
       stands = stands_told k old now q both pulls told refused here (c.tell_answer.ensures.role ∙ role)
           (subst (λ end. Tells old now q.output (told ++ sayings_text end (answer_told both))) role t) (c.tell_answer.ensures.is_refused ∙ status);
-      timer = ap (λ (x : code_step.Step). x.timer) c.tell_answer.ensures.step ∙ pulled_timer_is k v u step both s event (Did plain) h (c.pull.ensures.timer c.requires k) timed;
+      timer = ap (λ (x : code_step.Step). x.timer) c.tell_answer.ensures.step
+          ∙ pulled_timer_is k v u step both s event (Did plain) h (c.pull.ensures.timer c.requires k) timed;
       entries = ap (λ (x : code_step.Step). map plain_entry x.entries.items) c.tell_answer.ensures.step ∙ here.enters;
       has_come = c.tell_answer.ensures.has_come ∙ come;
     })

@@ -17,4 +17,5 @@ returns-clause-turns g c = λ k old s told refused h.
     let timer = c.args.self.now.step.timer in
     let same = ap₂ (λ a b. saying_line k.role (marks timer a b)) (c.idle-is_idle.ensures k s h.fits) (c.awaits_answers-is_due.ensures k s h.fits) in
     c.flush.ensures.stands k old s _ _
-    (stands_marked k old _ _ s told _ refused (marks timer (is_idle k s) (awaits_answers k s)) refl same h.fits h.role h.status (c.in_ok-tell_mark.ensures.tells k.role old told h.tells))
+    (stands_marked k old _ _ s told _ refused (marks timer (is_idle k s) (awaits_answers k s)) refl same h.fits h.role h.status
+    (c.in_ok-tell_mark.ensures.tells k.role old told h.tells))

@@ -23,7 +23,8 @@ returns-then-is_same g c = (
       subst (λ b. Acted k old (g.W.Sink.contents c.ask.new.writer) c.ask.new.self told refused c.ask.result
       (asked_act k s (option_and_then (script_event c.args.self.now.end) (if b then Some (command c.args.end (plain_command c.args.asked)) else None))))
       (sym (sym (c.takes.ensures k s h.fits) ∙ c.if-not-takes.false))
-      (subst (λ b. Acted k old (g.W.Sink.contents c.ask.new.writer) c.ask.new.self told refused c.ask.result (asked_act k s (if b then Some (Asks (command_asked (plain_command c.args.asked))) else None))) (sym (sym c.is_same.ensures ∙ c.if-is_same.true))
+      (subst (λ b. Acted k old (g.W.Sink.contents c.ask.new.writer) c.ask.new.self told refused c.ask.result
+      (asked_act k s (if b then Some (Asks (command_asked (plain_command c.args.asked))) else None))) (sym (sym c.is_same.ensures ∙ c.if-is_same.true))
       (c.ask.ensures.acts k old s told refused h))),
   c.ask.ensures.faults,
 )
@@ -34,7 +35,8 @@ returns g c = (
       subst (λ b. Acted k old (g.W.Sink.contents c.read_nothing-2.new.writer) c.read_nothing-2.new.self told refused c.read_nothing-2.result
       (asked_act k s (option_and_then (script_event c.args.self.now.end) (if b then Some (command c.args.end (plain_command c.args.asked)) else None))))
       (sym (sym (c.takes.ensures k s h.fits) ∙ c.if-not-takes.false))
-      (subst (λ b. Acted k old (g.W.Sink.contents c.read_nothing-2.new.writer) c.read_nothing-2.new.self told refused c.read_nothing-2.result (asked_act k s (if b then Some (Asks (command_asked (plain_command c.args.asked))) else None))) (sym (sym c.is_same.ensures ∙ c.if-is_same.false))
+      (subst (λ b. Acted k old (g.W.Sink.contents c.read_nothing-2.new.writer) c.read_nothing-2.new.self told refused c.read_nothing-2.result
+      (asked_act k s (if b then Some (Asks (command_asked (plain_command c.args.asked))) else None))) (sym (sym c.is_same.ensures ∙ c.if-is_same.false))
       (c.read_nothing-2.ensures.acts k old s told refused h))),
   c.read_nothing-2.ensures.faults,
 )

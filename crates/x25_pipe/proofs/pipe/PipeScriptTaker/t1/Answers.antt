@@ -7,7 +7,8 @@ use Rattle.x25_pipe.proofs.pipe.PipeScriptTaker.t1.Goals as goal
 pub returns-then-is_same : goal.returns-then-is_same
 returns-then-is_same g c = (
   (λ k old s told refused h.
-      subst (λ b. Acted k old (g.W.Sink.contents c.fire.new.writer) c.fire.new.self told refused c.fire.result (asked_act k s (if b then Some (Fires) else None))) (sym (sym c.is_same.ensures ∙ c.if-is_same.true))
+      subst (λ b. Acted k old (g.W.Sink.contents c.fire.new.writer) c.fire.new.self told refused c.fire.result
+      (asked_act k s (if b then Some (Fires) else None))) (sym (sym c.is_same.ensures ∙ c.if-is_same.true))
       (c.fire.ensures.acts k old s told refused h)),
   c.fire.ensures.faults,
 )
@@ -15,7 +16,8 @@ returns-then-is_same g c = (
 pub returns : goal.returns
 returns g c = (
   (λ k old s told refused h.
-      subst (λ b. Acted k old (g.W.Sink.contents c.read_nothing.new.writer) c.read_nothing.new.self told refused c.read_nothing.result (asked_act k s (if b then Some (Fires) else None))) (sym (sym c.is_same.ensures ∙ c.if-is_same.false))
+      subst (λ b. Acted k old (g.W.Sink.contents c.read_nothing.new.writer) c.read_nothing.new.self told refused c.read_nothing.result
+      (asked_act k s (if b then Some (Fires) else None))) (sym (sym c.is_same.ensures ∙ c.if-is_same.false))
       (c.read_nothing.ensures.acts k old s told refused h)),
   c.read_nothing.ensures.faults,
 )

@@ -7,7 +7,11 @@ use Rattle.x25_pipe.proofs.TimedLemmas.{all_left, due_alike, no_turn_left, none_
 use Rattle.x25_pipe.proofs.timed.TimedPipe.ask_due.Goals as goal
 
 pub loop-left-init : goal.loop-left-init
-loop-left-init g c = (refl, λ k times old w told refused h. all_left k times old _ _ w told refused _ (most_due w.deadlines) (c.most_due-left.ensures ∙ ap most_due h.deadlines) h)
+loop-left-init g c = (
+  refl,
+  λ k times old w told refused h. all_left k times old _ _ w told refused _ (most_due w.deadlines)
+      (c.most_due-left.ensures ∙ ap most_due h.deadlines) h,
+)
 
 pub returns-in_default-clause-turns : goal.returns-in_default-clause-turns
 returns-in_default-clause-turns g c = λ k times old w told refused h.
@@ -17,7 +21,12 @@ returns-in_default-clause-turns g c = λ k times old w told refused h.
     let none = due_alike _ l.at.now _ l.at.deadlines None c.in_default.ensures.due is.time is.deadlines in
     none_left k times old _ _ c.loop-left.self _ told refused (due_turns k times (most_due w.deadlines) w) (due_turns k times left) l (told_due times l.at)
     (nothing_is_due k times left l.at (omega (arith, c.loop-left-test.true)) none)
-    (record { pipe = is.pipe; deadlines = told_alike times _ _ _ _ l.at c.in_default.ensures.after is.timers is.time is.deadlines; timers = c.in_default.ensures.times ∙ is.timers; time = is.time })
+    (record {
+      pipe = is.pipe;
+      deadlines = told_alike times _ _ _ _ l.at c.in_default.ensures.after is.timers is.time is.deadlines;
+      timers = c.in_default.ensures.times ∙ is.timers;
+      time = is.time;
+    })
 
 pub returns-in_err-insist-clause-turns : goal.returns-in_err-insist-clause-turns
 returns-in_err-insist-clause-turns g c = λ k times old w told refused h.
@@ -27,10 +36,16 @@ returns-in_err-insist-clause-turns g c = λ k times old w told refused h.
     let left = c.loop-left.left in
     let due = c.in-Some.due in
     let some = due_alike _ l.at.now _ l.at.deadlines (Some due) c.in-Some.ensures.due is.time is.deadlines in
-    rw p.1 (part_failed k times old _ _ c.loop-left.self c.loop-left.self told refused (due_turns k times (most_due w.deadlines) w) (due_turns k times left) (due_turns k times (left - 1)) (insist_turn k times due (told_due times l.at)) l
+    rw p.1 (part_failed k times old _ _ c.loop-left.self c.loop-left.self told refused (due_turns k times (most_due w.deadlines) w) (due_turns k times left)
+    (due_turns k times (left - 1)) (insist_turn k times due (told_due times l.at)) l
     (something_is_due k times left (left - 1) l.at due (omega (arith, c.loop-left-test.true)) some)
     (c.in_err-insist.ensures.turns k times old (told_due times l.at) l.text l.status
-    (record { pipe = is.pipe; deadlines = told_alike times _ _ _ _ l.at c.in-Some.ensures.after is.timers is.time is.deadlines; timers = c.in-Some.ensures.times ∙ is.timers; time = is.time })))
+    (record {
+      pipe = is.pipe;
+      deadlines = told_alike times _ _ _ _ l.at c.in-Some.ensures.after is.timers is.time is.deadlines;
+      timers = c.in-Some.ensures.times ∙ is.timers;
+      time = is.time;
+    })))
 
 pub loop-left-preserved : goal.loop-left-preserved
 loop-left-preserved g c = (
@@ -41,10 +56,16 @@ loop-left-preserved g c = (
       let left = c.loop-left.left in
       let due = c.in-Some.due in
       let some = due_alike _ l.at.now _ l.at.deadlines (Some due) c.in-Some.ensures.due is.time is.deadlines in
-      part_done k times old _ _ c.loop-left.self c.insist.new.self told refused (due_turns k times (most_due w.deadlines) w) (due_turns k times left) (due_turns k times (left - 1)) (insist_turn k times due (told_due times l.at)) l
+      part_done k times old _ _ c.loop-left.self c.insist.new.self told refused (due_turns k times (most_due w.deadlines) w) (due_turns k times left)
+      (due_turns k times (left - 1)) (insist_turn k times due (told_due times l.at)) l
       (something_is_due k times left (left - 1) l.at due (omega (arith, c.loop-left-test.true)) some)
       (c.in_ok-insist.ensures.turns k times old (told_due times l.at) l.text l.status
-      (record { pipe = is.pipe; deadlines = told_alike times _ _ _ _ l.at c.in-Some.ensures.after is.timers is.time is.deadlines; timers = c.in-Some.ensures.times ∙ is.timers; time = is.time })),
+      (record {
+        pipe = is.pipe;
+        deadlines = told_alike times _ _ _ _ l.at c.in-Some.ensures.after is.timers is.time is.deadlines;
+        timers = c.in-Some.ensures.times ∙ is.timers;
+        time = is.time;
+      })),
 )
 
 pub returns-clause-turns : goal.returns-clause-turns

@@ -27,7 +27,8 @@ returns-clause-turns g c = λ k times old w told refused h.
     (record {
       fits = h.pipe.fits;
       role = h.pipe.role;
-      tells = subst (λ t. Tells old (g.W.Sink.contents c.tell_next.new.writer) c.tell_next.new.output (told ++ t)) line (c.in_ok-tell_next.ensures.tells old told h.pipe.tells);
+      tells = subst (λ t. Tells old (g.W.Sink.contents c.tell_next.new.writer) c.tell_next.new.output (told ++ t)) line
+          (c.in_ok-tell_next.ensures.tells old told h.pipe.tells);
       status = h.pipe.status ∙ sym (or-false refused);
     }))
     (λ _ stands. record { pipe = stands; deadlines = h.deadlines; timers = h.timers; time = h.time })

@@ -20,4 +20,5 @@ returns-clause-turns g c = λ k times old line w told refused h.
     let test : nat_lt now w.now ≡ false = le-ltb now w.now (subst (λ n. n ≤ now) h.time c.if-now-self.false) in
     subst (λ b. StoodTimed k times old (g.W.Sink.contents c.ask_due.new.writer) c.ask_due.new.self told refused c.ask_due.result
     (if b then act_turn k times w (nothing_act w.station) else due_turns k times (most_due w.deadlines) (record w { now = now }))) (sym test)
-    (c.ask_due.ensures.turns k times old (record w { now = now }) told refused (record { pipe = h.pipe; deadlines = h.deadlines; timers = h.timers; time = refl }))
+    (c.ask_due.ensures.turns k times old (record w { now = now }) told refused
+    (record { pipe = h.pipe; deadlines = h.deadlines; timers = h.timers; time = refl }))

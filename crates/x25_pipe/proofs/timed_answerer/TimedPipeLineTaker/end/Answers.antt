@@ -26,6 +26,12 @@ returns-clause-all g c = λ setting old input l.
     let whole = timed k times input in
     let p = c.args.self.now in
     let stands : StandsTimed k times old (g.W.Sink.contents c.flush.new.writer) (record p { pipe = c.flush.new.self }) l.at l.text l.status =
-    record { pipe = c.in_ok-flush.ensures.stands k old l.at.station l.text l.status l.stands.pipe; deadlines = l.stands.deadlines; timers = l.stands.timers; time = l.stands.time } in
-    let done = whole_told k times old _ _ whole (left_written k times old _ _ p _ [] false whole (timed_turns k times []) l stands) c.in_ok-flush.ensures.written in
+    record {
+      pipe = c.in_ok-flush.ensures.stands k old l.at.station l.text l.status l.stands.pipe;
+      deadlines = l.stands.deadlines;
+      timers = l.stands.timers;
+      time = l.stands.time;
+    } in
+    let done = whole_told k times old _ _ whole (left_written k times old _ _ p _ [] false whole (timed_turns k times []) l stands)
+    c.in_ok-flush.ensures.written in
     (done.0, c.from.ensures ∙ ap bool_byte (c.is_refused.ensures ∙ done.1) ∙ byte_is _)

@@ -12,7 +12,8 @@ returns-in_err-answer-clause-on g c = λ setting old first lines input line l.
     let times = setting.1 in
     let p = err_from_is_err_and c.from_residual.result c.from_residual.ensures.1 in
     let t = answer_turn k times first l.at (time_said first) in
-    rw p.1 (part_failed k times old _ _ c.args.self.now c.args.self.now _ _ (timed k times input) (timed_turns k times (first ∷ lines)) (timed_turns k times lines) (timed_turn k times first l.at) l
+    rw p.1 (part_failed k times old _ _ c.args.self.now c.args.self.now _ _ (timed k times input) (timed_turns k times (first ∷ lines))
+    (timed_turns k times lines) (timed_turn k times first l.at) l
     (turns_more k times first lines l.at)
     (subst (λ x. AppendsPrefix old (g.W.Sink.contents c.answer.new.writer) (l.text ++ x.text)) (sym (line_is k times first l.at))
     (begins_before k times old _ l.text l.status (mark_turn k) t (c.in_err-answer.ensures.turns k times old first line l.at l.text l.status l.stands))))
@@ -23,10 +24,14 @@ returns-clause-on g c = λ setting old first lines input line l.
     let times = setting.1 in
     let t = answer_turn k times first l.at (time_said first) in
     let stands = c.in_ok-answer.ensures.turns k times old first line l.at l.text l.status l.stands in
-    let turned = subst (λ x. StoodTimed k times old (g.W.Sink.contents c.mark.new.writer) c.mark.new.self l.text l.status c.mark.result x) (sym (line_is k times first l.at))
-    (stood_behind k times old _ l.text l.status (mark_turn k) t c.mark.new.self c.mark.result (c.mark.ensures.turns k times old t.next (l.text ++ t.text) _ stands)) in
+    let turned = subst (λ x. StoodTimed k times old (g.W.Sink.contents c.mark.new.writer) c.mark.new.self l.text l.status c.mark.result x)
+    (sym (line_is k times first l.at))
+    (stood_behind k times old _ l.text l.status (mark_turn k) t c.mark.new.self c.mark.result
+    (c.mark.ensures.turns k times old t.next (l.text ++ t.text) _ stands)) in
     MatchResult-weaker c.mark.result turned
-    (λ _ done. part_done k times old _ _ c.args.self.now c.mark.new.self _ _ (timed k times input) (timed_turns k times (first ∷ lines)) (timed_turns k times lines) (timed_turn k times first l.at) l
+    (λ _ done. part_done k times old _ _ c.args.self.now c.mark.new.self _ _ (timed k times input) (timed_turns k times (first ∷ lines))
+    (timed_turns k times lines) (timed_turn k times first l.at) l
     (turns_more k times first lines l.at) done)
-    (λ _ begins. part_failed k times old _ _ c.args.self.now c.args.self.now _ _ (timed k times input) (timed_turns k times (first ∷ lines)) (timed_turns k times lines) (timed_turn k times first l.at) l
+    (λ _ begins. part_failed k times old _ _ c.args.self.now c.args.self.now _ _ (timed k times input) (timed_turns k times (first ∷ lines))
+    (timed_turns k times lines) (timed_turn k times first l.at) l
     (turns_more k times first lines l.at) begins)

@@ -12,7 +12,8 @@ returns-clause-on g c = λ setting old lines input l.
     let times = setting.1 in
     let whole = timed k times input in
     let p = c.args.self.now in
-    MatchResult-weaker c.flush.result (with_ok c.flush.result _ _ _ (c.flush.ensures.stands k old l.at.station l.text l.status l.stands.pipe) c.flush.ensures.written)
+    MatchResult-weaker c.flush.result (with_ok c.flush.result _ _ _ (c.flush.ensures.stands k old l.at.station l.text l.status l.stands.pipe)
+    c.flush.ensures.written)
     (λ _ t.
     let stands : StandsTimed k times old (g.W.Sink.contents c.flush.new.writer) (record p { pipe = c.flush.new.self }) l.at l.text l.status =
     record { pipe = t.0; deadlines = l.stands.deadlines; timers = l.stands.timers; time = l.stands.time } in

@@ -9,7 +9,8 @@ use Rattle.x25_sim.proofs.simulator.SimulatorLineTaker.write_out.Goals as goal
 pub returns-clause-on : goal.returns-clause-on
 returns-clause-on g c = λ a old lines script l.
     let whole = simulated a.cfg a.down a.shown script in
-    MatchResult-weaker c.flush.result (with_ok c.flush.result _ _ _ (c.flush.ensures.stands a.cfg a.shown old l.at l.text l.status l.stands) c.flush.ensures.empty)
+    MatchResult-weaker c.flush.result (with_ok c.flush.result _ _ _ (c.flush.ensures.stands a.cfg a.shown old l.at l.text l.status l.stands)
+    c.flush.ensures.empty)
     (λ _ t. let left = left_written a.cfg a.shown old _ _ whole c.args.self.now.stage c.flush.new.self (turns a.cfg a.shown lines) l t.0 in (
       left,
       ended_written a.cfg a.shown old _ _ whole c.args.self.now.stage c.flush.new.self lines l t.1 t.0,

@@ -9,7 +9,8 @@ use Rattle.x25_sim.proofs.simulator.SimulatorScriptTaker.command.Goals as goal
 pub returns-then-not-takes : goal.returns-then-not-takes
 returns-then-not-takes g c = (
   (λ cfg shown old w told refused h.
-      subst (λ b. Stood cfg shown old (g.W.Sink.contents c.read_nothing.new.writer) c.read_nothing.new.self told refused c.read_nothing.result (asked_turn cfg shown w (if b then Some (command c.args.end (plain_command c.args.asked)) else None)))
+      subst (λ b. Stood cfg shown old (g.W.Sink.contents c.read_nothing.new.writer) c.read_nothing.new.self told refused c.read_nothing.result
+      (asked_turn cfg shown w (if b then Some (command c.args.end (plain_command c.args.asked)) else None)))
       (sym (sym (c.takes.ensures cfg w h.fits) ∙ c.if-not-takes.true))
       (c.read_nothing.ensures.turns cfg shown old w told refused h)),
   search rules,
@@ -24,7 +25,8 @@ pub returns : goal.returns
 unfolding line_turn
 returns g c = (
   (λ cfg shown old w told refused h.
-      subst (λ b. Stood cfg shown old (g.W.Sink.contents c.happen.new.writer) c.happen.new.self told refused c.happen.result (asked_turn cfg shown w (if b then Some (command c.args.end (plain_command c.args.asked)) else None)))
+      subst (λ b. Stood cfg shown old (g.W.Sink.contents c.happen.new.writer) c.happen.new.self told refused c.happen.result
+      (asked_turn cfg shown w (if b then Some (command c.args.end (plain_command c.args.asked)) else None)))
       (sym (sym (c.takes.ensures cfg w h.fits) ∙ c.if-not-takes.false))
       (search rules)),
   search rules,

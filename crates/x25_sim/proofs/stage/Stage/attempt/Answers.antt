@@ -32,10 +32,12 @@ returns-clause-turns g c = λ cfg shown old w told refused h.
     let first = turn_of shown w o in
     let next = g.W.Sink.contents c.mark.new.writer in
     let is = sym (happened_tried shown e w o acted.accepted) in
-    let moved = stands_moved cfg shown old _ _ c.args.self.now c.tell_step.new.self w o told refused h acted.accepted stands c.tell_step.ensures.shown c.tell_step.ensures.is_refused
+    let moved = stands_moved cfg shown old _ _ c.args.self.now c.tell_step.new.self w o told refused h acted.accepted stands c.tell_step.ensures.shown
+    c.tell_step.ensures.is_refused
     (c.in_ok-tell_step.ensures.tells old told w (after w o) (rw c.at-at.ensures acted.tells) (rw (c.sent-before.ensures, c.at-at.ensures) put) h.tells) in
     MatchResult-weaker c.mark.result (c.mark.ensures.turns cfg shown old _ _ _ moved)
-    (λ _ stands. subst (StandsAt cfg shown old next c.mark.new.self told refused) is (stands_behind cfg shown old next c.mark.new.self told refused (marked shown e) first stands))
+    (λ _ stands. subst (StandsAt cfg shown old next c.mark.new.self told refused) is
+    (stands_behind cfg shown old next c.mark.new.self told refused (marked shown e) first stands))
     (λ _ begins. subst (BeginsAt old next told) is (begins_behind cfg shown old next c.mark.new.self told refused (marked shown e) first begins))
 
 pub returns-in-Err-clause-turns : goal.returns-in-Err-clause-turns
@@ -43,6 +45,7 @@ unfolding tried
 returns-in-Err-clause-turns g c = λ cfg shown old w told refused h.
     let o = happens cfg w (event_of c.args.event) in
     MatchResult-weaker c.unless_memory.result c.unless_memory.ensures.other
-    (λ _ other. stands_left_out cfg shown old _ _ c.args.self.now _ w o told refused h c.in-Err.error (refusal_is (c.in-Err.ensures.acted cfg w h.fits).refused other) (event_of c.args.event)
+    (λ _ other. stands_left_out cfg shown old _ _ c.args.self.now _ w o told refused h c.in-Err.error
+    (refusal_is (c.in-Err.ensures.acted cfg w h.fits).refused other) (event_of c.args.event)
     (c.in-Err.ensures.acted cfg w h.fits).stays refl refl h.tells)
     (λ _ _. told_more _ _ _ told _ h.tells)

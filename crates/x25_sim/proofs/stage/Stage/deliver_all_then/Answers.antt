@@ -8,7 +8,8 @@ pub returns-in_err-drain-clause-turns : goal.returns-in_err-drain-clause-turns
 returns-in_err-drain-clause-turns g c = λ cfg shown old w told refused h.
     let p = err_from_is_err_and c.from_residual.result c.from_residual.ensures.1 in
     let rest : World → Turn = λ v. and_then (tried cfg shown (event_of c.args.second)) (tried cfg shown (event_of c.args.first) v) in
-    rw p.1 (begins_before cfg shown old _ c.drain.new.self told refused rest (drained cfg shown most_times w) (c.in_err-drain.ensures.turns cfg shown old w told refused h))
+    rw p.1 (begins_before cfg shown old _ c.drain.new.self told refused rest (drained cfg shown most_times w)
+    (c.in_err-drain.ensures.turns cfg shown old w told refused h))
 
 pub returns-clause-turns : goal.returns-clause-turns
 returns-clause-turns g c = λ cfg shown old w told refused h.

@@ -18,7 +18,8 @@ returns-in_err-happen-clause-turns g c = λ cfg shown old w told refused h.
     let p = err_from_is_err_and c.from_residual.result c.from_residual.ensures.1 in
     let l = c.loop.invariant.1 cfg shown old w told refused h in
     let at = end_of c.in-Some.direction in
-    rw p.1 (part_failed cfg shown old _ _ c.loop.self c.loop.self told refused _ _ (event_turn cfg shown (record { at = at; act = Receives })) (drained cfg shown (c.args.count - (c.loop.counter + 1))) l
+    rw p.1 (part_failed cfg shown old _ _ c.loop.self c.loop.self told refused _ _ (event_turn cfg shown (record { at = at; act = Receives }))
+    (drained cfg shown (c.args.count - (c.loop.counter + 1))) l
     (drained_more cfg shown _ _ l.at at (omega (arith, c.loop-test.true)) (sym (line_is cfg c.loop.self.world l.at l.stands.fits) ∙ sym c.in-Some.ensures))
     (c.in_err-happen.ensures.turns cfg shown old l.at l.text l.status l.stands))
 
@@ -28,7 +29,8 @@ loop-preserved g c = (
   λ cfg shown old w told refused h.
       let l = c.loop.invariant.1 cfg shown old w told refused h in
       let at = end_of c.in-Some.direction in
-      part_done cfg shown old _ _ c.loop.self c.happen.new.self told refused _ _ (event_turn cfg shown (record { at = at; act = Receives })) (drained cfg shown (c.args.count - (c.loop.counter + 1))) l
+      part_done cfg shown old _ _ c.loop.self c.happen.new.self told refused _ _ (event_turn cfg shown (record { at = at; act = Receives }))
+      (drained cfg shown (c.args.count - (c.loop.counter + 1))) l
       (drained_more cfg shown _ _ l.at at (omega (arith, c.loop-test.true)) (sym (line_is cfg c.loop.self.world l.at l.stands.fits) ∙ sym c.in-Some.ensures))
       (c.in_ok-happen.ensures.turns cfg shown old l.at l.text l.status l.stands),
 )

@@ -24,7 +24,8 @@ returns-then-is_line_empty-clause-turns g c = λ cfg shown old w told refused h.
     (emptied_more cfg shown _ left l.at (one_less most_times c.loop.counter c.loop-test.true))
     (c.in_ok-pull.ensures.turns cfg shown old l.at l.text l.status l.stands) in
     none_left cfg shown old _ old c.pull.new.self c.pull.new.self told refused _ (left_behind cfg shown left) m
-    (line_empty cfg shown left m.at (sym (ap is_none (line_is cfg c.pull.new.self.world m.at m.stands.fits)) ∙ sym c.is_line_empty.ensures ∙ c.if-is_line_empty.true))
+    (line_empty cfg shown left m.at (sym (ap is_none (line_is cfg c.pull.new.self.world m.at m.stands.fits)) ∙ sym c.is_line_empty.ensures
+    ∙ c.if-is_line_empty.true))
 
 pub loop-preserved : goal.loop-preserved
 loop-preserved g c = (
@@ -36,7 +37,8 @@ loop-preserved g c = (
       (emptied_more cfg shown _ left l.at (one_less most_times c.loop.counter c.loop-test.true))
       (c.in_ok-pull.ensures.turns cfg shown old l.at l.text l.status l.stands) in
       left_as cfg shown old _ old c.pull.new.self c.pull.new.self told refused _ (left_behind cfg shown left) (emptied cfg shown left) m
-      (line_filled cfg shown left m.at (sym (ap is_none (line_is cfg c.pull.new.self.world m.at m.stands.fits)) ∙ sym c.is_line_empty.ensures ∙ c.if-is_line_empty.false)),
+      (line_filled cfg shown left m.at (sym (ap is_none (line_is cfg c.pull.new.self.world m.at m.stands.fits)) ∙ sym c.is_line_empty.ensures
+      ∙ c.if-is_line_empty.false)),
 )
 
 pub returns-clause-turns : goal.returns-clause-turns

@@ -9,6 +9,7 @@ use Rattle.x25_sim.proofs.stage.Stage.empty.Given as goal
 
 -- the rounds that are left
 abbrev pub invariant-loop : goal.invariant-loop
-invariant-loop g l = (g.W.Sink.is_marked l.writer ≡ g.W.Sink.is_marked l.fn.writer) × ((cfg : Cfg) (shown : Shown) (old : Option (List ℕ)) (w : World) (told : List ℕ) (refused : Bool)
+invariant-loop g l = (g.W.Sink.is_marked l.writer ≡ g.W.Sink.is_marked l.fn.writer)
+    × ((cfg : Cfg) (shown : Shown) (old : Option (List ℕ)) (w : World) (told : List ℕ) (refused : Bool)
     → Stands cfg shown old (g.W.Sink.contents l.fn.writer) l.fn.self w told refused
     → Leaves cfg shown old (g.W.Sink.contents l.writer) l.self (emptied cfg shown (most_times - l.counter)) told refused (emptied cfg shown most_times w))

@@ -9,7 +9,8 @@ unfolding event_turn
 returns-in_err-occur-clause-turns g c = λ cfg shown old w told refused h.
     let p = err_from_is_err_and c.from_residual.result c.from_residual.ensures.1 in
     let e = event_of c.args.event in
-    rw p.1 (begins_before cfg shown old _ c.occur.new.self told refused (marked shown e) (turn_of shown w (happens cfg w e)) (c.in_err-occur.ensures.turns cfg shown old w told refused h))
+    rw p.1 (begins_before cfg shown old _ c.occur.new.self told refused (marked shown e) (turn_of shown w (happens cfg w e))
+    (c.in_err-occur.ensures.turns cfg shown old w told refused h))
 
 pub returns-clause-turns : goal.returns-clause-turns
 unfolding event_turn

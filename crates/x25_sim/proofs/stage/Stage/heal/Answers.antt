@@ -7,7 +7,8 @@ pub returns-in_err-fire-clause-turns : goal.returns-in_err-fire-clause-turns
 unfolding healed
 returns-in_err-fire-clause-turns g c = λ cfg shown old w told refused h.
     let p = err_from_is_err_and c.from_residual.result c.from_residual.ensures.1 in
-    rw p.1 (begins_before cfg shown old _ c.fire.new.self told refused (emptied cfg shown most_times) (fired cfg shown w) (c.in_err-fire.ensures.turns cfg shown old w told refused h))
+    rw p.1 (begins_before cfg shown old _ c.fire.new.self told refused (emptied cfg shown most_times) (fired cfg shown w)
+    (c.in_err-fire.ensures.turns cfg shown old w told refused h))
 
 pub returns-clause-turns : goal.returns-clause-turns
 unfolding healed

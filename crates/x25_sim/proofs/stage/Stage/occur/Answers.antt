@@ -13,7 +13,8 @@ returns-in-Ok-clause-turns g c = λ cfg shown old w told refused h.
     let stands = subst (λ v. FitsWorld cfg v (after w o)) (sym c.tell_step.ensures.world) acted.happened in
     MatchResult-weaker c.tell_step.result
     (c.tell_step.ensures.tells old told w (after w o) (rw c.at-at.ensures acted.tells) (rw (c.sent-before.ensures, c.at-at.ensures) put) h.tells)
-    (λ _ told_all. stands_moved cfg shown old _ _ c.args.self.now c.tell_step.new.self w o told refused h acted.accepted stands c.tell_step.ensures.shown c.tell_step.ensures.is_refused told_all)
+    (λ _ told_all. stands_moved cfg shown old _ _ c.args.self.now c.tell_step.new.self w o told refused h acted.accepted stands c.tell_step.ensures.shown
+    c.tell_step.ensures.is_refused told_all)
     (λ _ begins. begins_moved cfg shown old _ _ c.args.self.now c.tell_step.new.self w o told refused h acted.accepted begins)
 
 pub returns-in-Err-clause-turns : goal.returns-in-Err-clause-turns

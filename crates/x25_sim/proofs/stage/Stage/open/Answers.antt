@@ -11,7 +11,8 @@ returns-in_err-begin-clause-stood g c = λ cfg down old fits status tells.
     let p = err_from_is_err_and c.from_residual.result c.from_residual.ensures.1 in
     let shown = c.args.self.now.shown in
     rw p.1 (subst (BeginsAt old (g.W.Sink.contents c.begin.new.writer) []) (opens cfg down shown (c.two_stations_keep_order.ensures.set_up cfg))
-    (begins_before cfg shown old _ c.begin.new.self [] false (deliveries cfg shown) (first_turn cfg down shown) (c.in_err-begin.ensures.tells cfg down old [] fits tells)))
+    (begins_before cfg shown old _ c.begin.new.self [] false (deliveries cfg shown) (first_turn cfg down shown)
+    (c.in_err-begin.ensures.tells cfg down old [] fits tells)))
 
 pub returns-clause-stood : goal.returns-clause-stood
 unfolding IsOpening
@@ -20,8 +21,10 @@ returns-clause-stood g c = λ cfg down old fits status tells.
     let stage = c.attempt_both.new.self in
     let next = g.W.Sink.contents c.attempt_both.new.writer in
     let all = opens cfg down shown (c.two_stations_keep_order.ensures.set_up cfg) in
-    let first = stands_first cfg down shown old _ c.begin.new.self (subst (λ v. FitsWorld cfg v (opening cfg down)) (sym c.in_ok-begin.ensures.world) fits) c.in_ok-begin.ensures.shown (c.in_ok-begin.ensures.is_refused ∙ status)
+    let first = stands_first cfg down shown old _ c.begin.new.self (subst (λ v. FitsWorld cfg v (opening cfg down)) (sym c.in_ok-begin.ensures.world) fits)
+    c.in_ok-begin.ensures.shown (c.in_ok-begin.ensures.is_refused ∙ status)
     (c.in_ok-begin.ensures.tells cfg down old [] fits tells) in
     MatchResult-weaker c.attempt_both.result (c.attempt_both.ensures.turns cfg shown old _ _ _ first)
-    (λ _ stands. subst (StandsAt cfg shown old next stage [] false) all (stands_behind cfg shown old next stage [] false (deliveries cfg shown) (first_turn cfg down shown) stands))
+    (λ _ stands. subst (StandsAt cfg shown old next stage [] false) all
+    (stands_behind cfg shown old next stage [] false (deliveries cfg shown) (first_turn cfg down shown) stands))
     (λ _ begins. subst (BeginsAt old next []) all (begins_behind cfg shown old next stage [] false (deliveries cfg shown) (first_turn cfg down shown) begins))

@@ -20,7 +20,8 @@ invariant_of-self c = record {
         step.near,
         fits_down c' fits.same _ _ s.layer k step _ (ap (λ (x : Step). x.near) (gives_up c' s c.args.octets.now (c.requires.full c' s fits)))
             (ap (λ n. n.down) (c.abandon-heard.ensures.heard (link_settings c') s.link fits.link).notes)
-            (taken_link (link_settings c') c.abandon-heard.new.self c.swap_frames.new.self k.side.near (ap (λ l. l.station) c.swap_frames.ensures.link) (c.abandon-heard.ensures.state (link_settings c') s.link fits.link))
+            (taken_link (link_settings c') c.abandon-heard.new.self c.swap_frames.new.self k.side.near (ap (λ l. l.station) c.swap_frames.ensures.link)
+            (c.abandon-heard.ensures.state (link_settings c') s.link fits.link))
             (c.note_down.ensures.layer (layer_settings c') s.layer fits.layer)
             (ap (λ l. l.frames) c.swap_frames.ensures.link ∙ c.requires.empty.frames)
             (c.steps_keep_bounds.ensures.receive c' s c.args.octets.now fits.kept),
@@ -34,7 +35,8 @@ returns-clause-does c = record {
       let step : Step = receives c' s c.args.octets.now in
       fits_down c' fits.same _ _ s.layer k step _ (ap (λ (x : Step). x.near) (gives_up c' s c.args.octets.now (c.requires.full c' s fits)))
       (ap (λ n. n.down) (c.abandon-heard.ensures.heard (link_settings c') s.link fits.link).notes)
-      (taken_link (link_settings c') c.abandon-heard.new.self c.swap_frames.new.self k.side.near (ap (λ l. l.station) c.swap_frames.ensures.link) (c.abandon-heard.ensures.state (link_settings c') s.link fits.link))
+      (taken_link (link_settings c') c.abandon-heard.new.self c.swap_frames.new.self k.side.near (ap (λ l. l.station) c.swap_frames.ensures.link)
+      (c.abandon-heard.ensures.state (link_settings c') s.link fits.link))
       (c.note_down.ensures.layer (layer_settings c') s.layer fits.layer)
       (ap (λ l. l.frames) c.swap_frames.ensures.link ∙ c.requires.empty.frames)
       (c.steps_keep_bounds.ensures.receive c' s c.args.octets.now fits.kept);
@@ -45,12 +47,14 @@ returns-clause-does c = record {
   entries = λ c' s fits.
       let k : LinkStep = abandon_step (link_settings c') s.link in
       let heard = c.abandon-heard.ensures.heard (link_settings c') s.link fits.link in
-      entries_noted_down s.layer k [] _ _ (receives c' s c.args.octets.now) (gives_up c' s c.args.octets.now (c.requires.full c' s fits)) (ap (λ n. n.down) heard.notes)
+      entries_noted_down s.layer k [] _ _ (receives c' s c.args.octets.now) (gives_up c' s c.args.octets.now (c.requires.full c' s fits))
+      (ap (λ n. n.down) heard.notes)
       (c.note_down.ensures.entries ∙ ap (λ es. map plain_entry es ++ entries_down c.abandon-heard.result.notes.down) c.requires.empty.entries);
   refused = λ c' s fits. tt;
   stays = λ c' s fits. tt;
   empty = tt;
-  few_frames = (let same : length c.swap_frames.new.frames ≡ length c.abandon-heard.new.self.frames = ap length c.swap_frames.ensures.frames in omega (arith, same, c.abandon-heard.ensures.few));
+  few_frames = (let same : length c.swap_frames.new.frames ≡ length c.abandon-heard.new.self.frames = ap length c.swap_frames.ensures.frames in
+      omega (arith, same, c.abandon-heard.ensures.few));
   few_entries = c.note_down.new.entries.few;
 }
 

@@ -6,14 +6,18 @@ use Rattle.x25_station.specs.Config.{layer_settings}
 use Rattle.x25_station.proofs.OutcomeLemmas.{still_meant}
 use Rattle.x25_station.proofs.AskLemmas.{still_fits}
 use Rattle.x25_station.proofs.TakeLemmas.{takes_longest, has_places}
-use Rattle.x25_station.proofs.GivingLemmas.{TakesIt, layers_as, links_as, none_of, declines_early, declines_given, declines_for_memory, declines_late, did_given, meant_given, dialled_given}
+use Rattle.x25_station.proofs.GivingLemmas.{TakesIt, layers_as, links_as, none_of, declines_early, declines_given, declines_for_memory, declines_late}
+use Rattle.x25_station.proofs.GivingLemmas.{did_given, meant_given, dialled_given}
 use Rattle.x25_station.proofs.DriveLemmas.{judged_for}
 use Rattle.x25_station.proofs.station.Station.dial_given.Goals as goal
 
 pub returns-in-Some : goal.returns-in-Some
 returns-in-Some c = record {
-  does = declines_early _ c.in-Some.error c.args.self.now _ _ (plain_given c.args.given.now) (Dials c.args.called.now c.args.calling.now c.args.user.now c.args.proposal.now) c.of_layer.ensures
-      (judged_for c.state.result c.args.self.now.link c.args.self.now.layer (Dials c.args.called.now c.args.calling.now c.args.user.now c.args.proposal.now) (Some c.in-Some.error) (record { up = c.state.ensures.up; full = c.state.ensures.waits }) (λ d k fits. sym c.in-Some.is ∙ c.call_refusal.ensures d k fits)) (λ d s fits. fits) c.requires;
+  does = declines_early _ c.in-Some.error c.args.self.now _ _ (plain_given c.args.given.now)
+      (Dials c.args.called.now c.args.calling.now c.args.user.now c.args.proposal.now) c.of_layer.ensures
+      (judged_for c.state.result c.args.self.now.link c.args.self.now.layer (Dials c.args.called.now c.args.calling.now c.args.user.now c.args.proposal.now)
+      (Some c.in-Some.error) (record { up = c.state.ensures.up; full = c.state.ensures.waits })
+      (λ d k fits. sym c.in-Some.is ∙ c.call_refusal.ensures d k fits)) (λ d s fits. fits) c.requires;
 }
 
 pub returns-then-not-takes : goal.returns-then-not-takes
@@ -21,8 +25,11 @@ returns-then-not-takes c = record {
   does =
       let g = plain_given c.args.given.now in
       declines_given c.args.self.now _ _ g (Dials c.args.called.now c.args.calling.now c.args.user.now c.args.proposal.now)
-      (judged_for c.state.result c.args.self.now.link c.args.self.now.layer (Dials c.args.called.now c.args.calling.now c.args.user.now c.args.proposal.now) None (record { up = c.state.ensures.up; full = c.state.ensures.waits }) (λ d k fits. sym (none_of c.call_refusal.result c.in_default.not-Some) ∙ c.call_refusal.ensures d k fits))
-      (sym (c.takes.ensures ∙ ap (λ (b : Bool). c.args.self.now.manner.wide && (may_give g && b)) c.is_empty.ensures) ∙ c.if-not-takes.true) (λ d s fits. fits) c.requires;
+      (judged_for c.state.result c.args.self.now.link c.args.self.now.layer (Dials c.args.called.now c.args.calling.now c.args.user.now c.args.proposal.now)
+      None (record { up = c.state.ensures.up; full = c.state.ensures.waits })
+      (λ d k fits. sym (none_of c.call_refusal.result c.in_default.not-Some) ∙ c.call_refusal.ensures d k fits))
+      (sym (c.takes.ensures ∙ ap (λ (b : Bool). c.args.self.now.manner.wide && (may_give g && b)) c.is_empty.ensures) ∙ c.if-not-takes.true) (λ d s fits. fits)
+      c.requires;
 }
 
 pub returns-in_default-new : goal.returns-in_default-new
@@ -30,8 +37,11 @@ returns-in_default-new c = record {
   does =
       let g = plain_given c.args.given.now in
       declines_for_memory c.args.self.now _ _ g (Dials c.args.called.now c.args.calling.now c.args.user.now c.args.proposal.now)
-      (judged_for c.state.result c.args.self.now.link c.args.self.now.layer (Dials c.args.called.now c.args.calling.now c.args.user.now c.args.proposal.now) None (record { up = c.state.ensures.up; full = c.state.ensures.waits }) (λ d k fits. sym (none_of c.call_refusal.result c.in_default.not-Some) ∙ c.call_refusal.ensures d k fits))
-      (sym (c.takes.ensures ∙ ap (λ (b : Bool). c.args.self.now.manner.wide && (may_give g && b)) c.is_empty.ensures) ∙ c.if-not-takes.false) (λ d s fits. fits) c.requires;
+      (judged_for c.state.result c.args.self.now.link c.args.self.now.layer (Dials c.args.called.now c.args.calling.now c.args.user.now c.args.proposal.now)
+      None (record { up = c.state.ensures.up; full = c.state.ensures.waits })
+      (λ d k fits. sym (none_of c.call_refusal.result c.in_default.not-Some) ∙ c.call_refusal.ensures d k fits))
+      (sym (c.takes.ensures ∙ ap (λ (b : Bool). c.args.self.now.manner.wide && (may_give g && b)) c.is_empty.ensures) ∙ c.if-not-takes.false)
+      (λ d s fits. fits) c.requires;
 }
 
 pub call_with-requires-clause-places : goal.call_with-requires-clause-places
@@ -46,17 +56,25 @@ invariant_of-self-in-Ok-call_with c =
     let request = Dials c.args.called.now c.args.calling.now c.args.user.now c.args.proposal.now in
     let h = c.in-Ok-call_with.channel in
     let r : code_step.Step = record { frames = c.swap_frames.new.frames; entries = c.enter_asked.new.entries; timer = c.args.out.now.timer } in
-    let takes : TakesIt c.args.self.now.manner g request = sym (c.takes.ensures ∙ ap (λ (b : Bool). c.args.self.now.manner.wide && (may_give g && b)) c.is_empty.ensures) ∙ c.if-not-takes.false in
+    let takes : TakesIt c.args.self.now.manner g request = sym
+    (c.takes.ensures ∙ ap (λ (b : Bool). c.args.self.now.manner.wide && (may_give g && b)) c.is_empty.ensures) ∙ c.if-not-takes.false in
     record {
-      meant = meant_given h g c.args.self.now.link c.call_with.new.link c.swap_frames.new.self c.args.self.now.layer c.call_with.new.layer r request c.args.self.now.meant
-          (layers_as (Ok h) _ _ _ _ _ request c.in-Ok.ensures c.in-Ok-call_with.ensures.does.layer) (links_as (Ok h) _ _ _ _ _ request c.in-Ok.ensures c.in-Ok-call_with.ensures.does.link)
-          (ap (λ l. l.station) c.swap_frames.ensures.link) (ap (λ l. l.frames) c.swap_frames.ensures.link ∙ c.requires.frames) c.swap_frames.ensures.frames c.steps_keep_bounds.ensures.given takes;
+      meant = meant_given h g c.args.self.now.link c.call_with.new.link c.swap_frames.new.self c.args.self.now.layer c.call_with.new.layer r request
+          c.args.self.now.meant
+          (layers_as (Ok h) _ _ _ _ _ request c.in-Ok.ensures c.in-Ok-call_with.ensures.does.layer)
+          (links_as (Ok h) _ _ _ _ _ request c.in-Ok.ensures c.in-Ok-call_with.ensures.does.link)
+          (ap (λ l. l.station) c.swap_frames.ensures.link) (ap (λ l. l.frames) c.swap_frames.ensures.link ∙ c.requires.frames) c.swap_frames.ensures.frames
+          c.steps_keep_bounds.ensures.given takes;
     }
 
 pub invariant_of-self-in-Err-call_with : goal.invariant_of-self-in-Err-call_with
 invariant_of-self-in-Err-call_with c = record {
-  meant = still_meant _ _ _ _ c.args.self.now.meant (λ c' s fits.
-      (c', s, still_fits c' c.args.self.now.link c.call_with.new.link _ c.call_with.new.layer s fits (c.in-Err.ensures.does.layer_stays (layer_settings c') s.layer fits.layer) c.in-Err.ensures.does.link_stays));
+  meant = still_meant _ _ _ _ c.args.self.now.meant (λ c' s fits. (
+    c',
+    s,
+    still_fits c' c.args.self.now.link c.call_with.new.link _ c.call_with.new.layer s fits
+        (c.in-Err.ensures.does.layer_stays (layer_settings c') s.layer fits.layer) c.in-Err.ensures.does.link_stays,
+  ));
 }
 
 pub returns-in-Ok-call_with : goal.returns-in-Ok-call_with
@@ -66,13 +84,18 @@ returns-in-Ok-call_with c = record {
       let request = Dials c.args.called.now c.args.calling.now c.args.user.now c.args.proposal.now in
       let h = c.in-Ok-call_with.channel in
       let r : code_step.Step = record { frames = c.swap_frames.new.frames; entries = c.enter_asked.new.entries; timer = c.args.out.now.timer } in
-      let takes : TakesIt c.args.self.now.manner g request = sym (c.takes.ensures ∙ ap (λ (b : Bool). c.args.self.now.manner.wide && (may_give g && b)) c.is_empty.ensures) ∙ c.if-not-takes.false in
-      let layers = layers_as (Ok h) c.in-Ok.form g c.args.self.now.link c.args.self.now.layer c.call_with.new.layer request c.in-Ok.ensures c.in-Ok-call_with.ensures.does.layer in
-      did_given h c.args.self.now _ c.call_with.new.link r g request layers (links_as (Ok h) _ _ _ _ _ request c.in-Ok.ensures c.in-Ok-call_with.ensures.does.link)
+      let takes : TakesIt c.args.self.now.manner g request =
+      sym (c.takes.ensures ∙ ap (λ (b : Bool). c.args.self.now.manner.wide && (may_give g && b)) c.is_empty.ensures) ∙ c.if-not-takes.false in
+      let layers = layers_as (Ok h) c.in-Ok.form g c.args.self.now.link c.args.self.now.layer c.call_with.new.layer request c.in-Ok.ensures
+      c.in-Ok-call_with.ensures.does.layer in
+      did_given h c.args.self.now _ c.call_with.new.link r g request layers
+      (links_as (Ok h) _ _ _ _ _ request c.in-Ok.ensures c.in-Ok-call_with.ensures.does.link)
       (ap (λ l. l.station) c.swap_frames.ensures.link) (ap (λ l. l.frames) c.swap_frames.ensures.link ∙ c.requires.frames) c.swap_frames.ensures.frames
       c.steps_keep_bounds.ensures.given c.holds_few.ensures.window c.holds_few.ensures.stand takes
       (λ c' s fits.
-      dialled_given c' g c.args.self.now.link c.args.self.now.layer c.call_with.new.layer s r h c.args.called.now c.args.calling.now c.args.user.now c.args.proposal.now fits layers takes (c.in-Ok-call_with.ensures.channel (layer_settings c') s.layer fits.layer) (λ k after configured brief. c.enter_asked.ensures (layer_settings c') k after configured brief))
+      dialled_given c' g c.args.self.now.link c.args.self.now.layer c.call_with.new.layer s r h c.args.called.now c.args.calling.now c.args.user.now
+      c.args.proposal.now fits layers takes (c.in-Ok-call_with.ensures.channel (layer_settings c') s.layer fits.layer)
+      (λ k after configured brief. c.enter_asked.ensures (layer_settings c') k after configured brief))
       refl;
 }
 
@@ -81,8 +104,10 @@ returns-in-Err c = record {
   does =
       let g = plain_given c.args.given.now in
       let request = Dials c.args.called.now c.args.calling.now c.args.user.now c.args.proposal.now in
-      let takes : TakesIt c.args.self.now.manner g request = sym (c.takes.ensures ∙ ap (λ (b : Bool). c.args.self.now.manner.wide && (may_give g && b)) c.is_empty.ensures) ∙ c.if-not-takes.false in
+      let takes : TakesIt c.args.self.now.manner g request =
+      sym (c.takes.ensures ∙ ap (λ (b : Bool). c.args.self.now.manner.wide && (may_give g && b)) c.is_empty.ensures) ∙ c.if-not-takes.false in
       declines_late _ c.in-Err.error _ c.args.self.now _ _ g request c.of_layer-in-Err.ensures
-      (layers_as (Err c.in-Err.error) c.in-Ok.form g c.args.self.now.link c.args.self.now.layer c.call_with.new.layer request c.in-Ok.ensures c.in-Err.ensures.does.layer)
+      (layers_as (Err c.in-Err.error) c.in-Ok.form g c.args.self.now.link c.args.self.now.layer c.call_with.new.layer request c.in-Ok.ensures
+      c.in-Err.ensures.does.layer)
       takes c.in-Err.ensures.does.layer_stays c.in-Err.ensures.does.link_stays c.requires refl;
 }

@@ -10,4 +10,5 @@ returns-then-idle c = λ c' s fits.
 
 pub returns-else-idle : goal.returns-else-idle
 returns-else-idle c = λ c' s fits.
-    c.if-idle.false ∙ ap (λ (b : Bool). b && waits_up_to s.layer.circuits c'.channels.count == 0) (sym c.if-idle.false ∙ c.idle.ensures (link_settings c') s.link fits.link)
+    c.if-idle.false ∙ ap (λ (b : Bool). b && waits_up_to s.layer.circuits c'.channels.count == 0)
+    (sym c.if-idle.false ∙ c.idle.ensures (link_settings c') s.link fits.link)

@@ -4,4 +4,16 @@ use Rattle.x25_station.specs.Station.{new_station}
 use Rattle.x25_station.proofs.station.Station.new.Goals as goal
 
 pub invariant_of-result : goal.invariant_of-result
-invariant_of-result c = record { meant = ∣ (settings_from c.args.role c.args.cfg, new_station, record { link = c.in-Ok.ensures.state; layer = c.in-Ok-with.ensures.fits; kept = record { few = omega arith; rests = λ is. refl }; sent = c.in-Ok.ensures.no_frames; same = refl }) ∣₁ }
+invariant_of-result c = record {
+  meant = ∣ (
+    settings_from c.args.role c.args.cfg,
+    new_station,
+    record {
+      link = c.in-Ok.ensures.state;
+      layer = c.in-Ok-with.ensures.fits;
+      kept = record { few = omega arith; rests = λ is. refl };
+      sent = c.in-Ok.ensures.no_frames;
+      same = refl;
+    },
+  ) ∣₁;
+}

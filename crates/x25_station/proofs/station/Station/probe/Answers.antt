@@ -21,7 +21,8 @@ invariant_of-self c = record {
       leaves_some c' _ _ (unless (probe_refusal s.link.phase) step)
       (leaves_down c' fits.same _ _ (probe_refusal s.link.phase) s.layer k step _ (ap (λ (x : Step). x.near) (timer_down c' s.layer s.link))
       (ap (λ n. n.down) (c.in-Ok.ensures.heard (link_settings c') s.link fits.link).notes)
-      (taken_link (link_settings c') c.probe.new.self c.swap_frames.new.self k.side.near (ap (λ l. l.station) c.swap_frames.ensures.link) (c.in-Ok.ensures.state (link_settings c') s.link fits.link))
+      (taken_link (link_settings c') c.probe.new.self c.swap_frames.new.self k.side.near (ap (λ l. l.station) c.swap_frames.ensures.link)
+      (c.in-Ok.ensures.state (link_settings c') s.link fits.link))
       (c.note_down.ensures.layer (layer_settings c') s.layer fits.layer)
       (ap (λ l. l.frames) c.swap_frames.ensures.link ∙ c.requires.frames)
       (c.steps_keep_bounds.ensures.command c' s Probes fits.kept))
@@ -29,7 +30,10 @@ invariant_of-self c = record {
 }
 
 pub invariant_of-self-in-Err-1 : goal.invariant_of-self-in-Err-1
-invariant_of-self-in-Err-1 c = record { meant = subst (λ l. AreMeant c.args.self.now.manner l c.args.self.now.layer) (sym c.in-Err.ensures.err) c.args.self.now.meant }
+invariant_of-self-in-Err-1 c = record {
+  meant = subst (λ l. AreMeant c.args.self.now.manner l c.args.self.now.layer) (sym c.in-Err.ensures.err)
+      c.args.self.now.meant;
+}
 
 pub returns-in-Ok-clause-does : goal.returns-in-Ok-clause-does
 returns-in-Ok-clause-does c = record {
@@ -38,39 +42,49 @@ returns-in-Ok-clause-does c = record {
       let step : Step = follows c' s.layer k in
       leaves_down c' fits.same _ _ (probe_refusal s.link.phase) s.layer k step _ (ap (λ (x : Step). x.near) (timer_down c' s.layer s.link))
       (ap (λ n. n.down) (c.in-Ok.ensures.heard (link_settings c') s.link fits.link).notes)
-      (taken_link (link_settings c') c.probe.new.self c.swap_frames.new.self k.side.near (ap (λ l. l.station) c.swap_frames.ensures.link) (c.in-Ok.ensures.state (link_settings c') s.link fits.link))
+      (taken_link (link_settings c') c.probe.new.self c.swap_frames.new.self k.side.near (ap (λ l. l.station) c.swap_frames.ensures.link)
+      (c.in-Ok.ensures.state (link_settings c') s.link fits.link))
       (c.note_down.ensures.layer (layer_settings c') s.layer fits.layer)
       (ap (λ l. l.frames) c.swap_frames.ensures.link ∙ c.requires.frames)
       (c.steps_keep_bounds.ensures.command c' s Probes fits.kept);
   frames = λ c' s fits.
       let k = timer_step (link_settings c') s.link in
-      sends_unless c' (record { frames = c.swap_frames.new.frames; entries = c.note_down.new.entries; timer = c.args.out.now.timer }) (probe_refusal s.link.phase) (follows c' s.layer k)
-      (frames_down c' s.layer k _ (follows c' s.layer k) (timer_down c' s.layer s.link) (c.swap_frames.ensures.frames ∙ c.in-Ok.ensures.frames (link_settings c') s.link fits.link));
+      sends_unless c' (record { frames = c.swap_frames.new.frames; entries = c.note_down.new.entries; timer = c.args.out.now.timer })
+      (probe_refusal s.link.phase) (follows c' s.layer k)
+      (frames_down c' s.layer k _ (follows c' s.layer k) (timer_down c' s.layer s.link)
+      (c.swap_frames.ensures.frames ∙ c.in-Ok.ensures.frames (link_settings c') s.link fits.link));
   entries = λ c' s fits.
       let k = timer_step (link_settings c') s.link in
-      enters_unless (record { frames = c.swap_frames.new.frames; entries = c.note_down.new.entries; timer = c.args.out.now.timer }) (probe_refusal s.link.phase) (follows c' s.layer k)
-      (entries_noted_down s.layer k [] _ _ (follows c' s.layer k) (timer_down c' s.layer s.link) (ap (λ n. n.down) (c.in-Ok.ensures.heard (link_settings c') s.link fits.link).notes)
+      enters_unless (record { frames = c.swap_frames.new.frames; entries = c.note_down.new.entries; timer = c.args.out.now.timer })
+      (probe_refusal s.link.phase) (follows c' s.layer k)
+      (entries_noted_down s.layer k [] _ _ (follows c' s.layer k) (timer_down c' s.layer s.link)
+      (ap (λ n. n.down) (c.in-Ok.ensures.heard (link_settings c') s.link fits.link).notes)
       (c.note_down.ensures.entries ∙ ap (λ es. map plain_entry es ++ entries_down c.in-Ok.heard.notes.down) c.requires.entries));
   refused = λ c' s fits.
-      goes _ (probe_refusal s.link.phase) (follows c' s.layer (timer_step (link_settings c') s.link)) (c.in-Ok.ensures.refused (link_settings c') s.link fits.link);
+      goes _ (probe_refusal s.link.phase) (follows c' s.layer (timer_step (link_settings c') s.link))
+      (c.in-Ok.ensures.refused (link_settings c') s.link fits.link);
   stays = λ c' s fits. tt;
   empty = tt;
-  few_frames = (let same : length c.swap_frames.new.frames ≡ length c.probe.new.self.frames = ap length c.swap_frames.ensures.frames in omega (arith, same, c.in-Ok.ensures.few));
+  few_frames = (let same : length c.swap_frames.new.frames ≡ length c.probe.new.self.frames = ap length c.swap_frames.ensures.frames in
+      omega (arith, same, c.in-Ok.ensures.few));
   few_entries = c.note_down.new.entries.few;
 }
 
 pub returns-in-Err-clause-does : goal.returns-in-Err-clause-does
 returns-in-Err-clause-does c = declines c.args.self.now _ _ _ probes (λ c' s fits.
-    refused Heard Unit c.in-Err.error _ (probe_refusal s.link.phase) (follows c' s.layer (timer_step (link_settings c') s.link)) (probe_named s.link.phase) c.of_link.ensures
+    refused Heard Unit c.in-Err.error _ (probe_refusal s.link.phase) (follows c' s.layer (timer_step (link_settings c') s.link)) (probe_named s.link.phase)
+    c.of_link.ensures
     (c.in-Err.ensures.refused (link_settings c') s.link fits.link))
     (λ c' s fits. subst (λ l. FitsParts c' c.args.self.now.manner l c.args.self.now.layer s) (sym c.in-Err.ensures.err) fits)
     c.requires
 
 pub returns-in-Ok-clause-only : goal.returns-in-Ok-clause-only
 returns-in-Ok-clause-only c = λ c' s fits.
-    goes_only _ (probe_refusal s.link.phase) (follows c' s.layer (timer_step (link_settings c') s.link)) (c.in-Ok.ensures.refused (link_settings c') s.link fits.link)
+    goes_only _ (probe_refusal s.link.phase) (follows c' s.layer (timer_step (link_settings c') s.link))
+    (c.in-Ok.ensures.refused (link_settings c') s.link fits.link)
 
 pub returns-in-Err-clause-only : goal.returns-in-Err-clause-only
 returns-in-Err-clause-only c = λ c' s fits.
-    refused_only Heard Unit c.in-Err.error _ (probe_refusal s.link.phase) (follows c' s.layer (timer_step (link_settings c') s.link)) (probe_named s.link.phase) c.of_link.ensures
+    refused_only Heard Unit c.in-Err.error _ (probe_refusal s.link.phase) (follows c' s.layer (timer_step (link_settings c') s.link))
+    (probe_named s.link.phase) c.of_link.ensures
     (c.in-Err.ensures.refused (link_settings c') s.link fits.link)

@@ -22,7 +22,8 @@ invariant_of-self c = record {
       leaves_some c' _ _ (unless (relink_refusal s.link.phase) step)
       (leaves_down c' fits.same _ _ (relink_refusal s.link.phase) s.layer k step _ (ap (λ (x : Step). x.near) (relink_down c' s.layer s.link))
       (ap (λ n. n.down) (c.in-Ok.ensures.heard (link_settings c') s.link fits.link).notes)
-      (taken_link (link_settings c') c.relink.new.self c.swap_frames.new.self k.side.near (ap (λ l. l.station) c.swap_frames.ensures.link) (c.in-Ok.ensures.state (link_settings c') s.link fits.link))
+      (taken_link (link_settings c') c.relink.new.self c.swap_frames.new.self k.side.near (ap (λ l. l.station) c.swap_frames.ensures.link)
+      (c.in-Ok.ensures.state (link_settings c') s.link fits.link))
       (c.note_down.ensures.layer (layer_settings c') s.layer fits.layer)
       (ap (λ l. l.frames) c.swap_frames.ensures.link ∙ c.requires.frames)
       (c.steps_keep_bounds.ensures.command c' s Relinks fits.kept))
@@ -30,7 +31,10 @@ invariant_of-self c = record {
 }
 
 pub invariant_of-self-in-Err-1 : goal.invariant_of-self-in-Err-1
-invariant_of-self-in-Err-1 c = record { meant = subst (λ l. AreMeant c.args.self.now.manner l c.args.self.now.layer) (sym c.in-Err.ensures.err) c.args.self.now.meant }
+invariant_of-self-in-Err-1 c = record {
+  meant = subst (λ l. AreMeant c.args.self.now.manner l c.args.self.now.layer) (sym c.in-Err.ensures.err)
+      c.args.self.now.meant;
+}
 
 pub returns-in-Ok-clause-does : goal.returns-in-Ok-clause-does
 returns-in-Ok-clause-does c = record {
@@ -39,27 +43,34 @@ returns-in-Ok-clause-does c = record {
       let step : Step = led_by (relink_asked ∷ []) (follows c' s.layer k) in
       leaves_down c' fits.same _ _ (relink_refusal s.link.phase) s.layer k step _ (ap (λ (x : Step). x.near) (relink_down c' s.layer s.link))
       (ap (λ n. n.down) (c.in-Ok.ensures.heard (link_settings c') s.link fits.link).notes)
-      (taken_link (link_settings c') c.relink.new.self c.swap_frames.new.self k.side.near (ap (λ l. l.station) c.swap_frames.ensures.link) (c.in-Ok.ensures.state (link_settings c') s.link fits.link))
+      (taken_link (link_settings c') c.relink.new.self c.swap_frames.new.self k.side.near (ap (λ l. l.station) c.swap_frames.ensures.link)
+      (c.in-Ok.ensures.state (link_settings c') s.link fits.link))
       (c.note_down.ensures.layer (layer_settings c') s.layer fits.layer)
       (ap (λ l. l.frames) c.swap_frames.ensures.link ∙ c.requires.frames)
       (c.steps_keep_bounds.ensures.command c' s Relinks fits.kept);
   frames = λ c' s fits.
       let k = relink_step (link_settings c') s.link in
       let step : Step = led_by (relink_asked ∷ []) (follows c' s.layer k) in
-      sends_unless c' (record { frames = c.swap_frames.new.frames; entries = c.note_down.new.entries; timer = c.args.out.now.timer }) (relink_refusal s.link.phase) step
-      (frames_down c' s.layer k _ (follows c' s.layer k) (relink_down c' s.layer s.link) (c.swap_frames.ensures.frames ∙ c.in-Ok.ensures.frames (link_settings c') s.link fits.link));
+      sends_unless c' (record { frames = c.swap_frames.new.frames; entries = c.note_down.new.entries; timer = c.args.out.now.timer })
+      (relink_refusal s.link.phase) step
+      (frames_down c' s.layer k _ (follows c' s.layer k) (relink_down c' s.layer s.link)
+      (c.swap_frames.ensures.frames ∙ c.in-Ok.ensures.frames (link_settings c') s.link fits.link));
   entries = λ c' s fits.
       let k = relink_step (link_settings c') s.link in
       let step : Step = led_by (relink_asked ∷ []) (follows c' s.layer k) in
-      enters_unless (record { frames = c.swap_frames.new.frames; entries = c.note_down.new.entries; timer = c.args.out.now.timer }) (relink_refusal s.link.phase) step
-      (entries_noted_down s.layer k (relink_asked ∷ []) _ _ (follows c' s.layer k) (relink_down c' s.layer s.link) (ap (λ n. n.down) (c.in-Ok.ensures.heard (link_settings c') s.link fits.link).notes)
-      (c.note_down.ensures.entries ∙ ap (λ es. map plain_entry es ++ entries_down c.in-Ok.heard.notes.down) (c.push.ensures ∙ ap (λ es. es ++ RelinkAsked ∷ []) c.requires.entries)));
+      enters_unless (record { frames = c.swap_frames.new.frames; entries = c.note_down.new.entries; timer = c.args.out.now.timer })
+      (relink_refusal s.link.phase) step
+      (entries_noted_down s.layer k (relink_asked ∷ []) _ _ (follows c' s.layer k) (relink_down c' s.layer s.link)
+      (ap (λ n. n.down) (c.in-Ok.ensures.heard (link_settings c') s.link fits.link).notes)
+      (c.note_down.ensures.entries ∙ ap (λ es. map plain_entry es ++ entries_down c.in-Ok.heard.notes.down)
+      (c.push.ensures ∙ ap (λ es. es ++ RelinkAsked ∷ []) c.requires.entries)));
   refused = λ c' s fits.
       let step : Step = led_by (relink_asked ∷ []) (follows c' s.layer (relink_step (link_settings c') s.link)) in
       goes _ (relink_refusal s.link.phase) step (c.in-Ok.ensures.refused (link_settings c') s.link fits.link);
   stays = λ c' s fits. tt;
   empty = tt;
-  few_frames = (let same : length c.swap_frames.new.frames ≡ length c.relink.new.self.frames = ap length c.swap_frames.ensures.frames in omega (arith, same, c.in-Ok.ensures.few));
+  few_frames = (let same : length c.swap_frames.new.frames ≡ length c.relink.new.self.frames = ap length c.swap_frames.ensures.frames in
+      omega (arith, same, c.in-Ok.ensures.few));
   few_entries = c.note_down.new.entries.few;
 }
 
@@ -73,9 +84,11 @@ returns-in-Err-clause-does c = declines c.args.self.now _ _ _ relinks (λ c' s f
 
 pub returns-in-Ok-clause-only : goal.returns-in-Ok-clause-only
 returns-in-Ok-clause-only c = λ c' s fits.
-    goes_only _ (relink_refusal s.link.phase) (led_by (relink_asked ∷ []) (follows c' s.layer (relink_step (link_settings c') s.link))) (c.in-Ok.ensures.refused (link_settings c') s.link fits.link)
+    goes_only _ (relink_refusal s.link.phase) (led_by (relink_asked ∷ []) (follows c' s.layer (relink_step (link_settings c') s.link)))
+    (c.in-Ok.ensures.refused (link_settings c') s.link fits.link)
 
 pub returns-in-Err-clause-only : goal.returns-in-Err-clause-only
 returns-in-Err-clause-only c = λ c' s fits.
-    refused_only Heard Unit c.in-Err.error _ (relink_refusal s.link.phase) (led_by (relink_asked ∷ []) (follows c' s.layer (relink_step (link_settings c') s.link))) (relink_named s.link.phase) c.of_link.ensures
+    refused_only Heard Unit c.in-Err.error _ (relink_refusal s.link.phase)
+    (led_by (relink_asked ∷ []) (follows c' s.layer (relink_step (link_settings c') s.link))) (relink_named s.link.phase) c.of_link.ensures
     (c.in-Err.ensures.refused (link_settings c') s.link fits.link)

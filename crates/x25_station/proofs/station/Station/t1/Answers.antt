@@ -11,6 +11,9 @@ returns-clause-does c = retimed _ _ c.fire-answer.new.out c.timer_behind-out.res
 
 pub returns-clause-timer : goal.returns-clause-timer
 returns-clause-timer c = λ c' s fits.
-    timed c' s c.args.self.now c.fire-answer.new.self c.fire-answer.new.out c.timer_behind-out.result fits c.fire-answer.result _ c.is_ok.result true c.fire-answer.ensures.does (ok_fired c.fire-answer.result c.is_ok.result c.is_ok.ensures.value) (err_fired c.fire-answer.result c.is_ok.result c.is_ok.ensures.value)
+    timed c' s c.args.self.now c.fire-answer.new.self c.fire-answer.new.out c.timer_behind-out.result fits c.fire-answer.result _ c.is_ok.result true
+    c.fire-answer.ensures.does (ok_fired c.fire-answer.result c.is_ok.result c.is_ok.ensures.value)
+    (err_fired c.fire-answer.result c.is_ok.result c.is_ok.ensures.value)
     (fired_none c' s)
-    (λ step near entries none. c.timer_behind-out.ensures c' s step (c.timer_runs-ran.ensures (link_settings c') s.link fits.link) near (ap (map plain_entry) c.as_slice.ensures ∙ entries) none)
+    (λ step near entries none. c.timer_behind-out.ensures c' s step (c.timer_runs-ran.ensures (link_settings c') s.link fits.link) near
+    (ap (map plain_entry) c.as_slice.ensures ∙ entries) none)

@@ -18,22 +18,27 @@ pub abandon-requires-clause-up : goal.abandon-requires-clause-up
 abandon-requires-clause-up c = sym c.is_up.ensures.value ∙ and_left c.is_up.result c.full.result c.if-is_full.true
 
 pub abandon-requires-clause-full : goal.abandon-requires-clause-full
-abandon-requires-clause-full c = λ c' s fits. abandoned c' s (c.is_up.ensures.state (link_settings c') s.link fits.link) (c.full.ensures.value (layer_settings c') s.layer fits.layer) c.if-is_full.true
+abandon-requires-clause-full c = λ c' s fits. abandoned c' s (c.is_up.ensures.state (link_settings c') s.link fits.link)
+    (c.full.ensures.value (layer_settings c') s.layer fits.layer) c.if-is_full.true
 
 pub follow-requires-clause-up : goal.follow-requires-clause-up
 follow-requires-clause-up c = λ is. put_by_meaning _ c.take-heard.new.self _ c.args.self.now.meant (λ c' s fits.
     let lk = link_settings c' in
-    up_can_put c.notes_what_changes.ensures.take c' c.take-heard.new.self c.args.octets.now s.link (c.take-heard.ensures.state lk s.link fits.link) c.take-heard.ensures.few (sym (ap (λ (n : Notes). n.up) ((c.take-heard.ensures.heard lk s.link fits.link).notes)) ∙ is))
+    up_can_put c.notes_what_changes.ensures.take c' c.take-heard.new.self c.args.octets.now s.link (c.take-heard.ensures.state lk s.link fits.link)
+    c.take-heard.ensures.few (sym (ap (λ (n : Notes). n.up) ((c.take-heard.ensures.heard lk s.link fits.link).notes)) ∙ is))
 
 pub follow-requires-clause-put : goal.follow-requires-clause-put
-follow-requires-clause-put c = if_some c.take-heard.result.packet (λ x. CanPut c.take-heard.new.self) (λ p is. put_by_meaning _ c.take-heard.new.self _ c.args.self.now.meant (λ c' s fits.
+follow-requires-clause-put c = if_some c.take-heard.result.packet (λ x. CanPut c.take-heard.new.self)
+    (λ p is. put_by_meaning _ c.take-heard.new.self _ c.args.self.now.meant (λ c' s fits.
     let lk = link_settings c' in
-    handed_can_put c.notes_what_changes.ensures.take c.notes_what_changes.ensures.take_hands_up c' c.take-heard.new.self c.args.octets.now s.link p.now (c.take-heard.ensures.state lk s.link fits.link) c.take-heard.ensures.few
+    handed_can_put c.notes_what_changes.ensures.take c.notes_what_changes.ensures.take_hands_up c' c.take-heard.new.self c.args.octets.now s.link p.now
+    (c.take-heard.ensures.state lk s.link fits.link) c.take-heard.ensures.few
     (sym ((c.take-heard.ensures.heard lk s.link fits.link).packet) ∙ ap option_copied is)))
 
 pub follow-requires-clause-left : goal.follow-requires-clause-left
 follow-requires-clause-left c = if_some c.take-heard.result.packet (λ x. IsNotFull c.args.self.now.layer) (λ p is.
-    c.full.ensures.left (not_full c.is_up.result c.full.result (c.is_up.ensures.value ∙ up_by_meaning _ _ (up_of c.args.self.now.link) c.args.self.now.meant (λ c' s fits.
+    c.full.ensures.left (not_full c.is_up.result c.full.result
+    (c.is_up.ensures.value ∙ up_by_meaning _ _ (up_of c.args.self.now.link) c.args.self.now.meant (λ c' s fits.
     let lk = link_settings c' in
     handed_was_up c.notes_what_changes.ensures.take_hands_up c' c.args.self.now.link c.args.octets.now s.link p.now fits.link
     (sym ((c.take-heard.ensures.heard lk s.link fits.link).packet) ∙ ap option_copied is))) c.if-is_full.false))
@@ -44,11 +49,16 @@ invariant_of-self-2 c = record {
       let lk = link_settings c' in
       let k : LinkStep = take_step lk c.args.octets.now s.link in
       let heard = c.take-heard.ensures.heard lk s.link fits.link in
-      let whole : FitsWhole c.take-heard.new.self (kept_of lk k.side) = record { link = c.take-heard.ensures.state lk s.link fits.link; kept = c.take-heard.ensures.frames lk s.link fits.link } in (
+      let whole : FitsWhole c.take-heard.new.self (kept_of lk k.side) =
+      record { link = c.take-heard.ensures.state lk s.link fits.link; kept = c.take-heard.ensures.frames lk s.link fits.link } in (
         c',
         (receives c' s c.args.octets.now).near,
-        took_fits c' fits.same s c.args.octets.now (option_copied c.take-heard.result.packet) c.take-heard.result.notes c.follow.new.link c.swap_frames.new.self c.follow.new.layer (not_abandoned c' s (c.is_up.ensures.state (link_settings c') s.link fits.link) (c.full.ensures.value (layer_settings c') s.layer fits.layer) c.if-is_full.false) (heard.packet, heard.notes)
-            (c.follow.ensures.puts.link c' s.layer k.side fits.layer whole) (c.follow.ensures.puts.layer c' s.layer k.side fits.layer whole) (ap (λ l. l.station) c.swap_frames.ensures.link) (ap (λ l. l.frames) c.swap_frames.ensures.link ∙ c.requires.frames)
+        took_fits c' fits.same s c.args.octets.now (option_copied c.take-heard.result.packet) c.take-heard.result.notes c.follow.new.link
+            c.swap_frames.new.self c.follow.new.layer
+            (not_abandoned c' s (c.is_up.ensures.state (link_settings c') s.link fits.link) (c.full.ensures.value (layer_settings c') s.layer fits.layer)
+            c.if-is_full.false) (heard.packet, heard.notes)
+            (c.follow.ensures.puts.link c' s.layer k.side fits.layer whole) (c.follow.ensures.puts.layer c' s.layer k.side fits.layer whole)
+            (ap (λ l. l.station) c.swap_frames.ensures.link) (ap (λ l. l.frames) c.swap_frames.ensures.link ∙ c.requires.frames)
             (c.steps_keep_bounds.ensures.receive c' s c.args.octets.now fits.kept),
       ));
 }
@@ -59,24 +69,34 @@ returns-clause-does c = record {
       let lk = link_settings c' in
       let k : LinkStep = take_step lk c.args.octets.now s.link in
       let heard = c.take-heard.ensures.heard lk s.link fits.link in
-      let whole : FitsWhole c.take-heard.new.self (kept_of lk k.side) = record { link = c.take-heard.ensures.state lk s.link fits.link; kept = c.take-heard.ensures.frames lk s.link fits.link } in
-      took_fits c' fits.same s c.args.octets.now (option_copied c.take-heard.result.packet) c.take-heard.result.notes c.follow.new.link c.swap_frames.new.self c.follow.new.layer (not_abandoned c' s (c.is_up.ensures.state (link_settings c') s.link fits.link) (c.full.ensures.value (layer_settings c') s.layer fits.layer) c.if-is_full.false) (heard.packet, heard.notes)
-      (c.follow.ensures.puts.link c' s.layer k.side fits.layer whole) (c.follow.ensures.puts.layer c' s.layer k.side fits.layer whole) (ap (λ l. l.station) c.swap_frames.ensures.link) (ap (λ l. l.frames) c.swap_frames.ensures.link ∙ c.requires.frames)
+      let whole : FitsWhole c.take-heard.new.self (kept_of lk k.side) =
+      record { link = c.take-heard.ensures.state lk s.link fits.link; kept = c.take-heard.ensures.frames lk s.link fits.link } in
+      took_fits c' fits.same s c.args.octets.now (option_copied c.take-heard.result.packet) c.take-heard.result.notes c.follow.new.link c.swap_frames.new.self
+      c.follow.new.layer (not_abandoned c' s (c.is_up.ensures.state (link_settings c') s.link fits.link)
+      (c.full.ensures.value (layer_settings c') s.layer fits.layer) c.if-is_full.false) (heard.packet, heard.notes)
+      (c.follow.ensures.puts.link c' s.layer k.side fits.layer whole) (c.follow.ensures.puts.layer c' s.layer k.side fits.layer whole)
+      (ap (λ l. l.station) c.swap_frames.ensures.link) (ap (λ l. l.frames) c.swap_frames.ensures.link ∙ c.requires.frames)
       (c.steps_keep_bounds.ensures.receive c' s c.args.octets.now fits.kept);
   frames = λ c' s fits.
       let lk = link_settings c' in
       let k : LinkStep = take_step lk c.args.octets.now s.link in
       let heard = c.take-heard.ensures.heard lk s.link fits.link in
-      let whole : FitsWhole c.take-heard.new.self (kept_of lk k.side) = record { link = c.take-heard.ensures.state lk s.link fits.link; kept = c.take-heard.ensures.frames lk s.link fits.link } in
+      let whole : FitsWhole c.take-heard.new.self (kept_of lk k.side) =
+      record { link = c.take-heard.ensures.state lk s.link fits.link; kept = c.take-heard.ensures.frames lk s.link fits.link } in
       let link = c.follow.ensures.puts.link c' s.layer k.side fits.layer whole in
       c.swap_frames.ensures.frames
-      ∙ took_sends c' fits.same s c.args.octets.now (option_copied c.take-heard.result.packet) c.take-heard.result.notes _ (not_abandoned c' s (c.is_up.ensures.state (link_settings c') s.link fits.link) (c.full.ensures.value (layer_settings c') s.layer fits.layer) c.if-is_full.false) (heard.packet, heard.notes) link.kept;
+      ∙ took_sends c' fits.same s c.args.octets.now (option_copied c.take-heard.result.packet) c.take-heard.result.notes
+      _ (not_abandoned c' s (c.is_up.ensures.state (link_settings c') s.link fits.link) (c.full.ensures.value (layer_settings c') s.layer fits.layer)
+      c.if-is_full.false) (heard.packet, heard.notes) link.kept;
   entries = λ c' s fits.
       let lk = link_settings c' in
       let k : LinkStep = take_step lk c.args.octets.now s.link in
       let heard = c.take-heard.ensures.heard lk s.link fits.link in
-      let whole : FitsWhole c.take-heard.new.self (kept_of lk k.side) = record { link = c.take-heard.ensures.state lk s.link fits.link; kept = c.take-heard.ensures.frames lk s.link fits.link } in
-      took_enters c' fits.same s c.args.octets.now (option_copied c.take-heard.result.packet) c.take-heard.result.notes _ (not_abandoned c' s (c.is_up.ensures.state (link_settings c') s.link fits.link) (c.full.ensures.value (layer_settings c') s.layer fits.layer) c.if-is_full.false) (heard.packet, heard.notes)
+      let whole : FitsWhole c.take-heard.new.self (kept_of lk k.side) =
+      record { link = c.take-heard.ensures.state lk s.link fits.link; kept = c.take-heard.ensures.frames lk s.link fits.link } in
+      took_enters c' fits.same s c.args.octets.now (option_copied c.take-heard.result.packet) c.take-heard.result.notes
+      _ (not_abandoned c' s (c.is_up.ensures.state (link_settings c') s.link fits.link) (c.full.ensures.value (layer_settings c') s.layer fits.layer)
+      c.if-is_full.false) (heard.packet, heard.notes)
       (c.follow.ensures.entries c' s.layer k.side fits.layer whole);
   refused = λ c' s fits. tt;
   stays = λ c' s fits. tt;
@@ -85,10 +105,12 @@ returns-clause-does c = record {
       let most : length c.follow.new.link.frames ≤ 9 = least_by_meaning _ _ (length c.follow.new.link.frames) 9 c.args.self.now.meant (λ c' s fits.
       let lk = link_settings c' in
       let k : LinkStep = take_step lk c.args.octets.now s.link in
-      let whole : FitsWhole c.take-heard.new.self (kept_of lk k.side) = record { link = c.take-heard.ensures.state lk s.link fits.link; kept = c.take-heard.ensures.frames lk s.link fits.link } in
+      let whole : FitsWhole c.take-heard.new.self (kept_of lk k.side) =
+      record { link = c.take-heard.ensures.state lk s.link fits.link; kept = c.take-heard.ensures.frames lk s.link fits.link } in
       let step = put_behind c' c.args.self.now.manner.wide s k (option_copied c.take-heard.result.packet) c.take-heard.result.notes in
       let link = c.follow.ensures.puts.link c' s.layer k.side fits.layer whole in
-      let few = few_heard lk c.args.octets.now s.link step.put (c.holds_few.ensures.window lk c.args.self.now.link s.link fits.link) (c.holds_few.ensures.stand lk c.args.self.now.link s.link fits.link).place_low in
+      let few = few_heard lk c.args.octets.now s.link step.put (c.holds_few.ensures.window lk c.args.self.now.link s.link fits.link)
+      (c.holds_few.ensures.stand lk c.args.self.now.link s.link fits.link).place_low in
       few_made c'.role c.follow.new.link.frames (all_put lk step.put k.side).out 9 link.kept few) in
       let same : length c.swap_frames.new.frames ≡ length c.follow.new.link.frames = ap length c.swap_frames.ensures.frames in
       omega (arith, most, same);
@@ -99,4 +121,6 @@ pub returns-clause-acknowledged : goal.returns-clause-acknowledged
 returns-clause-acknowledged c = λ c' s fits.
     let lk = link_settings c' in
     let heard = c.take-heard.ensures.heard lk s.link fits.link in
-    heard.acknowledged ∙ took_acknowledged c' s c.args.octets.now (not_abandoned c' s (c.is_up.ensures.state (link_settings c') s.link fits.link) (c.full.ensures.value (layer_settings c') s.layer fits.layer) c.if-is_full.false)
+    heard.acknowledged ∙ took_acknowledged c' s c.args.octets.now
+    (not_abandoned c' s (c.is_up.ensures.state (link_settings c') s.link fits.link) (c.full.ensures.value (layer_settings c') s.layer fits.layer)
+    c.if-is_full.false)

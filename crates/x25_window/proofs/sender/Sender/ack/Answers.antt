@@ -11,4 +11,5 @@ returns-clause-step g c = λ w fits.
     let next = subst (λ (h : Held _). (h.first + count) % 8 ≡ c.args.number.number) (sym c.self.view_is) c.in_ok-count.ensures.held.1 in
     let items = c.self.inside.items.items in
     let skip : length items - (c.len.result - count) ≡ count = omega (arith, few, c.len.ensures) in
-    Fits_acknowledged _ w count _ _ _ inside few (sym next) c.saturating_sub-self-inside.ensures (ap (λ b. b.items) c.truncate_front.ensures ∙ ap (λ k. drop k items) skip)
+    Fits_acknowledged _ w count _ _ _ inside few (sym next) c.saturating_sub-self-inside.ensures
+    (ap (λ b. b.items) c.truncate_front.ensures ∙ ap (λ k. drop k items) skip)
