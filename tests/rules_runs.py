@@ -2,12 +2,12 @@
 
     rules_runs.py [--program PROGRAM] [--from SEED] [RUNS]
 
-A tape begins with a set-up, a RESTART and its confirmation. Then come frames that their ends may send by rules.py, and at times any: I frames
-with packets on two channels, RR, RNR and REJ, and in half of the tapes SABM, UA, DISC, DM and FRMR. In copies of it a frame is left out, comes
-twice, or changes places with the next one; and in others what a trace may lack is missing: its beginning, a stretch in place of which gaps
-stand, frames that the line loses before a place where it is taken, or frames that can't be read. An end is accused where `judge` tells a rule
-of it without doubt, and by rules.py it has broken none of that layer up to there. It is missed where it breaks its first rule of a layer, and
-`judge` tells nothing of it up to there but counts that as judged.
+A tape begins with a set-up, a RESTART and its confirmation, or with a SABM that goes three times and a RESTART after the second. Then come
+frames that their ends may send by rules.py, and at times any: I frames with packets on two channels, RR, RNR and REJ, and in half of the tapes
+SABM, UA, DISC, DM and FRMR. In copies of it a frame is left out, comes twice, or changes places with the next one; and in others what a trace
+may lack is missing: its beginning, a stretch in place of which gaps stand, frames that the line loses before a place where it is taken, or
+frames that can't be read. An end is accused where `judge` tells a rule of it without doubt, and by rules.py it has broken none of that layer up
+to there. It is missed where it breaks its first rule of a layer, and `judge` tells nothing of it up to there but counts that as judged.
 
 Exit status: 0; 1 where one was missed or accused, with the seed; 2 for bad words, or where there is no program.
 """
@@ -51,6 +51,14 @@ BEGINNING = (
     Frame("<", INFO, 1, 0, packet(0, RESTART_CONFIRMATION)),
     Frame(">", RR, 1),
 )
+ASKED_THRICE = (
+    Frame("<", SABM),
+    Frame(">", UA),
+    Frame("<", SABM),
+    Frame("<", INFO, 0, 0, packet(0, RESTART)),
+    Frame("<", SABM),
+    Frame(">", UA),
+)
 
 
 def line(frame, bit):
@@ -67,7 +75,8 @@ class Tape:
     def __init__(self, seed):
         self.dice, self.ends, self.frames = losses.Dice(seed), rules.Ends(), []
         self.honest, self.set_ups = self.dice.one_of((0.8, 0.93, 1)), self.dice.one_of((0, 0.12))
-        for frame in BEGINNING:
+        self.beginning = self.dice.one_of((BEGINNING, BEGINNING, BEGINNING, ASKED_THRICE))
+        for frame in self.beginning:
             self.add(frame)
         for _ in range(LENGTH):
             self.add(self.next())
@@ -120,7 +129,7 @@ class Tape:
         """The lines of the tape, and of some in which a frame after its beginning is left out, comes twice, or changes places with the next one."""
         yield self.lines(self.frames)
         for _ in range(COPIES):
-            place = len(BEGINNING) + self.dice.below(LENGTH - 1)
+            place = len(self.beginning) + self.dice.below(LENGTH - 1)
             one, two = self.frames[place : place + 2]
             yield self.lines([*self.frames[:place], *self.dice.one_of(([two], [one, one, two], [two, one], [one, two, one])), *self.frames[place + 2 :]])
 

@@ -1,7 +1,6 @@
 -- The lines on the packets of each channel, one after another.
 use Rattle.std.proofs.Common.{◌≡◌, ◌∙◌, ◌+◌, ◌<◌, ℕ, List, [], ◌∷◌, ◌++◌, length, take, drop, get_or, ap, sym}
-use Rattle.std.proofs.lemmas.Grind.{flat_map-append}
-use Rattle.std.proofs.lemmas.List.{append-nil, take_more, take-append-drop}
+use Rattle.std.proofs.lemmas.{Grind.{flat_map-append}, List.{append-nil, take_more, take-append-drop}}
 use Rattle.std.specs.List.{flat_map}
 use Rattle.x25_bits.specs.declared.role.Role.{Role}
 use Rattle.x25_judge.specs.Counts.{packets_line}
@@ -22,6 +21,5 @@ module _ (from : Role) where
   pub all_parts : (xs : List Count) (i : ℕ) (d : Count) → i < length xs
       → lines_of_all xs ≡ (lines_of_all (take i xs) ++ packets_line from (get_or xs i d)) ++ lines_of_all (drop (i + 1) xs)
   all_parts xs i d inside =
-      ap lines_of_all (sym (take-append-drop (i + 1) xs))
-      ∙ flat_map-append (packets_line from) (take (i + 1) xs) (drop (i + 1) xs)
+      ap lines_of_all (sym (take-append-drop (i + 1) xs)) ∙ flat_map-append (packets_line from) (take (i + 1) xs) (drop (i + 1) xs)
       ∙ ap (λ t. t ++ lines_of_all (drop (i + 1) xs)) (all_more xs i d inside)

@@ -2,20 +2,20 @@
 use Rattle.std.proofs.Common.{◌≡◌, ◌∙◌, ◌<◌, ◌||◌, ℕ, Bool, false, List, [], ◌∷◌, ◌++◌, Option, None, Result, length, append_assoc, ap, sym, subst, refl}
 use Rattle.std.specs.Prelude.{MatchResult}
 use Rattle.x25_decode.specs.Decoding.{gap_in, sent_in}
-use Rattle.x25_io.specs.HeldLine.{most_line}
-use Rattle.x25_io.specs.Loose.{asked, carried}
+use Rattle.x25_io.specs.{HeldLine.{most_line}, Loose.{asked, carried}}
 use Rattle.x25_io.specs.code.Written.{AppendsPrefix, Tells}
 use Rattle.x25_io.proofs.LooseLemmas.{long_asked, long_carried}
-use Rattle.x25_judge.specs.Answerer.{reply, reply_to, text_of, has_fault}
-use Rattle.x25_judge.specs.Judge.{answer_to, counts_text, gap_of, is_nothing, sent_of}
+use Rattle.x25_judge.specs.{Answerer.{reply, reply_to, text_of, has_fault}, Judge.{answer_to, counts_text, gap_of, is_nothing, sent_of}}
 use Rattle.x25_judge.specs.declared.judge.Judge.{Judge}
 
 module _ (loose : Bool) (j : Judge) where
-  pub text_first : (line : List ℕ) (lines : List (List ℕ)) → text_of loose j (line ∷ lines) ≡ (reply loose j line).text ++ text_of loose (reply loose j line).next lines
+  pub text_first : (line : List ℕ) (lines : List (List ℕ)) → text_of loose j (line ∷ lines) ≡ (reply loose j line).text
+      ++ text_of loose (reply loose j line).next lines
   unfolding text_of
   text_first line lines = refl
 
-  pub fault_first : (line : List ℕ) (lines : List (List ℕ)) → has_fault loose j (line ∷ lines) ≡ ((reply loose j line).counts || has_fault loose (reply loose j line).next lines)
+  pub fault_first : (line : List ℕ) (lines : List (List ℕ)) → has_fault loose j (line ∷ lines)
+      ≡ ((reply loose j line).counts || has_fault loose (reply loose j line).next lines)
   unfolding has_fault
   fault_first line lines = refl
 
@@ -28,7 +28,8 @@ module _ (loose : Bool) (j : Judge) where
   no_fault = refl
 
   -- the answer in parts
-  pub reply_text : (line head : List ℕ) (o : Option (List ℕ)) → head ≡ carried loose line → asked loose line ≡ o → (reply loose j line).text ≡ head ++ (reply_to j o).text
+  pub reply_text : (line head : List ℕ) (o : Option (List ℕ)) → head ≡ carried loose line → asked loose line ≡ o → (reply loose j line).text ≡ head
+      ++ (reply_to j o).text
   unfolding reply
   reply_text line head o is found = ap (λ t. t ++ (reply_to j (asked loose line)).text) (sym is) ∙ ap (λ x. head ++ (reply_to j x).text) found
 

@@ -1,19 +1,12 @@
 -- A frame between two ends in a session, with nothing on the way.
 use Rattle.std.proofs.Common.{Bool, true, false, ◌≡◌, ◌&&◌, nat_lt, ℕ, refl, ap, ◌∙◌}
 use Rattle.x25_frame.specs.Frame.{PlainFrame, info}
-use Rattle.x25_judge.specs.Held.{differs, is_same, keeps}
-use Rattle.x25_judge.specs.Links.{end_sent, end_shown, held_by, is_blind, judges, mind, minds, quiet}
+use Rattle.x25_judge.specs.{Held.{differs, is_same, keeps}, Links.{end_sent, end_shown, held_by, is_blind, judges, mind, minds, quiet}}
 use Rattle.x25_judge.specs.Links.{is_up, quietly, sees, sees_as, sees_by, sent_by, shown, steady}
-use Rattle.x25_judge.specs.declared.links.End.{End}
-use Rattle.x25_judge.specs.declared.links.Sent.{Sent}
-use Rattle.x25_judge.specs.declared.manners.Manners.{Manners}
+use Rattle.x25_judge.specs.declared.{links.End.{End}, links.Sent.{Sent}, manners.Manners.{Manners}}
 use Rattle.x25_possible_links.specs.code.Steps.{IsStep, IsTaken, Stepped, in_session, marked, numbers, sends_to, session_facts, telling, unread}
-use Rattle.x25_possible_links.specs.declared.frame.Frame.{Frame}
-use Rattle.x25_possible_links.specs.declared.set.Facts.{Facts}
-use Rattle.x25_possible_links.specs.declared.set.LinkSet.{LinkSet}
-use Rattle.x25_possible_links.specs.declared.set.Told.TheVariants.{Nothing}
-use Rattle.x25_possible_links.specs.declared.stand.Numbers.{Numbers}
-use Rattle.x25_possible_links.specs.declared.stand.Stand.TheVariants.{Up}
+use Rattle.x25_possible_links.specs.declared.{frame.Frame.{Frame}, set.Facts.{Facts}, set.LinkSet.{LinkSet}, set.Told.TheVariants.{Nothing}}
+use Rattle.x25_possible_links.specs.declared.{stand.Numbers.{Numbers}, stand.Stand.TheVariants.{Up}}
 
 shown_so : (frame : PlainFrame) (d : Bool) → shown frame d ≡ marked d (shown frame false)
 unfolding shown
@@ -23,8 +16,7 @@ shown_so frame d = refl
 sent_so : (frame : PlainFrame) (e : End) (k next : Numbers) (x : Frame) (d : Bool) → IsStep x k next e.set
     → sent_by frame (marked d x) e ≡ steady (is_same e.held frame) k
 sent_so frame e k next x d step =
-    ap (λ (a : Facts). of a (sends_to (marked d x) e.set) e.set) (step.known d)
-    ∙ ap (λ (r : Stepped). of (session_facts k) r e.set) (step.step d)
+    ap (λ (a : Facts). of a (sends_to (marked d x) e.set) e.set) (step.known d) ∙ ap (λ (r : Stepped). of (session_facts k) r e.set) (step.step d)
     ∙ ap (of (session_facts k) (telling Nothing (in_session next e.set))) step.stands
   where
     of : Facts → Stepped → LinkSet → Sent
@@ -36,10 +28,9 @@ sent_so frame e k next x d step =
     }
 
 pub passing : (window : ℕ) (frame : PlainFrame) (own other : End) (k next taken : Numbers) (m n : Manners)
-    → IsStep (shown frame false) k next own.set → IsTaken (shown frame false) taken other.set → ((polls : ℕ) (is_same : Bool) → judges polls frame (steady is_same k).facts ≡ true)
-    → ((is_same : Bool) (to : LinkSet) → numbers to ≡ Up taken
-    → minds window (steady is_same k) to frame (quietly own.manners other.manners) ≡ quietly m n)
-    → sees window frame own other ≡ record {
+    → IsStep (shown frame false) k next own.set → IsTaken (shown frame false) taken other.set
+    → ((polls : ℕ) (is_same : Bool) → judges polls frame (steady is_same k).facts ≡ true) → ((is_same : Bool) (to : LinkSet) → numbers to ≡ Up taken
+    → minds window (steady is_same k) to frame (quietly own.manners other.manners) ≡ quietly m n) → sees window frame own other ≡ record {
       own = record { set = in_session next own.set; held = keeps own.held frame; manners = m };
       other = record { set = in_session taken other.set; held = other.held; manners = n };
       seen = quiet;
@@ -47,14 +38,12 @@ pub passing : (window : ℕ) (frame : PlainFrame) (own other : End) (k next take
 passing window frame own other k next taken m n step take judged minded =
     ap (λ y. sees_as window frame y (is_blind own other) own other) (shown_so frame d)
     ∙ ap (λ (t : Sent). sees_by window frame y (is_blind own other) t (end_sent frame y own) (end_shown y other))
-    (sent_so frame own k next (shown frame false) d step)
-    ∙ ap (λ (r : Stepped). sees_by window frame y (is_blind own other) t
+    (sent_so frame own k next (shown frame false) d step) ∙ ap (λ (r : Stepped). sees_by window frame y (is_blind own other) t
     (record own { set = r.set; held = keeps (held_by r.told own.held) frame }) (end_shown y other)) (step.step d)
     ∙ ap (λ (s : LinkSet). sees_by window frame y (is_blind own other) t one (record other { set = s })) (take.step d)
     ∙ ap (λ (b : Bool). mind one two (minds window t two.set frame (record (quietly own.manners other.manners) {
       seen = record quiet { is_judged = b };
-    }))) (judged other.manners.polls (is_same own.held frame))
-    ∙ ap (mind one two) (minded (is_same own.held frame) two.set take.there)
+    }))) (judged other.manners.polls (is_same own.held frame)) ∙ ap (mind one two) (minded (is_same own.held frame) two.set take.there)
   where
     d : Bool
     d = differs own.held frame

@@ -5,8 +5,8 @@ use Rattle.std.proofs.{Math.Bool.{or_assoc}, lemmas.List.{append-nil}}
 use Rattle.x25_io.specs.{HeldLine.{HoldsLine}, declared.held_line.HeldLine.{HeldLine}, Lines.{lines_of}, code.LinesLead.{LinesLead}}
 use Rattle.x25_io.specs.code.Written.{AppendsPrefix, Tells}
 use Rattle.x25_io.proofs.{TakerLemmas.{between}, ToldLemmas.{prefix_more, none_told, part_of_all, told_prefix}}
-use Rattle.x25_judge.specs.{Answerer.{reply, output_by, text_of, has_fault}, Judge.{counts_text, is_nothing}, code.Stream.{JudgesOn, WritesLines}, declared.answerer.Answerer.{Answerer}}
-use Rattle.x25_judge.specs.declared.judge.Judge.{Judge}
+use Rattle.x25_judge.specs.{Answerer.{reply, output_by, text_of, has_fault}, Judge.{counts_text, is_nothing}, code.Stream.{JudgesOn, WritesLines}}
+use Rattle.x25_judge.specs.declared.{answerer.Answerer.{Answerer}, judge.Judge.{Judge}}
 use Rattle.x25_judge.proofs.LineLemmas.{text_first, fault_first, no_text, no_fault}
 
 -- before anything is read
@@ -21,7 +21,8 @@ start loose j old a input reads same none right = record {
 }
 
 pub input_begins : (loose : Bool) (j : Judge) (old : Option (List ℕ)) (held first : HeldLine) (a b : Answerer) → held ≡ first → a ≡ b → HoldsLine [] first
-    → b.loose ≡ loose → b.judge ≡ j → b.output ≡ [] → b.is_faulty ≡ false → (input : List ℕ) → LinesLead (λ lines. JudgesOn loose j a old old lines input) held input
+    → b.loose ≡ loose → b.judge ≡ j → b.output ≡ [] → b.is_faulty ≡ false → (input : List ℕ)
+    → LinesLead (λ lines. JudgesOn loose j a old old lines input) held input
 input_begins loose j old held first a b is_held is_answerer empty reads same none right input =
     between (λ (lines : List (List ℕ)). JudgesOn loose j a old old lines input) held input (subst (HoldsLine []) (sym is_held) empty)
     (start loose j old a input (ap (λ (a : Answerer). a.loose) is_answerer ∙ reads) (ap (λ (a : Answerer). a.judge) is_answerer ∙ same)
@@ -42,7 +43,8 @@ module _ (loose : Bool) (j : Judge) (old now next : Option (List ℕ)) (input : 
             ∙ append_assoc h.told answer.text (text_of loose answer.next lines) ∙ ap (λ t. h.told ++ t) (sym (text_first loose a.judge line lines)) ∙ h.same;
         status = ap (λ k. b.is_faulty || has_fault loose k lines) (judge ∙ ap (λ l. (reply l a.judge line).next) h.reads)
             ∙ ap (λ f. f || has_fault loose answer.next lines) (faulty ∙ ap (λ l. a.is_faulty || (reply l a.judge line).counts) h.reads)
-            ∙ or_assoc a.is_faulty answer.counts (has_fault loose answer.next lines) ∙ ap (λ f. a.is_faulty || f) (sym (fault_first loose a.judge line lines)) ∙ h.status;
+            ∙ or_assoc a.is_faulty answer.counts (has_fault loose answer.next lines) ∙ ap (λ f. a.is_faulty || f) (sym (fault_first loose a.judge line lines))
+            ∙ h.status;
       }
 
   pub line_failed : (a : Answerer) (line : List ℕ) (lines : List (List ℕ)) (h : JudgesOn loose j a old now (line ∷ lines) input)
@@ -52,11 +54,13 @@ module _ (loose : Bool) (j : Judge) (old now next : Option (List ℕ)) (input : 
       (subst (λ l. AppendsPrefix old next (h.told ++ (reply l a.judge line).text)) h.reads b))
 
   -- what waited is written
-  pub part_written : (a : Answerer) (lines : List (List ℕ)) (h : JudgesOn loose j a old now lines input) → AppendsPrefix old next h.told → AppendsPrefix old next (output_by loose j input)
+  pub part_written : (a : Answerer) (lines : List (List ℕ)) (h : JudgesOn loose j a old now lines input) → AppendsPrefix old next h.told
+      → AppendsPrefix old next (output_by loose j input)
   part_written a lines h b = subst (AppendsPrefix old next) h.same (prefix_more old next h.told (text_of loose a.judge lines) b)
 
-  pub all_written : (a : Answerer) (output : List ℕ) (lines : List (List ℕ)) (h : JudgesOn loose j a old now lines input) → Tells old next output h.told → output ≡ []
-      → JudgesOn loose j (record a { output = output }) old next lines input × WritesLines loose old next lines (output_by loose j input) × AppendsPrefix old next (output_by loose j input)
+  pub all_written : (a : Answerer) (output : List ℕ) (lines : List (List ℕ)) (h : JudgesOn loose j a old now lines input) → Tells old next output h.told
+      → output ≡ [] → JudgesOn loose j (record a { output = output }) old next lines input × WritesLines loose old next lines (output_by loose j input)
+      × AppendsPrefix old next (output_by loose j input)
   all_written a output lines h tells none = (
     record { reads = h.reads; told = h.told; tells = tells; same = h.same; status = h.status },
     record {

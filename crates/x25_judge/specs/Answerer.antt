@@ -1,7 +1,6 @@
 -- What `judge` answers to the lines of an input, with what stands beside what they ask (profile).
 use Rattle.std.specs.Prelude.{ℕ, Bool, false, ◌||◌, List, [], ◌∷◌, ◌++◌, codes, if◌then◌else◌, Option, Some, None}
-use Rattle.x25_io.specs.Lines.{lines_of}
-use Rattle.x25_io.specs.Loose.{asked, carried}
+use Rattle.x25_io.specs.{Lines.{lines_of}, Loose.{asked, carried}}
 use Rattle.x25_judge.specs.Judge.{Answer, answer_to, counts_text, is_nothing}
 use Rattle.x25_judge.specs.declared.judge.Judge.{Judge}
 

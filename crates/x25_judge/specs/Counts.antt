@@ -1,13 +1,9 @@
 -- How many frames and packets of an end were seen, how many of them were judged, and what was told (profile).
 use Rattle.std.specs.Prelude.{ℕ, ◌+◌, ◌-◌, ◌%◌, ◌==◌, Bool, if◌then◌else◌, min, List, [], ◌++◌, codes, decimal}
-use Rattle.std.specs.Prelude.{replicate, slice_index_or, slice_set}
-use Rattle.std.specs.List.{flat_map}
-use Rattle.x25_bits.specs.declared.role.Role.{Role}
-use Rattle.x25_bits.specs.declared.role.Role.TheVariants.{Dte, Dce}
-use Rattle.x25_judge.specs.declared.counts.Count.{Count}
-use Rattle.x25_judge.specs.declared.counts.Line.{Line}
+use Rattle.std.specs.{Prelude.{replicate, slice_index_or, slice_set}, List.{flat_map}}
+use Rattle.x25_bits.specs.declared.{role.Role.{Role}, role.Role.TheVariants.{Dte, Dce}}
+use Rattle.x25_judge.specs.declared.{counts.Count.{Count}, counts.Line.{Line}, counts.Tally.{Tally}}
 use Rattle.x25_judge.specs.declared.counts.Line.TheVariants.{Frames, Nothing, Packets, Told}
-use Rattle.x25_judge.specs.declared.counts.Tally.{Tally}
 
 abbrev pub none : Count
 none = record { channel = 0; seen = 0; judged = 0 }

@@ -1,7 +1,6 @@
 -- The octets of the last I frame of each number that an end sent, where they are known (profile).
 use Rattle.std.specs.Prelude.{ℕ, ◌%◌, nat_le, Bool, false, not, ◌&&◌, List, [], if◌then◌else◌, length, replicate}
-use Rattle.std.specs.Prelude.{slice_index_or, slice_set}
-use Rattle.std.specs.Str.{bytes_eq}
+use Rattle.std.specs.{Prelude.{slice_index_or, slice_set}, Str.{bytes_eq}}
 use Rattle.x25_frame.specs.Frame.{PlainFrame, info}
 use Rattle.x25_text.specs.declared.text.TheConstants.{ROOM}
 

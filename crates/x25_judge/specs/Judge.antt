@@ -2,39 +2,25 @@
 -- manners that its frame breaks.
 use Rattle.std.specs.Prelude.{ℕ, ◌==◌, Bool, true, false, not, ◌&&◌, ◌||◌, List, [], ◌++◌, codes, if◌then◌else◌, Option}
 use Rattle.std.specs.Prelude.{Some, None, is_some, Result, Ok, Err, unwrap_or}
-use Rattle.x25_bits.specs.declared.role.Role.{Role}
-use Rattle.x25_bits.specs.declared.role.Role.TheVariants.{Dte, Dce}
+use Rattle.x25_bits.specs.declared.{role.Role.{Role}, role.Role.TheVariants.{Dte, Dce}}
 use Rattle.x25_decode.specs.Decoding.{gap_in, gap_text, line_text, mark_of, n1, sent_in}
 use Rattle.x25_decode.specs.declared.answer.Reading.{Reading}
-use Rattle.x25_frame.specs.Frame.{PlainFrame, info}
-use Rattle.x25_frame.specs.Reading.{frame_of}
-use Rattle.x25_frame.specs.declared.error.FrameError.{FrameError}
+use Rattle.x25_frame.specs.{Frame.{PlainFrame, info}, Reading.{frame_of}}
+use Rattle.x25_frame.specs.declared.{error.FrameError.{FrameError}, error.FrameError.TheVariants.{TooLong}}
 use Rattle.x25_frame.specs.declared.error.FrameError.TheVariants.{Short, BadFcs, BadAddress, Undefined, NoInfoAllowed}
-use Rattle.x25_frame.specs.declared.error.FrameError.TheVariants.{TooLong}
 use Rattle.x25_packet_judge.specs.Book as book
 use Rattle.x25_judge.specs.Counts.{counted, end_text, line_text as last_text, more, no_counts, no_tally, none, tallied}
-use Rattle.x25_judge.specs.Doubt.{explains_told, lack}
-use Rattle.x25_judge.specs.Held.{forgets_all}
-use Rattle.x25_judge.specs.Manners.{none as no_manners}
-use Rattle.x25_judge.specs.Links.{Both, Missed, no_end, sees, misses}
-use Rattle.x25_judge.specs.Note.{first_note, note_text, packet_note}
-use Rattle.x25_judge.specs.Rule.{breaks_manners, breaks_order, first, is_of_manners}
-use Rattle.x25_judge.specs.RuleText.{rule_text}
+use Rattle.x25_judge.specs.{Doubt.{explains_told, lack}, Held.{forgets_all}, Manners.{none as no_manners}}
+use Rattle.x25_judge.specs.{Links.{Both, Missed, no_end, sees, misses}, Note.{first_note, note_text, packet_note}}
+use Rattle.x25_judge.specs.{Rule.{breaks_manners, breaks_order, first, is_of_manners}, RuleText.{rule_text}}
 use Rattle.x25_packet.specs.Reading.{channel_in}
 use Rattle.x25_possible_links.specs.code.Steps.{is_followed, is_known, unknown}
-use Rattle.x25_packet_judge.specs.declared.book.Book.{Book}
-use Rattle.x25_packet_judge.specs.declared.book.Verdict.{Verdict}
-use Rattle.x25_judge.specs.declared.{counts.Line.{Line}, counts.Line.TheVariants.{Nothing, Told}}
-use Rattle.x25_judge.specs.declared.doubt.At.{At}
-use Rattle.x25_judge.specs.declared.doubt.At.TheVariants.{Line as OnLine}
-use Rattle.x25_judge.specs.declared.{doubt.Lack.{Lack}, doubt.Lack.TheVariants.{Any}}
-use Rattle.x25_judge.specs.declared.judge.Judge.{Judge}
-use Rattle.x25_judge.specs.declared.links.End.{End}
-use Rattle.x25_judge.specs.declared.links.Seen.{Seen}
-use Rattle.x25_judge.specs.declared.judge.Strictness.{Strictness}
+use Rattle.x25_packet_judge.specs.declared.{book.Book.{Book}, book.Verdict.{Verdict}}
+use Rattle.x25_judge.specs.declared.{counts.Line.{Line}, counts.Line.TheVariants.{Nothing, Told}, doubt.At.{At}}
+use Rattle.x25_judge.specs.declared.{doubt.At.TheVariants.{Line as OnLine}, judge.Judge.{Judge}, links.End.{End}}
+use Rattle.x25_judge.specs.declared.{doubt.Lack.{Lack}, doubt.Frames.TheVariants.{Any}, links.Seen.{Seen}}
+use Rattle.x25_judge.specs.declared.{judge.Strictness.{Strictness}, note.Note.{Note}, rule.Rule.{Rule}}
 use Rattle.x25_packet_judge.specs.declared.packet_rule.PacketRule.{PacketRule}
-use Rattle.x25_judge.specs.declared.note.Note.{Note}
-use Rattle.x25_judge.specs.declared.rule.Rule.{Rule}
 use Rattle.x25_judge.specs.declared.rule.Rule.TheVariants.{NoFrame, Packet}
 
 -- before anything was sent: k, how octets are read, and what counts beside a broken rule; of a trace of all frames
@@ -116,10 +102,12 @@ pub record Answer : Type 0 where
 abbrev pub is_settled : End → Bool
 is_settled e = is_known e.set && is_followed e.set
 
--- after a gap any frames may be missing, until both ends are settled
+-- after a gap any frames may be missing, until both ends are settled; and packets until the next set-up
 abbrev pub lack_of : Judge → Role → Lack
-lack_of j from =
-    if j.has_gap && not (is_settled j.dte && is_settled j.dce) then Any else lack j.at from (own_of from j).set
+lack_of j from = record {
+  frames = if j.has_gap && not (is_settled j.dte && is_settled j.dce) then Any else lack j.at from (own_of from j).set;
+  packets = not j.book.is_whole;
+}
 
 -- ---- what is told
 

@@ -3,34 +3,21 @@
 use Rattle.std.specs.Prelude.{ℕ, ◌-◌, ◌%◌, ◌==◌, nat_lt, nat_le, Bool, true, false, not, ◌&&◌, ◌||◌, if◌then◌else◌}
 use Rattle.std.specs.Prelude.{List, [], ◌∷◌, Option, Some, None, is_some}
 use Rattle.x25_frame.specs.Frame.{PlainFrame, info, rr, rnr, rej, sabm, disc, ua, dm, frmr}
-use Rattle.x25_judge.specs.Held.{Held, differs, forgets, forgets_all, is_same, keeps, none_held}
+use Rattle.x25_judge.specs.{Held.{Held, differs, forgets, forgets_all, is_same, keeps, none_held}, Manners.{place_of}}
 use Rattle.x25_judge.specs.Manners as manners
-use Rattle.x25_judge.specs.Manners.{place_of}
-use Rattle.x25_judge.specs.Note.{first_note}
-use Rattle.x25_judge.specs.Rule.{first}
-use Rattle.x25_judge.specs.declared.links.End.{End}
-use Rattle.x25_judge.specs.declared.links.Minding.{Minding}
-use Rattle.x25_judge.specs.declared.links.Sent.{Sent}
-use Rattle.x25_judge.specs.declared.links.Seen.{Seen}
-use Rattle.x25_judge.specs.declared.manners.Manners.{Manners}
-use Rattle.x25_judge.specs.declared.manners.Minded.{Minded}
-use Rattle.x25_judge.specs.declared.manners.Place.{Place}
-use Rattle.x25_judge.specs.declared.note.Note.{Note}
+use Rattle.x25_judge.specs.{Note.{first_note}, Rule.{first}}
+use Rattle.x25_judge.specs.declared.{links.End.{End}, links.Minding.{Minding}, links.Sent.{Sent}, links.Seen.{Seen}}
+use Rattle.x25_judge.specs.declared.{manners.Manners.{Manners}, manners.Minded.{Minded}, manners.Place.{Place}}
+use Rattle.x25_judge.specs.declared.{note.Note.{Note}, rule.Rule.{Rule}}
 use Rattle.x25_judge.specs.declared.note.Note.TheVariants.{HeardBehindDamage, NumbersUnjudged, SentBehindDamage}
-use Rattle.x25_judge.specs.declared.rule.Rule.{Rule}
 use Rattle.x25_judge.specs.declared.rule.Rule.TheVariants.{Differs, Falls, NotUp, OverWindow, UaUnasked, Unsent}
 use Rattle.x25_packet_judge.specs.Numbers.{apart}
 use Rattle.x25_possible_links.specs.code.Steps as steps
 use Rattle.x25_possible_links.specs.code.Steps.{facts, numbers, sends_to, session_facts, shows_to, unknown}
-use Rattle.x25_possible_links.specs.declared.frame.Frame.{Frame}
+use Rattle.x25_possible_links.specs.declared.{frame.Frame.{Frame}, set.Facts.{Facts}, set.LinkSet.{LinkSet}}
 use Rattle.x25_possible_links.specs.declared.frame.Frame.TheVariants.{Disc, Dm, Frmr, Info, Ready, Sabm, Ua, Unread}
-use Rattle.x25_possible_links.specs.declared.set.Facts.{Facts}
-use Rattle.x25_possible_links.specs.declared.set.LinkSet.{LinkSet}
-use Rattle.x25_possible_links.specs.declared.set.Told.{Told}
-use Rattle.x25_possible_links.specs.declared.set.Told.TheVariants.{Broken, Nothing, Skips}
-use Rattle.x25_possible_links.specs.declared.spots.Spot.{Spot}
-use Rattle.x25_possible_links.specs.declared.stand.Numbers.{Numbers}
-use Rattle.x25_possible_links.specs.declared.stand.Stand.{Stand}
+use Rattle.x25_possible_links.specs.declared.{set.Told.{Told}, set.Told.TheVariants.{Broken, Nothing, Skips}}
+use Rattle.x25_possible_links.specs.declared.{spots.Spot.{Spot}, stand.Numbers.{Numbers}, stand.Stand.{Stand}}
 use Rattle.x25_possible_links.specs.declared.stand.Stand.TheVariants.{Up}
 
 -- what the rules of a link look at of a frame

@@ -3,11 +3,8 @@
 use Rattle.std.specs.Prelude.{ℕ, ◌+◌, ◌-◌, ◌%◌, ◌==◌, nat_lt, nat_le, Bool, true, false, not, ◌&&◌, ◌||◌, if◌then◌else◌}
 use Rattle.std.specs.Prelude.{min, Some, None}
 use Rattle.x25_packet_judge.specs.Numbers.{apart}
-use Rattle.x25_judge.specs.declared.manners.Manners.{Manners}
-use Rattle.x25_judge.specs.declared.manners.Minded.{Minded}
-use Rattle.x25_judge.specs.declared.manners.Place.{Place}
-use Rattle.x25_judge.specs.declared.note.Note.{Note}
-use Rattle.x25_judge.specs.declared.note.Note.TheVariants.{PollAgain, PollUnseen, SentAgain}
+use Rattle.x25_judge.specs.declared.{manners.Manners.{Manners}, manners.Minded.{Minded}, manners.Place.{Place}}
+use Rattle.x25_judge.specs.declared.{note.Note.{Note}, note.Note.TheVariants.{PollAgain, PollUnseen, SentAgain}}
 use Rattle.x25_judge.specs.declared.rule.Rule.{Rule}
 use Rattle.x25_judge.specs.declared.rule.Rule.TheVariants.{NoPoll, RejectAgain, OverWindow, Skips, Repeats}
 use Rattle.x25_possible_links.specs.declared.stand.Numbers.{Numbers}

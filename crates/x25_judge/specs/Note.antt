@@ -1,10 +1,9 @@
 -- What is noted of a frame that breaks no rule: what a loss, damage or a trace that begins in the middle explains, and
 -- what isn't judged from there on (profile).
 use Rattle.std.specs.Prelude.{ℕ, ◌==◌, ◌++◌, List, Option, Some, None, codes, decimal, if◌then◌else◌}
-use Rattle.x25_judge.specs.declared.note.Note.{Note}
+use Rattle.x25_judge.specs.declared.{note.Note.{Note}, note.Note.TheVariants.{RequestAgain}}
 use Rattle.x25_judge.specs.declared.note.Note.TheVariants.{Unjudged, NoneJudged, SentAgain, SentBehindDamage}
 use Rattle.x25_judge.specs.declared.note.Note.TheVariants.{HeardBehindDamage, PollAgain, PollUnseen, NumbersUnjudged}
-use Rattle.x25_judge.specs.declared.note.Note.TheVariants.{RequestAgain}
 use Rattle.x25_packet_judge.specs.declared.book.Noted.{Noted}
 use Rattle.x25_packet_judge.specs.declared.book.Noted.TheVariants as noted
 

@@ -1,7 +1,6 @@
 //! How many frames and packets were seen, how many of them were judged, and what was told.
 ghost use Rattle.std.specs.Prelude.{◌≡◌, ◌+◌, ◌≤◌, ◌%◌, ◌++◌, [], true, ℕ, IfOk, List, OnOk, OnErr, Option};
-ghost use Rattle.std.specs.Prelude.{MatchResult, decimal, length, slice_index_or, vec_capacity};
-ghost use Rattle.std.specs.List.{flat_map};
+ghost use Rattle.std.specs.{Prelude.{MatchResult, decimal, length, slice_index_or, vec_capacity}, List.{flat_map}};
 ghost use Rattle.x25_io.specs.code.Written.{AppendsPrefix, Tells, TellsMore};
 ghost use Rattle.x25_judge.specs.Counts as definition;
 ghost use Rattle.x25_judge.specs.declared.counts.Count as declared;

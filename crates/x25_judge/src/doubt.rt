@@ -4,6 +4,7 @@ ghost use Rattle.x25_judge.specs.Doubt as definition;
 
 use crate::rule::Rule;
 use x25_frame::Role;
+use x25_packet_judge::PacketRule;
 use x25_possible_links::LinkSet;
 
 /// Where a trace was made: what the line lost before that place isn't in it.
@@ -21,38 +22,50 @@ pub enum At {
 
 /// Which frames may be missing that would explain what is told of an end.
 #[derive(Clone, Copy)]
-pub(crate) enum Lack {
+pub(crate) enum Frames {
     Nothing,
     /// Those of the end that the line lost, which goes on as if they were there.
     Lost,
     Any,
 }
 
+/// What may be missing that would explain what is told of an end: frames, and packets since the last set-up.
+#[derive(Clone, Copy)]
+pub(crate) struct Lack {
+    pub(crate) frames: Frames,
+    pub(crate) packets: bool,
+}
+
 impl At {
     /// Which frames of an end may be missing, with the places in which that may be. A UA that it awaits may stand in
     /// front of the trace. Where SABM or DISC waits for the far end, its UA may have been lost.
-    pub(crate) fn lack(self, from: Role, own: &LinkSet) -> Lack
+    pub(crate) fn lack(self, from: Role, own: &LinkSet) -> Frames
         ensures { result ≡ definition.lack self from own.now }
     {
         match (self, from) {
-            _ if own.awaits_before() => Lack::Any,
-            (At::Line, _) | (At::Dte, Role::Dte) | (At::Dce, Role::Dce) => Lack::Nothing,
-            _ if own.has_request() => Lack::Any,
-            (At::Dte, Role::Dce) | (At::Dce, Role::Dte) => Lack::Lost,
-            (At::Either, _) => Lack::Any,
+            _ if own.awaits_before() => Frames::Any,
+            (At::Line, _) | (At::Dte, Role::Dte) | (At::Dce, Role::Dce) => Frames::Nothing,
+            _ if own.has_request() => Frames::Any,
+            (At::Dte, Role::Dce) | (At::Dce, Role::Dte) => Frames::Lost,
+            (At::Either, _) => Frames::Any,
         }
     }
 }
 
 impl Lack {
-    /// Whether they would explain that a rule is told.
+    /// Whether they would explain that a rule is told. Packets explain none of octets that spell no packet.
     pub(crate) fn explains(self, rule: Rule) -> bool
         ensures { result ≡ definition.explains self rule }
     {
-        match (self, rule) {
-            (Lack::Nothing, _) | (Lack::Any, Rule::NoFrame) => false,
-            (Lack::Any, _) | (Lack::Lost, Rule::Differs) => true,
-            (Lack::Lost, rule) => rule.is_of_manners(),
-        }
+        let is_of_packets = match rule {
+            Rule::Packet { rule } => !matches!(rule, PacketRule::NoPacket),
+            _ => false,
+        };
+        (self.packets && is_of_packets)
+            || match (self.frames, rule) {
+                (Frames::Nothing, _) | (Frames::Any, Rule::NoFrame) => false,
+                (Frames::Any, _) | (Frames::Lost, Rule::Differs) => true,
+                (Frames::Lost, rule) => rule.is_of_manners(),
+            }
     }
 }

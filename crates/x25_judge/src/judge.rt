@@ -3,14 +3,11 @@ ghost use Rattle.std.specs.Prelude.{◌≡◌, ◌+◌, ◌≤◌, ◌++◌, ℕ
 ghost use Rattle.std.specs.Prelude.{Err, false, if◌then◌else◌, OnErr, MatchResult};
 ghost use Rattle.x25_io.specs.code.Written.{AppendsPrefix, Tells, TellsMore};
 ghost use Rattle.x25_decode.specs.Decoding.{mark_of, n1};
-ghost use Rattle.x25_frame.specs.Error.{IsFirstError};
-ghost use Rattle.x25_frame.specs.Reading.{frame_of};
+ghost use Rattle.x25_frame.specs.{Error.{IsFirstError}, Reading.{frame_of}, Frame.{plain}};
 ghost use Rattle.x25_text.specs.FrameText.{frame_text, reading_text};
 ghost use Rattle.x25_text.specs.WideFrameText.{wide_frame_text, wide_reading_text};
-ghost use Rattle.x25_frame.specs.Frame.{plain};
 ghost use Rattle.x25_packet_judge.specs.Book.{IsRead};
-ghost use Rattle.x25_judge.specs.Doubt.{explains_told};
-ghost use Rattle.x25_judge.specs.Links.{passes as passes_by, quiet};
+ghost use Rattle.x25_judge.specs.{Doubt.{explains_told}, Links.{passes as passes_by, quiet}};
 ghost use Rattle.x25_judge.specs.Judge.{answer_to, begins_at, behind, book_of, broken_text, counts_by, counts_carried};
 ghost use Rattle.x25_judge.specs.Judge.{counts_frame, counts_text, covers, doubt_text, end_of, forgotten, gap_of};
 ghost use Rattle.x25_judge.specs.Judge.{is_nothing, is_settled, lack_of, last_line, missed_by, next_by, next_missed};
@@ -18,7 +15,7 @@ ghost use Rattle.x25_judge.specs.Judge.{no_frame, noted_text, other_of, own_of, 
 ghost use Rattle.x25_judge.specs.Judge.{remark_of, remark_text, seen_by, sign_of, tallies};
 
 use crate::counts::{Count, Counts, Line, Tally, tell_end, tell_line};
-use crate::doubt::{At, Lack};
+use crate::doubt::{At, Frames, Lack};
 use crate::links::{End, Seen, misses, passes, sees};
 use crate::manners::Manners;
 use crate::note::{MOST_NOTE, Note, first_note, packet_note, push_note};
@@ -320,12 +317,14 @@ impl Judge {
     fn lack(&self, from: Role) -> Lack
         ensures { result ≡ lack_of self.now from }
     {
-        if self.has_gap && !(is_settled(&self.dte) && is_settled(&self.dce)) {
-            return Lack::Any;
-        }
-        match from {
+        let frames = match from {
+            _ if self.has_gap && !(is_settled(&self.dte) && is_settled(&self.dce)) => Frames::Any,
             Role::Dte => self.at.lack(from, &self.dte.set),
             Role::Dce => self.at.lack(from, &self.dce.set),
+        };
+        Lack {
+            frames,
+            packets: !self.book.is_whole,
         }
     }
 

@@ -5,8 +5,7 @@ ghost use Rattle.x25_judge.specs.laws.VerdictClaims.{GuiltyAreTold, JudgedFinals
 ghost use Rattle.x25_judge.specs.laws.VerdictClaims.{ToldAreGuilty, NoSessionIsAccused, NoStationIsAccused};
 ghost use Rattle.x25_judge.specs.laws.VerdictClaims.{SilenceMeansOrder, SilenceMeansRules, SetUpsBegin};
 ghost use Rattle.x25_judge.specs.laws.VerdictClaims.{SilenceMeansNumbers};
-ghost use Rattle.x25_line.specs.laws.LawsBelow.{Laws};
-ghost use Rattle.x25_line.specs.laws.PeerClaims.{KeepsOrder, OnAnySilentTape};
+ghost use Rattle.x25_line.specs.laws.{LawsBelow.{Laws}, PeerClaims.{KeepsOrder, OnAnySilentTape}};
 ghost use Rattle.x25_line.specs.laws.StationClaims.{EachEventHandsOne};
 
 use x25_frame::{reading_is_the_grammar, reads_what_is_spelled};

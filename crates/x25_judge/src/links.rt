@@ -4,8 +4,7 @@ ghost use Rattle.x25_frame.specs.Frame.{plain};
 ghost use Rattle.x25_judge.specs.Held.{keeps, is_same as same_octets};
 ghost use Rattle.x25_judge.specs.Links as definition;
 ghost use Rattle.x25_possible_links.specs.code.Steps.{numbers};
-ghost use Rattle.x25_possible_links.specs.declared.set.LinkSet.{LinkSet};
-ghost use Rattle.x25_possible_links.specs.declared.stand.Stand.TheVariants.{Up};
+ghost use Rattle.x25_possible_links.specs.declared.{set.LinkSet.{LinkSet}, stand.Stand.TheVariants.{Up}};
 
 use crate::held::Held;
 use crate::manners::{Manners, Minded, Place, place_of, says};

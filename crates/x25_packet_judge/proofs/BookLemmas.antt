@@ -1,10 +1,12 @@
 -- What a packet makes of a book, and what is told of it.
-use Rattle.x25_packet_judge.proofs.Names.{or_parts, ◌≡◌, ◌∙◌, ℕ, Bool, true, false, Some, None, refl, sym, ap, arith, ◌%◌, ◌==◌, ◌&&◌, ◌||◌, not, if◌then◌else◌, unwrap_or, Role, Dte, Dce, PlainPacket, is_of_all, is_restart, lost, rule_of, sent, Channels, channel_of, put, item_of, Book, Channel, RestartAwaited, asked_of, awaits, behind_item, end_of, is_quiet, refuses, seen_by, set_of, BooksFollowTapes, is_known, sends_to, Packet, Elsewhere, Set, Nothing}
+use Rattle.x25_packet_judge.proofs.Names.{or_parts, ◌≡◌, ◌∙◌, ℕ, Bool, true, false, Some, None, refl, sym, ap, arith, ◌%◌, ◌==◌, ◌&&◌, ◌||◌, not, if◌then◌else◌}
+use Rattle.x25_packet_judge.proofs.Names.{unwrap_or, Role, Dte, Dce, PlainPacket, is_of_all, is_restart, lost, rule_of, sent, Channels, channel_of, put}
+use Rattle.x25_packet_judge.proofs.Names.{item_of, Book, Channel, RestartAwaited, asked_of, awaits, behind_item, end_of, is_quiet, refuses, seen_by, set_of}
+use Rattle.x25_packet_judge.proofs.Names.{BooksFollowTapes, is_known, sends_to, Packet, Elsewhere, Set, Nothing}
 use Rattle.std.specs.Prelude.{slice_index_or}
 use Rattle.std.proofs.lemmas.Bool.Decides.{nat_tests}
 use Rattle.x25_packet_judge.specs.declared.{book.Verdict.{Verdict}, channel.Event.TheVariants.{Sends}}
-use Rattle.x25_packet_judge.proofs.ChannelsLemmas.{happens_on, put_other, put_same}
-use Rattle.x25_packet_judge.proofs.TellingLemmas.{ends_move, judged_ends, judged_is, judged_rule}
+use Rattle.x25_packet_judge.proofs.{ChannelsLemmas.{happens_on, put_other, put_same}, TellingLemmas.{ends_move, judged_ends, judged_is, judged_rule}}
 use Rattle.x25_packet_judge.specs.Book as book
 use Rattle.x25_packet_judge.specs.Channel as channels
 
@@ -27,13 +29,13 @@ one_set role from channel of x cs true is =
     ∙ ap (λ (n : ℕ). behind_item (seen_by role from x) (end_of role (unwrap_or (slice_index_or cs.seen n None) cs.usual))) (sym same)
 one_set role from channel of x cs false is = ap (end_of role) (put_other of channel _ cs (λ same. absurd (grind (arith, is, same, nat_tests))))
 
-sets_follow : (b : Book) (role from : Role) (channel of : ℕ) (packet : PlainPacket) (all : Bool) → is_of_all packet ≡ all → set_of role channel (book.takes from of packet b).book
+sets_follow : (b : Book) (role from : Role) (channel of : ℕ) (packet : PlainPacket) (all : Bool) → is_of_all packet ≡ all
+    → set_of role channel (book.takes from of packet b).book
     ≡ (if all || (channel % 4096 == of % 4096) then behind_item (seen_by role from (item_of packet)) (set_of role channel b)
     else set_of role channel b)
 sets_follow b role from channel of packet true is =
     ap (λ (s : book.Seen). end_of role (channel_of channel s.book.channels)) (takes_is from of packet b true is)
-    ∙ ap (end_of role) (happens_on (Sends from (item_of packet)) channel b.channels)
-    ∙ ends_move role from (item_of packet) (channel_of channel b.channels)
+    ∙ ap (end_of role) (happens_on (Sends from (item_of packet)) channel b.channels) ∙ ends_move role from (item_of packet) (channel_of channel b.channels)
 sets_follow b role from channel of packet false is =
     ap (λ (s : book.Seen). end_of role (channel_of channel s.book.channels)) (takes_is from of packet b false is)
     ∙ one_set role from channel of (item_of packet) b.channels (channel % 4096 == of % 4096) refl
@@ -112,10 +114,12 @@ module _ (from : Role) (of : ℕ) (packet : PlainPacket) (b : Book) where
   told_is unknown false is =
       ap (λ (s : book.Seen). s.verdict.rule) (takes_is from of packet b false is)
       ∙ one_rule unknown from of (item_of packet) (channel_of of b.channels) (is_early from b)
-      ∙ ap (λ a. if not a && is_early from b then Some RestartAwaited else rule_of (sends_to (item_of packet) (asked from of b a)).told (item_of packet)) (sym is)
+      ∙ ap (λ a. if not a && is_early from b then Some RestartAwaited else rule_of (sends_to (item_of packet) (asked from of b a)).told (item_of packet))
+      (sym is)
   told_is unknown true is =
       ap (λ (s : book.Seen). s.verdict.rule) (takes_is from of packet b true is)
-      ∙ ap (λ a. if not a && is_early from b then Some RestartAwaited else rule_of (sends_to (item_of packet) (asked from of b a)).told (item_of packet)) (sym is)
+      ∙ ap (λ a. if not a && is_early from b then Some RestartAwaited else rule_of (sends_to (item_of packet) (asked from of b a)).told (item_of packet))
+      (sym is)
 
   pub judged_so : (all : Bool) → is_of_all packet ≡ all → (book.takes from of packet b).verdict.is_judged
       ≡ (awaits from packet b || (is_restart packet || (sent (item_of packet) (asked_of from of packet b)).verdict.is_judged))
@@ -123,7 +127,8 @@ module _ (from : Role) (of : ℕ) (packet : PlainPacket) (b : Book) where
       ap (λ (s : book.Seen). s.verdict.is_judged) (takes_is from of packet b false is)
       ∙ one_judged from of (item_of packet) (channel_of of b.channels) (is_early from b)
       ∙ ap (λ a. (not a && is_early from b) || (sent (item_of packet) (asked from of b a)).verdict.is_judged) (sym is)
-      ∙ ap (λ r. awaits from packet b || (r || (sent (item_of packet) (asked_of from of packet b)).verdict.is_judged)) (sym (or_parts (is_restart packet) _ is).0)
+      ∙ ap (λ r. awaits from packet b || (r || (sent (item_of packet) (asked_of from of packet b)).verdict.is_judged))
+      (sym (or_parts (is_restart packet) _ is).0)
   judged_so true is =
       ap (λ (s : book.Seen). s.verdict.is_judged) (takes_is from of packet b true is)
       ∙ ap (λ a. (not a && is_early from b) || (is_restart packet || (sent (item_of packet) (asked from of b a)).verdict.is_judged)) (sym is)

@@ -1,8 +1,9 @@
 -- A channel of all that were seen, and of the others.
-use Rattle.x25_packet_judge.proofs.Names.{◌≡◌, ◌∙◌, false, map, ◌<◌, ℕ, zero, suc, List, [], ◌∷◌, ◌++◌, Option, Some, None, length, replicate, refl, ap, arith, get_or-set_same, get_or-set_other, length-append, length-replicate, ◌-◌, ◌%◌, unwrap_or, happens, Channels, all_happens, channel_of, padded, put, Channel, Set}
-use Rattle.std.specs.Prelude.{slice_index_or}
+use Rattle.x25_packet_judge.proofs.Names.{◌≡◌, ◌∙◌, false, map, ◌<◌, ℕ, zero, suc, List, [], ◌∷◌, ◌++◌, Option, Some, None, length, replicate, refl, ap, arith}
+use Rattle.x25_packet_judge.proofs.Names.{get_or-set_same, get_or-set_other, length-append, length-replicate, ◌-◌, ◌%◌, unwrap_or, happens, Channels}
+use Rattle.x25_packet_judge.proofs.Names.{all_happens, channel_of, padded, put, Channel, Set}
+use Rattle.std.specs.{Prelude.{slice_index_or}, Option.{option_map}}
 use Rattle.std.proofs.Math.ListN.{get_or-map}
-use Rattle.std.specs.Option.{option_map}
 use Rattle.x25_packet_judge.specs.declared.{channel.Event.{Event}, channel.Event.TheVariants.{Loss}}
 use Rattle.x25_possible.specs.code.Steps.{hidden_by, lost}
 use Rattle.x25_possible.specs.declared.{set.Knowledge.{Knowledge}, set.Knowledge.TheVariants.{Blind, Lost}}
@@ -38,8 +39,7 @@ put_other n m c cs apart = ap (λ o. unwrap_or o cs.usual)
 
 pub happens_on : (e : Event) (n : ℕ) (cs : Channels) → channel_of n (all_happens e cs) ≡ happens e (channel_of n cs)
 happens_on e n cs =
-    ap (λ o. unwrap_or o (happens e cs.usual)) (get_or-map (option_map (happens e)) cs.seen (n % 4096) None)
-    ∙ go (slice_index_or cs.seen (n % 4096) None)
+    ap (λ o. unwrap_or o (happens e cs.usual)) (get_or-map (option_map (happens e)) cs.seen (n % 4096) None) ∙ go (slice_index_or cs.seen (n % 4096) None)
   where
     go : (o : Option Channel) → unwrap_or (option_map (happens e) o) (happens e cs.usual) ≡ happens e (unwrap_or o cs.usual)
     go None = refl

@@ -1,5 +1,6 @@
 -- A list whose elements are changed one after another, from the front.
-use Rattle.x25_packet_judge.proofs.Names.{◌≡◌, ℕ, zero, suc, ◌+◌, ◌<◌, ◌≤◌, List, [], ◌∷◌, ◌++◌, length, map, slice_set, slice_index_or, take, drop, refl, sym, ap, ◌∙◌, arith, append-nil, take_all, drop_all}
+use Rattle.x25_packet_judge.proofs.Names.{◌≡◌, ℕ, zero, suc, ◌+◌, ◌<◌, ◌≤◌, List, [], ◌∷◌, ◌++◌, length, map, slice_set, slice_index_or, take, drop, refl, sym}
+use Rattle.x25_packet_judge.proofs.Names.{ap, ◌∙◌, arith, append-nil, take_all, drop_all}
 
 -- those from a place on changed
 abbrev pub left_mapped : {A : Type 0} → (A → A) → ℕ → List A → List A
@@ -7,13 +8,15 @@ left_mapped f zero xs = map f xs
 left_mapped f (suc n) [] = []
 left_mapped f (suc n) (x ∷ xs) = x ∷ left_mapped f n xs
 
-one_more : {A : Type 0} (f : A → A) (n : ℕ) (xs : List A) (d : A) → n < length xs → left_mapped f (suc n) (slice_set xs n (f (slice_index_or xs n d))) ≡ left_mapped f n xs
+one_more : {A : Type 0} (f : A → A) (n : ℕ) (xs : List A) (d : A) → n < length xs → left_mapped f (suc n) (slice_set xs n (f (slice_index_or xs n d)))
+    ≡ left_mapped f n xs
 one_more f zero [] d low = absurd (omega (arith, low))
 one_more f zero (x ∷ xs) d low = refl
 one_more f (suc n) [] d low = absurd (omega (arith, low))
 one_more f (suc n) (x ∷ xs) d low = ap (λ l. x ∷ l) (one_more f n xs d (omega (arith, low)))
 
-pub changed_more : {A : Type 0} (f : A → A) (n : ℕ) (xs all : List A) (d : A) → n < length xs → left_mapped f n xs ≡ map f all → left_mapped f (n + 1) (slice_set xs n (f (slice_index_or xs n d))) ≡ map f all
+pub changed_more : {A : Type 0} (f : A → A) (n : ℕ) (xs all : List A) (d : A) → n < length xs → left_mapped f n xs ≡ map f all
+    → left_mapped f (n + 1) (slice_set xs n (f (slice_index_or xs n d))) ≡ map f all
 changed_more f n xs all d low h =
     let more : n + 1 ≡ suc n = omega arith in
     ap (λ (k : ℕ). left_mapped f k (slice_set xs n (f (slice_index_or xs n d)))) more ∙ one_more f n xs d low ∙ h
@@ -25,8 +28,8 @@ all_mapped f (suc n) [] few = refl
 all_mapped f (suc n) (x ∷ xs) few = ap (λ l. x ∷ l) (all_mapped f n xs (omega (arith, few)))
 
 -- what was changed is written back to the vector
-pub written_back : {A : Type 0} (f : A → A) (n len : ℕ) (xs old : List A) → left_mapped f n xs ≡ map f old → length xs ≤ n → length old ≤ len → length xs ≡ length old → take len (xs ++ drop (length xs) old) ≡ map f old
+pub written_back : {A : Type 0} (f : A → A) (n len : ℕ) (xs old : List A) → left_mapped f n xs ≡ map f old → length xs ≤ n → length old ≤ len → length xs
+    ≡ length old → take len (xs ++ drop (length xs) old) ≡ map f old
 written_back f n len xs old h all high same =
-    ap (λ l. take len (xs ++ l)) (drop_all (length xs) old (omega (arith, same)))
-    ∙ ap (take len) (append-nil xs) ∙ take_all len xs (omega (arith, high, same))
+    ap (λ l. take len (xs ++ l)) (drop_all (length xs) old (omega (arith, same))) ∙ ap (take len) (append-nil xs) ∙ take_all len xs (omega (arith, high, same))
     ∙ sym (all_mapped f n xs all) ∙ h

@@ -1,6 +1,10 @@
 -- What is told of an end, packet by packet and over whole tapes, by the laws of its sets.
-use Rattle.x25_packet_judge.proofs.Names.{and_parts, ◌≡◌, ◌∙◌, ℕ, Bool, true, false, List, [], ◌∷◌, Some, refl, sym, ap, ◌||◌, ◌&&◌, is_some, if◌then◌else◌, not, Role, Dte, Dce, PlainPacket, is_of_all, is_restart, takes, lost, rule_of, item_of, is_order, Book, RestartAwaited, asked_of, awaits, behind_all, behind_item, end_of, is_manners, is_on, is_quiet, moved, of_restarts, refuses, seen_by, set_of, tape_of_restarts, tape_on, rule_told, BooksTellExactly, InnocentTapesStayUntold, IsBehind, MaySend, Spoken, InnocentsStayUntold, IsRude, PoliteStayUntold, SendsExactly, behind, is_known, sends_to, Packet, Elsewhere, Told}
-use Rattle.x25_packet_judge.proofs.BookLemmas.{books_follow_tapes, judged_so, told_is}
+use Rattle.x25_packet_judge.proofs.Names.{and_parts, ◌≡◌, ◌∙◌, ℕ, Bool, true, false, List, [], ◌∷◌, Some, refl, sym, ap, ◌||◌, ◌&&◌, is_some, if◌then◌else◌}
+use Rattle.x25_packet_judge.proofs.Names.{not, Role, Dte, Dce, PlainPacket, is_of_all, is_restart, takes, lost, rule_of, item_of, is_order, Book}
+use Rattle.x25_packet_judge.proofs.Names.{RestartAwaited, asked_of, awaits, behind_all, behind_item, end_of, is_manners, is_on, is_quiet, moved, of_restarts}
+use Rattle.x25_packet_judge.proofs.Names.{refuses, seen_by, set_of, tape_of_restarts, tape_on, rule_told, BooksTellExactly, InnocentTapesStayUntold, IsBehind}
+use Rattle.x25_packet_judge.proofs.Names.{MaySend, Spoken, InnocentsStayUntold, IsRude, PoliteStayUntold, SendsExactly, behind, is_known, sends_to, Packet}
+use Rattle.x25_packet_judge.proofs.{Names.{Elsewhere, Told}, BookLemmas.{books_follow_tapes, judged_so, told_is}}
 use Rattle.x25_packet_judge.proofs.TellingLemmas.{broken, polite, rude, unbroken, untold}
 use Rattle.x25_possible.specs.laws.Possible.{Item, Own, Other}
 
@@ -35,13 +39,13 @@ module _ (sets : SendsExactly) where
     judged = λ b from channel packet. judged_is from channel packet b (awaits from packet b) refl;
   }
     where
-      judged_is : (from : Role) (channel : ℕ) (packet : PlainPacket) (b : Book) (e : Bool) → awaits from packet b ≡ e → (takes from channel packet b).verdict.is_judged
-          ≡ (awaits from packet b || (is_restart packet || (is_known (asked_of from channel packet b)
+      judged_is : (from : Role) (channel : ℕ) (packet : PlainPacket) (b : Book) (e : Bool) → awaits from packet b ≡ e
+          → (takes from channel packet b).verdict.is_judged ≡ (awaits from packet b || (is_restart packet || (is_known (asked_of from channel packet b)
           && (is_some (rule_told from channel packet b) || is_known (moved from channel packet b)))))
       judged_is from channel packet b true is = judged_so from channel packet b (is_of_all packet) refl
           ∙ ap (λ e. e || (is_restart packet || (is_known (asked_of from channel packet b)
-          && (is_some (rule_of (sends_to (item_of packet) (asked_of from channel packet b)).told (item_of packet)) || is_known (moved from channel packet b))))) is
-          ∙ ap (λ e. e || (is_restart packet || (is_known (asked_of from channel packet b)
+          && (is_some (rule_of (sends_to (item_of packet) (asked_of from channel packet b)).told (item_of packet))
+          || is_known (moved from channel packet b))))) is ∙ ap (λ e. e || (is_restart packet || (is_known (asked_of from channel packet b)
           && (is_some (rule_told from channel packet b) || is_known (moved from channel packet b))))) (sym is)
       judged_is from channel packet b false is = judged_so from channel packet b (is_of_all packet) refl
           ∙ ap (λ r. awaits from packet b || (is_restart packet || (is_known (asked_of from channel packet b)
@@ -59,7 +63,8 @@ module _ (from : Role) (channel : ℕ) (tape restarts : List (Item Packet)) (b :
   one_more (Own x) to = refl
   one_more (Other x) to = refl
 
-  if_on : (on : Bool) (i : Item Packet) (to : List (Item Packet)) → (if on then behind_item i (behind from to) else behind from to) ≡ behind from (if on then i ∷ to else to)
+  if_on : (on : Bool) (i : Item Packet) (to : List (Item Packet)) → (if on then behind_item i (behind from to) else behind from to)
+      ≡ behind from (if on then i ∷ to else to)
   if_on true i to = one_more i to
   if_on false i to = refl
 
@@ -79,7 +84,8 @@ module _ (from : Role) (channel : ℕ) (tape restarts : List (Item Packet)) (b :
 
   module _ (sets : SendsExactly) (innocents : InnocentsStayUntold) (ps : List Spoken) where
     -- nothing of order is told where the tape of the set that is asked has a run
-    asked : (channels : ℕ) (packet : PlainPacket) (on : List (Item Packet)) → awaits from packet (behind_all ps b) ≡ false → asked_of from channels packet (behind_all ps b) ≡ behind from on
+    asked : (channels : ℕ) (packet : PlainPacket) (on : List (Item Packet)) → awaits from packet (behind_all ps b) ≡ false
+        → asked_of from channels packet (behind_all ps b) ≡ behind from on
         → MaySend from on (item_of packet) → is_order (rule_told from channels packet (behind_all ps b)) ≡ false
     asked channels packet on none is may =
         ap is_order (told_by sets from channels packet (behind_all ps b) false none)
@@ -90,15 +96,16 @@ module _ (from : Role) (channel : ℕ) (tape restarts : List (Item Packet)) (b :
     not_early packet may = ap (λ e. not (is_of_all packet) && e)
         (ap (λ q. refuses from (if q then lost (behind_all ps b).restarts else (behind_all ps b).restarts)) (loud ps from)
         ∙ ap (λ s. is_order (rule_of (sends_to Elsewhere s).told Elsewhere)) (restarts_set ps)
-        ∙ untold (sends_to Elsewhere (behind from (tape_of_restarts from ps restarts))).told Elsewhere (innocents from (tape_of_restarts from ps restarts) Elsewhere may.0 may.1.0 may.1.1))
-        ∙ none (not (is_of_all packet))
+        ∙ untold (sends_to Elsewhere (behind from (tape_of_restarts from ps restarts))).told Elsewhere
+        (innocents from (tape_of_restarts from ps restarts) Elsewhere may.0 may.1.0 may.1.1)) ∙ none (not (is_of_all packet))
       where
         none : (a : Bool) → (a && false) ≡ false
         none true = refl
         none false = refl
 
     never : (packet : PlainPacket) → is_of_all packet ≡ true → awaits from packet (behind_all ps b) ≡ false
-    never packet is = ap (λ a. not a && refuses from (if is_quiet from (behind_all ps b) then lost (behind_all ps b).restarts else (behind_all ps b).restarts)) is
+    never packet is = ap (λ a. not a && refuses from (if is_quiet from (behind_all ps b) then lost (behind_all ps b).restarts else (behind_all ps b).restarts))
+        is
 
     one : (packet : PlainPacket) → is_of_all packet ≡ false → asked_of from channel packet (behind_all ps b) ≡ set_of from channel (behind_all ps b)
     one packet is = ap (λ a. if a then end_of from (behind_all ps b).restarts else set_of from channel (behind_all ps b)) is
@@ -109,7 +116,8 @@ module _ (from : Role) (channel : ℕ) (tape restarts : List (Item Packet)) (b :
   -- RESTART that is to be answered is of order
   module _ (sets : SendsExactly) (ps : List Spoken) (packet : PlainPacket) where
     none_polite : (e : Bool) → awaits from packet (behind_all ps b) ≡ e → is_of_all packet ≡ false
-        → (IsRude (sends_to (item_of packet) (behind from (tape_on from channel ps tape))).told → ⊥) → is_manners (rule_told from channel packet (behind_all ps b)) ≡ false
+        → (IsRude (sends_to (item_of packet) (behind from (tape_on from channel ps tape))).told → ⊥)
+        → is_manners (rule_told from channel packet (behind_all ps b)) ≡ false
     none_polite true is of mild = ap is_manners (told_by sets from channel packet (behind_all ps b) true is)
     none_polite false is of mild =
         ap is_manners (told_by sets from channel packet (behind_all ps b) false is)

@@ -1,5 +1,8 @@
 -- What is told of a packet, by the set of its sender.
-use Rattle.x25_packet_judge.proofs.Names.{and_parts, or_parts, both_ways, cond_both, ◌≡◌, ◌∙◌, ℕ, Bool, true, false, Option, Some, None, refl, sym, ap, ◌-◌, ◌%◌, ◌==◌, is_some, not, ◌&&◌, ◌||◌, if◌then◌else◌, nat_lt, nat_le, unwrap_or, Role, Dte, Dce, rule_of, sent, is_of_manners, is_order, Channel, PacketUnsent, end_of, is_manners, seen_by, behind_item, IsBroken, IsRude, IsUntold, is_known, sends_to, Packet, Data, RestartConf, Rr, Rnr, Set, Told, Nothing, Rude, Broken}
+use Rattle.x25_packet_judge.proofs.Names.{and_parts, or_parts, both_ways, cond_both, ◌≡◌, ◌∙◌, ℕ, Bool, true, false, Option, Some, None, refl, sym, ap, ◌-◌}
+use Rattle.x25_packet_judge.proofs.Names.{◌%◌, ◌==◌, is_some, not, ◌&&◌, ◌||◌, if◌then◌else◌, nat_lt, nat_le, unwrap_or, Role, Dte, Dce, rule_of, sent}
+use Rattle.x25_packet_judge.proofs.Names.{is_of_manners, is_order, Channel, PacketUnsent, end_of, is_manners, seen_by, behind_item, IsBroken, IsRude, IsUntold}
+use Rattle.x25_packet_judge.proofs.Names.{is_known, sends_to, Packet, Data, RestartConf, Rr, Rnr, Set, Told, Nothing, Rude, Broken}
 use Rattle.x25_packet_judge.specs.Numbers.{apart}
 use Rattle.x25_packet_judge.specs.declared.{book.Verdict.{Verdict}, packet_rule.PacketRule.{PacketRule}}
 use Rattle.x25_possible.specs.declared.{phase.Phase.{Phase}, phase.Phase.TheVariants.{Talks}, phase.Talk.{Talk}}
@@ -14,7 +17,8 @@ manners_are (Talks k) = cond_both (nat_lt 0 k.window && (nat_lt k.window 7 && na
     (λ h. (and_parts (nat_lt k.window 7) _ (and_parts (nat_lt 0 k.window) _ h).1).0) (λ _. refl)
 manners_are s = refl
 
-strays_are : (ahead pending : ℕ) (k : Talk) (rule : PacketRule) → is_of_manners rule ≡ false → is_of_manners (unwrap_or (reason.strays ahead pending k) rule) ≡ false
+strays_are : (ahead pending : ℕ) (k : Talk) (rule : PacketRule) → is_of_manners rule ≡ false → is_of_manners (unwrap_or (reason.strays ahead pending k) rule)
+    ≡ false
 strays_are ahead pending k rule h = cond_both (nat_le ahead pending) _ _ (λ r. is_of_manners (unwrap_or r rule) ≡ false) (λ _. h)
     (λ _. cond_both (nat_lt (8 - ahead) (ahead - pending)) _ _ (λ r. is_of_manners (unwrap_or r rule) ≡ false) (λ _. refl) (λ _. refl))
 
@@ -62,13 +66,15 @@ polite (Broken s) x h = reasons_are s x
 
 -- ---- a packet of a channel
 
-pub ends_move : (role from : Role) (x : Packet) (c : Channel) → end_of role (channels.takes from x c).channel ≡ behind_item (seen_by role from x) (end_of role c)
+pub ends_move : (role from : Role) (x : Packet) (c : Channel) → end_of role (channels.takes from x c).channel
+    ≡ behind_item (seen_by role from x) (end_of role c)
 ends_move Dte Dte x c = refl
 ends_move Dte Dce x c = refl
 ends_move Dce Dte x c = refl
 ends_move Dce Dce x c = refl
 
-pub judged_ends : (n : ℕ) (role from : Role) (x : Packet) (c : Channel) → end_of role (channels.judges n from x c).channel ≡ behind_item (seen_by role from x) (end_of role c)
+pub judged_ends : (n : ℕ) (role from : Role) (x : Packet) (c : Channel) → end_of role (channels.judges n from x c).channel
+    ≡ behind_item (seen_by role from x) (end_of role c)
 unfolding channels.judges
 judged_ends n role from x c = ends_move role from x c
 
@@ -80,8 +86,8 @@ none_of : (r : Option PacketRule) → is_some r ≡ false → None ≡ r
 none_of None h = refl
 none_of (Some rule) h = absurd (both_ways true h refl)
 
-none_known : (x : Packet) (s : Set) → Unknown x s → (known : Bool) → is_known s ≡ known → (known && (is_some (rule_of (sends_to x s).told x) || is_known (sends_to x s).set)) ≡ false
-    → None ≡ rule_of (sends_to x s).told x
+none_known : (x : Packet) (s : Set) → Unknown x s → (known : Bool) → is_known s ≡ known
+    → (known && (is_some (rule_of (sends_to x s).told x) || is_known (sends_to x s).set)) ≡ false → None ≡ rule_of (sends_to x s).told x
 none_known x s unknown true is h = none_of _ (or_parts _ _ h).0
 none_known x s unknown false is h = sym (ap (λ (t : Told). rule_of t x) (unknown is))
 
@@ -93,10 +99,12 @@ marked_rule : (g h : Verdict) (b : Bool) → h.rule ≡ None → (b ≡ false �
 marked_rule g h true none is = refl
 marked_rule g h false none is = none ∙ is refl
 
-pub judged_rule : (n : ℕ) (from : Role) (x : Packet) (c : Channel) → Unknown x (end_of from c) → (channels.judges n from x c).verdict.rule ≡ rule_of (sends_to x (end_of from c)).told x
+pub judged_rule : (n : ℕ) (from : Role) (x : Packet) (c : Channel) → Unknown x (end_of from c) → (channels.judges n from x c).verdict.rule
+    ≡ rule_of (sends_to x (end_of from c)).told x
 unfolding channels.judges
 judged_rule n from x c unknown =
-    marked_rule (channels.takes from x c).verdict (channels.passed n (channels.takes from x c).channel).verdict _ refl (none_known x (end_of from c) unknown _ refl)
+    marked_rule (channels.takes from x c).verdict (channels.passed n (channels.takes from x c).channel).verdict _ refl
+    (none_known x (end_of from c) unknown _ refl)
 
 pub judged_is : (n : ℕ) (from : Role) (x : Packet) (c : Channel) → (channels.judges n from x c).verdict.is_judged ≡ (sent x (end_of from c)).verdict.is_judged
 unfolding channels.judges

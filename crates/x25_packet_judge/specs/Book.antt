@@ -4,31 +4,26 @@ use Rattle.std.specs.Prelude.{ℕ, ◌≡◌, ◌/◌, ◌%◌, ◌==◌, Bool, 
 use Rattle.std.specs.Prelude.{not, Option, Some, None, Result, Ok, Err, IfOk}
 use Rattle.x25_bits.specs.declared.role.Role.{Role}
 use Rattle.x25_frame.specs.Frame.{PlainFrame, info, rr, rnr, rej, sabm, disc, ua, dm, frmr}
-use Rattle.x25_packet.specs.Packet.{PlainPacket, plain, restart, restart_conf}
-use Rattle.x25_packet.specs.Reading.{channel_in, packet_of}
-use Rattle.x25_packet.specs.Spelling.{IsInRange, longest_user}
+use Rattle.x25_packet.specs.{Packet.{PlainPacket, plain, restart, restart_conf}, Reading.{channel_in, packet_of}}
+use Rattle.x25_packet.specs.{Spelling.{IsInRange, longest_user}, Form.{PlainKind, PlainForm}, Grammar.{Gives, form_in}}
 use Rattle.x25_packet.specs.declared.{error.PacketError.{PacketError}, packet.Packet.{Packet}}
 use Rattle.x25_decode.specs.declared.answer.Reading.{Reading}
 use Rattle.x25_packet_judge.specs.Channel as channels
-use Rattle.x25_packet_judge.specs.Channels.{all_alike, all_happens, channel_of, put}
-use Rattle.x25_packet_judge.specs.Item.{item_of}
+use Rattle.x25_packet_judge.specs.{Channels.{all_alike, all_happens, channel_of, put}, Item.{item_of}}
 use Rattle.x25_packet_judge.specs.Layers as layers
 use Rattle.x25_packet_judge.specs.declared.{book.Book.{Book}, book.Noted.{Noted}, book.Verdict.{Verdict}}
 use Rattle.x25_packet_judge.specs.declared.{book.Noted.TheVariants.{Unjudged}, channel.Channel.{Channel}}
 use Rattle.x25_packet_judge.specs.declared.{channel.Event.TheVariants.{Sends, Loss}, layers.Layers.{Layers}}
-use Rattle.x25_packet_judge.specs.declared.packet_rule.PacketRule.{PacketRule}
 use Rattle.x25_packet_judge.specs.declared.packet_rule.PacketRule.TheVariants as rules
 use Rattle.x25_possible.specs.declared.packet.{Packet.{Packet as Item}, Packet.TheVariants.{Elsewhere}}
 use Rattle.x25_packet.specs.Form as form
-use Rattle.x25_packet.specs.Form.{PlainKind, PlainForm}
-use Rattle.x25_packet.specs.Grammar.{Gives, form_in}
 use Rattle.x25_packet.specs.Taking.{taken_in}
 
 -- nothing was sent
 abbrev pub empty : Book
 empty = record {
-  dte = layers.unseen;
-  dce = layers.unseen;
+  dte = layers.new;
+  dce = layers.new;
   restarts = channels.any_channel;
   channels = all_alike channels.any_channel;
   is_whole = false;
@@ -162,22 +157,11 @@ abbrev pub IsRead : Reading → PlainFrame → Result Packet PacketError → Typ
 IsRead reading (info ns nr p octets) packet = reading.wide ≡ false → IsPacketOf reading.long octets packet
 IsRead reading frame packet = Unit {0}
 
--- where packets weren't seen since the last set-up, an answer of no request may be that of one of these
-abbrev pub is_answer : Option PacketRule → Bool
-is_answer (Some rules.RestartUnasked) = true
-is_answer (Some rules.ClearUnasked) = true
-is_answer (Some rules.AcceptUnasked) = true
-is_answer rule = false
-
-abbrev pub excused : ℕ → Seen → Seen
-excused channel s = seen s.book (if s.book.is_whole || not (is_answer s.verdict.rule) then s.verdict
-    else record { rule = None; noted = Some (Unjudged channel); is_judged = false })
-
 -- the information of an I frame
 unfoldable pub reads : Role → Reading → ℕ → List ℕ → Book → Seen
-reads from reading channel octets b = excused channel
-    (if reading.wide then reads_any from channel (longest_user reading.long) octets b
-    else takes_read from channel (packet_of (longest_user reading.long) octets) b)
+reads from reading channel octets b =
+    if reading.wide then reads_any from channel (longest_user reading.long) octets b
+    else takes_read from channel (packet_of (longest_user reading.long) octets) b
 
 -- ---- a frame
 
@@ -217,11 +201,12 @@ begins from t b = keeps from t (record b {
 unfoldable pub asks : Role → Layers → Book → Book
 asks from t b = if layers.is_asked_again t then keeps from (layers.asks t) b else begins from (layers.asks t) b
 
--- UA, behind which what was sent before may come yet
+-- UA, behind which what was sent before may come yet, and what the other end sent between SABMs that it may answer
 unfoldable pub accepts : Role → Layers → Book → Book
 accepts from t b =
-    if layers.is_late t then keeps from (layers.accepts t) b
-    else if layers.is_under_way t.own then keeps from (layers.accepts t) (forgets b)
+    let is_open = t.other.is_fresh && not t.other.is_quiet in
+    if layers.is_late t && not is_open then keeps from (layers.accepts t) b
+    else if is_open || layers.is_under_way t.own then keeps from (layers.accepts t) (forgets b)
     else begins from (layers.accepts t) b
 
 unfoldable pub accepts_if : Role → Bool → Layers → Book → Book

@@ -1,8 +1,7 @@
 -- Both ends of a logical channel, each as the set of states in which it may be, and what is told of a packet.
 use Rattle.std.specs.Prelude.{ℕ, Bool, true, false, not, ◌&&◌, ◌||◌, if◌then◌else◌, Option, Some, None, is_some}
 use Rattle.x25_bits.specs.declared.{role.Role.{Role}, role.Role.TheVariants.{Dte, Dce}}
-use Rattle.x25_packet_judge.specs.PacketRule.{is_order}
-use Rattle.x25_packet_judge.specs.Reason.{manners, reason}
+use Rattle.x25_packet_judge.specs.{PacketRule.{is_order}, Reason.{manners, reason}}
 use Rattle.x25_packet_judge.specs.declared.{channel.Channel.{Channel}, channel.Event.{Event}}
 use Rattle.x25_packet_judge.specs.declared.channel.Event.TheVariants.{Sends, Loss}
 use Rattle.x25_packet_judge.specs.declared.{book.Noted.TheVariants.{Again, Unjudged}, book.Verdict.{Verdict}}

@@ -1,7 +1,6 @@
 -- The logical channels: those that were seen since all began anew, and what each of the others is as.
 use Rattle.std.specs.Prelude.{ℕ, suc, ◌-◌, ◌%◌, List, [], ◌++◌, length, map, replicate, Option, Some, None, unwrap_or}
-use Rattle.std.specs.Prelude.{◌≡◌, slice_index_or, slice_set}
-use Rattle.std.specs.Option.{option_map}
+use Rattle.std.specs.{Prelude.{◌≡◌, slice_index_or, slice_set}, Option.{option_map}}
 use Rattle.x25_packet_judge.specs.Channel.{happens}
 use Rattle.x25_packet_judge.specs.declared.{channel.Channel.{Channel}, channel.Event.{Event}}
 use Rattle.x25_packet_judge.specs.declared.channel.Event.TheVariants.{Loss}

@@ -22,6 +22,10 @@ is_followed track = false
 abbrev pub unseen : Layer
 unseen = record { track = Unseen; is_fresh = false; next = 0; acked = 0; asked = 0; is_quiet = false }
 
+-- as a trace begins: a SABM that is seen first is the first one
+abbrev pub new : Layer
+new = record unseen { is_quiet = true }
+
 -- the link is set up
 abbrev pub begun : ℕ → Layer
 begun asked = record unseen { track = Followed; is_fresh = true; asked = asked; is_quiet = true }
@@ -32,7 +36,7 @@ found_at number l = record l { track = Followed; is_fresh = false; next = number
 
 -- not all packets were seen
 abbrev pub lost : Layer → Layer
-lost l = record l { track = Unseen; is_fresh = false }
+lost l = record l { track = Unseen; is_fresh = false; is_quiet = false }
 
 -- what it sent since its set-up may be on its way
 abbrev pub is_under_way : Layer → Bool
@@ -40,7 +44,7 @@ is_under_way l = is_followed l.track && not l.is_fresh
 
 -- Behind a set-up of the other end: what this end sent before it is dropped.
 abbrev pub set_up_again : Layer → Layer
-set_up_again l = if is_followed l.track && l.is_fresh then begun l.asked else record l { track = Dropped }
+set_up_again l = if is_followed l.track && l.is_fresh then l else record l { track = Dropped }
 
 -- UA again: it changes nothing where the first end sent nothing since the first one. Else its numbers begin anew, and
 -- the other end may take those of before or these.
@@ -77,11 +81,17 @@ finds_other number t = may_hear t
 abbrev pub worn : Layers → Layers
 worn t = record t { own = record t.own { is_fresh = false } }
 
+-- one with a number is of a set-up, behind a SABM that may not have been seen
+abbrev pub numbered : Layers → Layers
+numbered t = record t {
+  own = record t.own { is_fresh = false; is_quiet = t.own.is_quiet && not (is_unseen t.own.track) };
+}
+
 abbrev pub hears : ℕ → Layers → Layers
 hears number t =
-    if finds_other number t then record (worn t) { other = found_at number t.other }
-    else if may_hear t then record (worn t) { other = record t.other { acked = number } }
-    else worn t
+    if finds_other number t then record (numbered t) { other = found_at number t.other }
+    else if may_hear t then record (numbered t) { other = record t.other { acked = number } }
+    else numbered t
 
 -- one of both isn't followed before its next set-up
 abbrev pub are_dropped : Layers → Bool
@@ -103,13 +113,18 @@ moves number t =
 abbrev pub is_asked_again : Layers → Bool
 is_asked_again t = t.own.is_fresh && (is_dropped t.own.track || is_followed t.other.track)
 
--- what is on its way comes before SABM: until the other end is set up it may send by either
+-- What is on its way comes before SABM: until the other end is set up it may send by either. Packets behind a SABM that
+-- may still be answered are no more forgotten for that.
 abbrev pub asks : Layers → Layers
 asks t =
     if is_asked_again t then asks_more t
-    else if is_under_way t.own
-    then begins t.own.asked (record t { other = record (asks_more t).other { track = Dropped } })
-    else begins t.own.asked (asks_more t)
+    else let next = begins t.own.asked (if is_under_way t.own
+    then record t { other = record (asks_more t).other { track = Dropped } } else asks_more t) in
+    record next {
+      own = record next.own {
+        is_quiet = t.own.is_quiet || (t.other.asked == 0 && not (is_unseen t.own.track));
+      };
+    }
 
 -- UA again, before which nothing was sent since the first one, or behind frames of the other end
 abbrev pub is_late : Layers → Bool

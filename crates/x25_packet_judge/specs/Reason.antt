@@ -5,11 +5,10 @@ use Rattle.std.specs.Prelude.{Some, None, unwrap_or}
 use Rattle.x25_packet_judge.specs.Numbers.{apart}
 use Rattle.x25_packet_judge.specs.declared.packet_rule.PacketRule.{PacketRule}
 use Rattle.x25_packet_judge.specs.declared.packet_rule.PacketRule.TheVariants as rules
-use Rattle.x25_possible.specs.declared.packet.Packet.{Packet}
+use Rattle.x25_possible.specs.declared.{packet.Packet.{Packet}, phase.Talk.{Talk}}
 use Rattle.x25_possible.specs.declared.packet.Packet.TheVariants.{Call, Accept, ClearConf, ResetConf, RestartConf}
 use Rattle.x25_possible.specs.declared.packet.Packet.TheVariants.{Data, Rr, Rnr, Interrupt, InterruptConf}
 use Rattle.x25_possible.specs.declared.{phase.Phase.{Phase}, phase.Phase.TheVariants.{Talks, Resets, Clears, Restarts}}
-use Rattle.x25_possible.specs.declared.phase.Talk.{Talk}
 
 -- ---- what breaks a rule of its own wherever it isn't allowed, and any other packet
 

@@ -1,9 +1,8 @@
 //! The packet layers of both ends and all their channels.
 ghost use Rattle.std.specs.Prelude.{◌≡◌, IfOk, None, Some, true, false};
 ghost use Rattle.x25_frame.specs.Frame.{plain as plain_frame};
-ghost use Rattle.x25_packet.specs.Packet.{plain};
+ghost use Rattle.x25_packet.specs.{Packet.{plain}, Grammar.{form_in}};
 ghost use Rattle.x25_packet_judge.specs.Book as definition;
-ghost use Rattle.x25_packet.specs.Grammar.{form_in};
 
 use crate::channel::Channel;
 use crate::channels::Channels;
@@ -26,7 +25,7 @@ pub struct Book {
     pub(crate) restarts: Channel,
     pub(crate) channels: Channels,
     /// The link was set up, and no packet was missed since then.
-    pub(crate) is_whole: bool,
+    pub is_whole: bool,
 }
 
 /// What is noted of a packet: the end's RESTART, CLEAR or RESET goes again before its answer; or a channel isn't judged
@@ -83,8 +82,8 @@ impl Book {
     {
         let channels = Channels::new(alloc)?;
         Ok(Book {
-            dte: Layer::unseen(),
-            dce: Layer::unseen(),
+            dte: Layer::new(),
+            dce: Layer::new(),
             restarts: Channel::any(),
             channels,
             is_whole: false,
@@ -244,27 +243,13 @@ impl Book {
         ensures book { self.new ≡ (definition.reads from reading channel octets.now self.old).book }
         ensures verdict { result ≡ (definition.reads from reading channel octets.now self.old).verdict }
     {
-        let verdict = if reading.wide {
+        if reading.wide {
             self.reads_any(from, channel, longest_user(reading.long), octets)
         } else {
             match packet {
                 Ok(packet) => self.takes(from, channel, packet),
                 Err(_) => self.misses_on(channel),
             }
-        };
-        self.excused(channel, verdict)
-    }
-
-    /// Where packets weren't seen since the last set-up, an answer of no request may be that of one of these.
-    fn excused(&self, channel: u16, verdict: Verdict) -> Verdict
-        ensures { result ≡ (definition.excused channel (definition.seen self.now verdict)).verdict }
-    {
-        match verdict.rule {
-            Some(PacketRule::RestartUnasked)
-            | Some(PacketRule::ClearUnasked)
-            | Some(PacketRule::AcceptUnasked)
-                if !self.is_whole => passed(Some(Noted::Unjudged(channel))),
-            _ => verdict,
         }
     }
 
@@ -315,9 +300,11 @@ impl Book {
         if is_broken && layers.own.asked == 0 {
             return;
         }
-        if layers.is_late() {
+        // It may answer a SABM before the last one, and what the other end sent between these comes behind it.
+        let is_open = layers.other.is_fresh && !layers.other.is_quiet;
+        if layers.is_late() && !is_open {
             self.keep(from, layers.accepts());
-        } else if layers.own.is_under_way() {
+        } else if is_open || layers.own.is_under_way() {
             self.forget();
             self.keep(from, layers.accepts());
         } else {

@@ -25,7 +25,8 @@ pub(crate) struct Layer {
     pub(crate) acked: u8,
     /// How many SABMs and DISCs of the other end may still be answered.
     pub(crate) asked: u8,
-    /// No packet was sent since the set-up.
+    /// No packet was sent since the set-up, nor between its SABM and one before it that may still be answered. That one
+    /// may stand in front of the trace, or be missing.
     pub(crate) is_quiet: bool,
 }
 
@@ -41,6 +42,16 @@ impl Layer {
             acked: 0,
             asked: 0,
             is_quiet: false,
+        }
+    }
+
+    /// As a trace begins: a SABM that is seen first is the first one.
+    pub(crate) fn new() -> Layer
+        ensures { result ≡ definition.new }
+    {
+        Layer {
+            is_quiet: true,
+            ..Layer::unseen()
         }
     }
 
@@ -63,6 +74,7 @@ impl Layer {
     {
         self.track = Track::Unseen;
         self.is_fresh = false;
+        self.is_quiet = false;
         self
     }
 
@@ -115,19 +127,14 @@ impl Layers {
     }
 
     /// The link is set up for the end that sends: what the other one sent before is dropped.
-    fn begins(self, asked: u8) -> Layers
+    fn begins(mut self, asked: u8) -> Layers
         ensures { result ≡ definition.begins asked self }
     {
-        let mut other = self.other;
-        if matches!(other.track, Track::Followed) && other.is_fresh {
-            other = Layer::begun(other.asked);
-        } else {
-            other.track = Track::Dropped;
+        self.own = Layer::begun(asked);
+        if !matches!(self.other.track, Track::Followed) || !self.other.is_fresh {
+            self.other.track = Track::Dropped;
         }
-        Layers {
-            own: Layer::begun(asked),
-            other,
-        }
+        self
     }
 
     /// SABM or DISC asks for UA or DM.
@@ -166,7 +173,10 @@ impl Layers {
         if self.own.is_under_way() {
             next.other.track = Track::Dropped;
         }
-        next.begins(self.own.asked)
+        next = next.begins(self.own.asked);
+        next.own.is_quiet = self.own.is_quiet
+            || (self.other.asked == 0 && !matches!(self.own.track, Track::Unseen));
+        next
     }
 
     /// UA again, before which nothing was sent since the first one, or behind frames of the other end.
@@ -210,6 +220,7 @@ pub(crate) fn hear(own: &mut Layer, other: &mut Layer, number: u8) -> bool
     ensures found { result ≡ definition.finds_other number (record { own = own.old; other = other.old }) }
 {
     own.is_fresh = false;
+    own.is_quiet = own.is_quiet && !matches!(own.track, Track::Unseen);
     if matches!(own.track, Track::Dropped)
         || matches!(other.track, Track::Dropped)
         || other.is_fresh

@@ -5,8 +5,10 @@ use Rattle.std.specs.List.{refill}
 use Rattle.std.proofs.lemmas.Bool.{eqb-true}
 use Rattle.std.proofs.lemmas.Option.{none-some, same_Some}
 use Rattle.x25_possible.specs.Channel.{at_once, is_polite, sends, takes}
-use Rattle.x25_possible.specs.code.Steps.{IsAlone, IsStep, IsTaken, all_of, alone, alone_in, alone_sends, alone_takes, and_then, flow_in, flow_sends, flow_takes}
-use Rattle.x25_possible.specs.code.Steps.{goes, goes_by, grows, is_known, is_large, is_numbered, may_send, one_of, quietly, rude_from, sends_to, sent_to, settles}
+use Rattle.x25_possible.specs.code.Steps.{IsAlone, IsStep, IsTaken, all_of, alone, alone_in, alone_sends, alone_takes, and_then, flow_in, flow_sends}
+use Rattle.x25_possible.specs.code.Steps.{flow_takes}
+use Rattle.x25_possible.specs.code.Steps.{goes, goes_by, grows, is_known, is_large, is_numbered, may_send, one_of, quietly, rude_from, sends_to, sent_to}
+use Rattle.x25_possible.specs.code.Steps.{settles}
 use Rattle.x25_possible.specs.code.Steps.{settles_by, shown_to, shows_to, small, small_in, spot_at, standing, Stepped, told_by, trimmed, trims}
 use Rattle.x25_possible.specs.declared.packet.Packet.{Packet}
 use Rattle.x25_possible.specs.declared.phase.Phase.{Phase}

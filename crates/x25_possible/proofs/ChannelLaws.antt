@@ -1,5 +1,5 @@
 -- The choices of a channel are favourites of its rules.
-use Rattle.std.proofs.Common.{◌≡◌, inl, inr, List, refl, sym, ap, ap₂, subst, ◌∙◌, Option, Some, None, Bool, true, false}
+use Rattle.std.proofs.Common.{◌≡◌, inl, inr, List, [], ◌∷◌, refl, sym, ap, ap₂, subst, ◌∙◌, Option, Some, None, Bool, true, false}
 use Rattle.std.proofs.Common.{ℕ, ◌+◌, ◌-◌, ◌%◌, ◌≤◌, arith, nat_le, nat_lt, ◌==◌, ◌&&◌, not, if◌then◌else◌, le_refl, le_trans, lt_of_lt_of_le}
 use Rattle.std.proofs.Common.{cond}
 use Rattle.std.proofs.lemmas.Bool.{both_ways, not-true, and_parts, and_from, eqb-true, leb-true, ltb-true, eq-eqb, le-leb, lt-ltb}
@@ -8,7 +8,8 @@ use Rattle.x25_possible.specs.laws.Possible.{IsIn, AreFavourites}
 use Rattle.x25_bits.specs.declared.role.Role.{Role}
 use Rattle.x25_possible.specs.Channel.{nth, may_ack, may_number, may_follow, may_talk, fits, limits_of, talked, heard, hears, sends_as, takes, sends}
 use Rattle.x25_possible.specs.Channel.{idle_sends, resets_sends, clears_sends, idle_takes, calls_takes}
-use Rattle.x25_possible.specs.Channel.{ending_sends, silent_sends, talk_sends, talking_as, talk_takes, resets_takes, clears_takes, restarts_takes, is_one_message, dropped, dropped_in_call, talk_at_once, clears_at_once, restarts_at_once, told_of, pr_of, at_once, one}
+use Rattle.x25_possible.specs.Channel.{ending_sends, silent_sends, talk_sends, talking_as, talk_takes, resets_takes, clears_takes, restarts_takes}
+use Rattle.x25_possible.specs.Channel.{is_one_message, dropped, dropped_in_call, talk_at_once, clears_at_once, restarts_at_once, told_of, pr_of, at_once, one}
 use Rattle.x25_possible.specs.Channel.{channel_rules, channel_choices, lowered}
 use Rattle.x25_possible.specs.declared.packet.Packet.{Packet}
 use Rattle.x25_possible.specs.declared.packet.Packet.TheVariants.{Call, Accept, Clear, ClearConf, Reset}
@@ -209,16 +210,16 @@ talk_takes_good low k Restart small = same_is_good WasRestarted
 talk_takes_good low k x small =
     (low, subst (λ n. low ≤ n) (sym (heard_told k x)) small, ap Talks (heard_lowered low k x))
 
-takes_good : (role : Role) (s u : Phase) (x : Packet) (r : Phase) → IsAsGood s u → takes role s x ≡ Some r → IsGoodSend r (takes role u x)
-unfolding IsGoodSend
+takes_good : (role : Role) (s u : Phase) (x : Packet) (r : Phase) → IsAsGood s u → takes role s x ≡ r
+    → (v : Phase) × IsAsGood r v × IsIn v (takes role u x ∷ [])
 takes_good role (Talks k) u x r g e =
-    subst (λ w. (v : Phase) × IsAsGood r v × IsIn v (one (takes role w x))) (sym g.2) (
+    subst (λ w. (v : Phase) × IsAsGood r v × IsIn v (takes role w x ∷ [])) (sym g.2) (
       talk_takes (record k { told = g.0 }) x,
-      subst (λ w. IsAsGood w (talk_takes (record k { told = g.0 }) x)) (same_Some (talk_takes k x) r e) (talk_takes_good g.0 k x g.1),
+      subst (λ w. IsAsGood w (talk_takes (record k { told = g.0 }) x)) e (talk_takes_good g.0 k x g.1),
       inl refl,
     )
 takes_good role s u x r g e =
-    subst (λ w. (v : Phase) × IsAsGood r v × IsIn v (one (takes role w x))) (sym g.2) (same_send (takes role s x) (takes role s x) r refl e)
+    subst (λ w. (v : Phase) × IsAsGood r v × IsIn v (takes role w x ∷ [])) (sym g.2) (r, same_is_good r, inl (sym e))
 
 -- ---- what it takes at once
 
@@ -289,18 +290,22 @@ restarts_takes_at_once Restart u e = absurd (none-some u e)
 restarts_takes_at_once RestartConf u e = absurd (none-some u e)
 restarts_takes_at_once x u e = same_Some Restarts u e
 
-at_once_takes : (role : Role) (s : Phase) (x : Packet) (u : Phase) → at_once s x ≡ Some u → takes role s x ≡ Some u
-at_once_takes role (Talks k) x u e = ap Some (talk_takes_at_once k x u e)
-at_once_takes role Idle x u e = ap Some (idle_takes_at_once x u e)
-at_once_takes role (Calls terms) x u e = ap Some (calls_takes_at_once role terms x u e)
-at_once_takes role (Resets limits) x u e = ap Some (resets_takes_at_once limits x u e)
-at_once_takes role Clears x u e = ap Some (clears_takes_at_once x u e)
-at_once_takes role Restarts x u e = ap Some (restarts_takes_at_once x u e)
+at_once_takes : (role : Role) (s : Phase) (x : Packet) (u : Phase) → at_once s x ≡ Some u → takes role s x ≡ u
+at_once_takes role (Talks k) x u e = talk_takes_at_once k x u e
+at_once_takes role Idle x u e = idle_takes_at_once x u e
+at_once_takes role (Calls terms) x u e = calls_takes_at_once role terms x u e
+at_once_takes role (Resets limits) x u e = resets_takes_at_once limits x u e
+at_once_takes role Clears x u e = clears_takes_at_once x u e
+at_once_takes role Restarts x u e = restarts_takes_at_once x u e
 at_once_takes role s x u e = absurd (none-some u e)
 
-best_taken : (role : Role) (s : Phase) (x : Packet) (u v : Phase) → at_once s x ≡ Some u → IsIn v (one (takes role s x)) → IsAsGood v u
+taken : (role : Role) (s : Phase) (x : Packet) (r : Phase) → IsIn r (takes role s x ∷ []) → takes role s x ≡ r
+taken role s x r (inl e) = sym e
+taken role s x r (inr h) = absurd h
+
+best_taken : (role : Role) (s : Phase) (x : Packet) (u v : Phase) → at_once s x ≡ Some u → IsIn v (takes role s x ∷ []) → IsAsGood v u
 best_taken role s x u v e is =
-    subst (λ w. IsAsGood w u) (same_Some u v (sym (at_once_takes role s x u e) ∙ from_one (takes role s x) v is)) (same_is_good u)
+    subst (λ w. IsAsGood w u) (sym (at_once_takes role s x u e) ∙ taken role s x v is) (same_is_good u)
 
 -- ---- what is taken at once commutes with what it sends
 
@@ -713,7 +718,7 @@ unfolding IsGoodSend
 channel_favourites role begun = record {
   may_begin = λ s is. is;
   may_send = λ s way x r is. (nth (told_of s) (pr_of x), from_one (sends s x) r is);
-  may_take = λ s x r is. from_one (takes role s x) r is;
+  may_take = λ s x r is. taken role s x r is;
   may_take_at_once = λ s x r e. at_once_takes role s x r e;
   begins = λ s is. (s, same_is_good s, is);
   sends = λ s u way x r good may. sends_good s u x r good may;

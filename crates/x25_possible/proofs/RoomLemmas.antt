@@ -1,17 +1,20 @@
 -- Where there is room a set stays known, and tells whatever room there is.
-use Rattle.std.proofs.Common.{Bool, true, false, ◌≡◌, ◌⊎◌, inl, inr, ℕ, suc, ◌+◌, ◌-◌, ◌<◌, ◌≤◌, ◌==◌, ◌||◌, nat_le, ◌&&◌, not, if◌then◌else◌, refl, sym, ap, subst, ◌∙◌}
+use Rattle.std.proofs.Common.{Bool, true, false, ◌≡◌, ◌⊎◌, inl, inr, ℕ, suc, ◌+◌, ◌-◌, ◌<◌, ◌≤◌, ◌==◌, ◌||◌, nat_le, ◌&&◌, not, if◌then◌else◌, refl, sym, ap}
+use Rattle.std.proofs.Common.{subst, ◌∙◌}
 use Rattle.std.proofs.Common.{List, [], ◌∷◌, ◌++◌, map, drop, length, flat_map, Option, Some, None, arith, append-nil, length-drop, drop_of_length-le}
 use Rattle.std.proofs.lemmas.Bool.{both_ways, eqb-true, leb-true, leb-false}
 use Rattle.std.proofs.lemmas.List.{drop_at, length-append}
 use Rattle.std.proofs.lemmas.Option.{none-some, same_Some}
 use Rattle.x25_bits.specs.declared.role.Role.{Role}
 use Rattle.x25_possible.specs.Channel.{at_once, channel_choices, channel_rules, dropped, found, one, sends, takes}
-use Rattle.x25_possible.specs.laws.Possible.{Item, Own, IsIn, IsUnexplained, Place, after_other, after_own, at, grown, possible, settled}
+use Rattle.x25_possible.specs.laws.Possible.{Item, Own, IsIn, IsUnexplained, Place, after_other, after_own, grown, possible, settled}
 use Rattle.x25_possible.specs.laws.Sets.{AreCounted, Fits, HasRoomToSend, HasRoomToShow, IsBroken, IsCounted, IsUntold, OfSome, StaysKnown, placed}
-use Rattle.x25_possible.specs.code.Steps.{all_of, and_then, anew, anew_at, are_answered, are_at_end, awaits, breaks, broken_to, hidden_by, caught_up, located, lost, may_find, is_awaiting}
-use Rattle.x25_possible.specs.code.Steps.{explained, finds, found_from, found_in, found_to, is_lost, is_some, settles_found, go_all, goes, goes_by, grow_all, grows, is_blind, is_known, is_large, is_there, kept, known_by}
+use Rattle.x25_possible.specs.code.Steps.{all_of, and_then, anew, anew_at, are_answered, are_at_end, awaits, breaks, broken_to, hidden_by, caught_up, located}
+use Rattle.x25_possible.specs.code.Steps.{lost, may_find, is_awaiting}
+use Rattle.x25_possible.specs.code.Steps.{explained, finds, found_from, found_in, found_to, is_lost, is_some, settles_found, go_all, goes, goes_by, grow_all}
+use Rattle.x25_possible.specs.code.Steps.{grows, is_blind, is_known, is_large, is_there, kept, known_by}
 use Rattle.x25_possible.specs.code.Steps.{latest_from, makes_known, next_of, quietly, rude_from, sends_to, sent, sent_to, settles, settles_by, shown, shown_to}
-use Rattle.x25_possible.specs.code.Steps.{shows_to, spot_at, standing, taken_on, told_by, trimmed, trimmed_to, trims, unexplained, without_room}
+use Rattle.x25_possible.specs.code.Steps.{shows_to, spot_at, standing, told_by, trimmed, trimmed_to, trims, unexplained, without_room}
 use Rattle.x25_possible.specs.declared.packet.Packet.{Packet}
 use Rattle.x25_possible.specs.declared.packet.Packet.TheVariants.{Data}
 use Rattle.x25_possible.specs.declared.phase.Phase.{Phase}
@@ -60,15 +63,10 @@ counted_all step each (q ∷ qs) out new all old h =
 
 module _ (role : Role) (n : ℕ) (x : Packet) (rest : List Packet) (s : Phase) (out new : List Spot) (old : AreCounted out)
     (more : (u : Phase) (mid : List Spot) → AreCounted mid → settles role (n + 1) rest u mid ≡ Some new → AreCounted new) where
-  counted_taken : (mid : List Spot) (t : Option Phase) → AreCounted mid → taken_on t (settles role (n + 1) rest) mid ≡ Some new
-      → AreCounted new
-  counted_taken mid None all h = counted_same mid new all h
-  counted_taken mid (Some u) all h = more u mid all h
-
   counted_held : (k : Option (List Spot)) → is_large s ≡ false → kept (spot_at n s) out ≡ k
-      → and_then k (taken_on (takes role s x) (settles role (n + 1) rest)) ≡ Some new → AreCounted new
+      → and_then k (settles role (n + 1) rest (takes role s x)) ≡ Some new → AreCounted new
   counted_held None small e h = absurd (none-some new h)
-  counted_held (Some mid) small e h = counted_taken mid (takes role s x) (counted_kept (spot_at n s) out mid small old e) h
+  counted_held (Some mid) small e h = more (takes role s x) mid (counted_kept (spot_at n s) out mid small old e) h
 
   counted_once : (o : Option Phase) → is_large s ≡ false
       → settles_by o (takes role s x) (spot_at n s) (settles role (n + 1) rest) out ≡ Some new → AreCounted new
@@ -363,25 +361,16 @@ module _ (role : Role) (n : ℕ) (x : Packet) (rest : List Packet) (s : Phase) (
   abbrev Made : Option (List Spot) → Type 0
   Made o = Makes Size out o
 
-  makes_taken : (t : Option Phase) → at_once s x ≡ None → takes role s x ≡ t
-      → Made (and_then (kept (spot_at n s) out) (taken_on t (settles role (n + 1) rest)))
-  makes_taken None e f =
-      let long : Size ≡ 1 = ap length (settled_apart role x rest s None e f) in
-      makes_by 1 Size out (and_then (kept (spot_at n s) out) (taken_on None (settles role (n + 1) rest)))
-      (and_then (kept (spot_at n s) out) (taken_on None (settles role (n + 1) rest))) (sym long) refl
-      (then_makes 1 0 out (kept (spot_at n s) out) (taken_on None (settles role (n + 1) rest))
-      (kept_makes (spot_at n s) out (omega (arith, room, long))) (λ mid h. makes_none mid))
-  makes_taken (Some u) e f =
-      let long : Size ≡ suc (length (settled (channel_choices role) rest u)) =
-      ap length (settled_apart role x rest s (Some u) e f
-      ∙ ap (λ ps. at s (x ∷ rest) ∷ ps) (append-nil (settled (channel_choices role) rest u))) in
-      makes_by (1 + length (settled (channel_choices role) rest u)) Size out
-      (and_then (kept (spot_at n s) out) (taken_on (Some u) (settles role (n + 1) rest)))
-      (and_then (kept (spot_at n s) out) (taken_on (Some u) (settles role (n + 1) rest))) (omega (arith, long)) refl
-      (then_makes 1 (length (settled (channel_choices role) rest u)) out (kept (spot_at n s) out)
-      (taken_on (Some u) (settles role (n + 1) rest))
+  makes_taken : at_once s x ≡ None → Made (and_then (kept (spot_at n s) out) (settles role (n + 1) rest (takes role s x)))
+  makes_taken e =
+      let long : Size ≡ suc (length (settled (channel_choices role) rest (takes role s x))) = ap length (settled_apart role x rest s e) in
+      makes_by (1 + length (settled (channel_choices role) rest (takes role s x))) Size out
+      (and_then (kept (spot_at n s) out) (settles role (n + 1) rest (takes role s x)))
+      (and_then (kept (spot_at n s) out) (settles role (n + 1) rest (takes role s x))) (omega (arith, long)) refl
+      (then_makes 1 (length (settled (channel_choices role) rest (takes role s x))) out (kept (spot_at n s) out)
+      (settles role (n + 1) rest (takes role s x))
       (kept_makes (spot_at n s) out (omega (arith, room, long)))
-      (λ mid h. more u mid (subst (λ o. OfSome o (IsCounted rest role)) f counted.2) (omega (arith, room, long, h))))
+      (λ mid h. more (takes role s x) mid counted.2 (omega (arith, room, long, h))))
 
   makes_once : (o : Option Phase) → at_once s x ≡ o → Made (settles_by o (takes role s x) (spot_at n s) (settles role (n + 1) rest) out)
   makes_once (Some u) e =
@@ -389,7 +378,7 @@ module _ (role : Role) (n : ℕ) (x : Packet) (rest : List Packet) (s : Phase) (
       makes_by (length (settled (channel_choices role) rest u)) Size out (settles role (n + 1) rest u out)
       (settles role (n + 1) rest u out) (sym long) refl
       (more u out (subst (λ o. OfSome o (IsCounted rest role)) e counted.1) (omega (arith, room, long)))
-  makes_once None e = makes_taken (takes role s x) e refl
+  makes_once None e = makes_taken e
 
   makes_settled : Made (settles role n (x ∷ rest) s out)
   makes_settled =

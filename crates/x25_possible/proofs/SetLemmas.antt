@@ -9,7 +9,8 @@ use Rattle.x25_possible.specs.laws.Possible.{Place, Item, Own, Other, IsIn, IsUn
 use Rattle.x25_possible.specs.laws.Sets.{placed, AreSame, Fits, IsBroken, IsRude, IsUntold, SendsExactly, ShowsExactly}
 use Rattle.x25_possible.specs.code.Steps.{anew, are_answered, are_at_end, awaits, breaks, explained, finds, go_all}
 use Rattle.x25_possible.specs.code.Steps.{grow_all, is_blind, is_known, known_by, blind_by, latest_from, lost, makes_known, may_send, quietly, rude_from}
-use Rattle.x25_possible.specs.code.Steps.{sends_to, sent, sent_to, hidden_by, is_awaiting, shown, shown_to, shows_to, standing, Stepped, told_by, trimmed, trimmed_to}
+use Rattle.x25_possible.specs.code.Steps.{sends_to, sent, sent_to, hidden_by, is_awaiting, shown, shown_to, shows_to, standing, Stepped, told_by, trimmed}
+use Rattle.x25_possible.specs.code.Steps.{trimmed_to}
 use Rattle.x25_possible.specs.code.Steps.{trims, unexplained, without_room}
 use Rattle.x25_possible.specs.declared.packet.Packet.{Packet}
 use Rattle.x25_possible.specs.declared.phase.Phase.{Phase}

@@ -9,7 +9,7 @@ use Rattle.x25_bits.specs.declared.role.Role.{Role}
 use Rattle.x25_possible.specs.Channel.{channel_choices, at_once, takes, sends, one}
 use Rattle.x25_possible.specs.laws.Possible.{Place, at, IsIn, settled, settled_by, grown, after_own, after_other}
 use Rattle.x25_possible.specs.laws.Sets.{placed}
-use Rattle.x25_possible.specs.code.Steps.{same_limits, same_terms, is_same, is_there, kept, and_then, is_large, spot_at, taken_on, settles_by}
+use Rattle.x25_possible.specs.code.Steps.{same_limits, same_terms, is_same, is_there, kept, and_then, is_large, spot_at, settles_by}
 use Rattle.x25_possible.specs.code.Steps.{settles, all_of, goes_by, goes, go_all, grows, grow_all, are_at_end, anew_at, anew}
 use Rattle.x25_possible.specs.declared.packet.Packet.{Packet}
 use Rattle.x25_possible.specs.declared.packet.Terms.{Terms}
@@ -47,7 +47,8 @@ limits_are_same a b h =
 
 terms_are_same : (a b : Terms) → same_terms a b ≡ true → a ≡ b
 terms_are_same a b h =
-    let p = and_parts (a.calling_size == b.calling_size) (a.called_size == b.called_size && (a.calling_window == b.calling_window && a.called_window == b.called_window)) h in
+    let p = and_parts (a.calling_size == b.calling_size)
+    (a.called_size == b.called_size && (a.calling_window == b.calling_window && a.called_window == b.called_window)) h in
     let q = and_parts (a.called_size == b.called_size) (a.calling_window == b.calling_window && a.called_window == b.called_window) p.1 in
     let r = and_parts (a.calling_window == b.calling_window) (a.called_window == b.called_window) q.1 in
     ap₂ (λ (f : ℕ → Terms) w. f w)
@@ -181,13 +182,13 @@ all_add f step g each (q ∷ qs) out new h = go (step q out) refl (λ mid. all_a
 pub settled_once : (role : Role) (x : Packet) (rest : List Packet) (s next : Phase) → at_once s x ≡ Some next
     → settled (channel_choices role) (x ∷ rest) s ≡ settled (channel_choices role) rest next
 settled_once role x rest s next e =
-    ap (λ o. settled_by o s (x ∷ rest) (settled (channel_choices role) rest) (one (takes role s x))) e
+    ap (λ o. settled_by o s (x ∷ rest) (settled (channel_choices role) rest) (takes role s x ∷ [])) e
 
-pub settled_apart : (role : Role) (x : Packet) (rest : List Packet) (s : Phase) (o : Option Phase) → at_once s x ≡ None → takes role s x ≡ o
-    → settled (channel_choices role) (x ∷ rest) s ≡ at s (x ∷ rest) ∷ flat_map (settled (channel_choices role) rest) (one o)
-settled_apart role x rest s o e f =
-    ap (λ p. settled_by p s (x ∷ rest) (settled (channel_choices role) rest) (one (takes role s x))) e
-    ∙ ap (λ p. at s (x ∷ rest) ∷ flat_map (settled (channel_choices role) rest) (one p)) f
+pub settled_apart : (role : Role) (x : Packet) (rest : List Packet) (s : Phase) → at_once s x ≡ None
+    → settled (channel_choices role) (x ∷ rest) s ≡ at s (x ∷ rest) ∷ settled (channel_choices role) rest (takes role s x)
+settled_apart role x rest s e =
+    ap (λ p. settled_by p s (x ∷ rest) (settled (channel_choices role) rest) (takes role s x ∷ [])) e
+    ∙ ap (λ ps. at s (x ∷ rest) ∷ ps) (append-nil (settled (channel_choices role) rest (takes role s x)))
 
 next_drop : (n : ℕ) (way : List Packet) (x : Packet) (rest : List Packet) → drop n way ≡ x ∷ rest → drop (n + 1) way ≡ rest
 next_drop n way x rest e = sym (drop-drop 1 n way) ∙ ap (drop 1) e
@@ -204,21 +205,13 @@ module _ (role : Role) (way : List Packet) where
         subst (λ w. Adds (placed way) out mid (at s w ∷ [])) front
         (adds_one (placed way) (spot_at n s) out mid (keeps (spot_at n s) out mid e))
 
-    by_taken : (mid : List Spot) (t : Option Phase) → at_once s x ≡ None → takes role s x ≡ t
-        → kept (spot_at n s) out ≡ Some mid → taken_on t (settles role (n + 1) rest) mid ≡ Some new
-        → Settles out new (x ∷ rest) s
-    by_taken mid None e f k h =
-        subst (λ qs. Adds (placed way) out new qs) (sym (settled_apart role x rest s None e f))
-        (subst (λ ys. Adds (placed way) out ys (at s (x ∷ rest) ∷ [])) (same_Some mid new h) (stays mid k))
-    by_taken mid (Some u) e f k h =
-        subst (λ qs. Adds (placed way) out new qs) (sym (settled_apart role x rest s (Some u) e f))
-        (adds_both (placed way) out mid new (at s (x ∷ rest) ∷ []) (settled (channel_choices role) rest u ++ []) (stays mid k)
-        (subst (λ qs. Adds (placed way) mid new qs) (sym (append-nil (settled (channel_choices role) rest u))) (more u mid h)))
-
     by_kept : (k : Option (List Spot)) → at_once s x ≡ None → kept (spot_at n s) out ≡ k
-        → and_then k (taken_on (takes role s x) (settles role (n + 1) rest)) ≡ Some new → Settles out new (x ∷ rest) s
+        → and_then k (settles role (n + 1) rest (takes role s x)) ≡ Some new → Settles out new (x ∷ rest) s
     by_kept None e k h = absurd (none-some new h)
-    by_kept (Some mid) e k h = by_taken mid (takes role s x) e refl k h
+    by_kept (Some mid) e k h =
+        subst (λ qs. Adds (placed way) out new qs) (sym (settled_apart role x rest s e))
+        (adds_both (placed way) out mid new (at s (x ∷ rest) ∷ []) (settled (channel_choices role) rest (takes role s x)) (stays mid k)
+        (more (takes role s x) mid h))
 
     by_once : (o : Option Phase) → at_once s x ≡ o
         → settles_by o (takes role s x) (spot_at n s) (settles role (n + 1) rest) out ≡ Some new → Settles out new (x ∷ rest) s

@@ -44,7 +44,8 @@ data IsFaithful (states : List Phase) (role : Role) (tape : List (Item Packet)) 
   Dark : s.knowledge ≡ Blind → IsFaithful states role tape s
 
 dark_sends : (s : Set) (x : Packet) → s.knowledge ≡ Blind → sends_to x s ≡ quietly s
-dark_sends s x e = ap (λ k. sends_to x (standing s.role s.way.items s.spots.items k)) e ∙ sym (ap (λ k. quietly (standing s.role s.way.items s.spots.items k)) e)
+dark_sends s x e = ap (λ k. sends_to x (standing s.role s.way.items s.spots.items k)) e
+    ∙ sym (ap (λ k. quietly (standing s.role s.way.items s.spots.items k)) e)
 
 dark_shows : (s : Set) (x : Packet) → s.knowledge ≡ Blind → shows_to x s ≡ s
 dark_shows s x e =

@@ -272,31 +272,19 @@ restarts_takes Restart = Idle
 restarts_takes RestartConf = Idle
 restarts_takes x = Restarts
 
--- RESET, CLEAR and RESTART are answered before it takes what comes behind them. But one that is sent again may have the
--- same answer, and what CLEAR or RESTART ends needs none (4.1.7, 3.3.1).
-abbrev pub restarted_takes : Packet → Option Phase
-restarted_takes Restart = Some WasRestarted
-restarted_takes x = None
-
-abbrev pub cleared_takes : Packet → Option Phase
-cleared_takes Clear = Some WasCleared
-cleared_takes x = restarted_takes x
-
-abbrev pub reset_takes : Limits → Packet → Option Phase
-reset_takes limits Reset = Some (WasReset limits)
-reset_takes limits x = cleared_takes x
-
-abbrev pub takes : Role → Phase → Packet → Option Phase
-takes role Idle x = Some (idle_takes x)
-takes role (Calls terms) x = Some (calls_takes role terms x)
-takes role (WasCalled terms) x = Some (ended_by x (WasCalled terms))
-takes role (Talks k) x = Some (talk_takes k x)
-takes role (Resets limits) x = Some (resets_takes limits x)
-takes role (WasReset limits) x = reset_takes limits x
-takes role Clears x = Some (clears_takes x)
-takes role WasCleared x = cleared_takes x
-takes role Restarts x = Some (restarts_takes x)
-takes role WasRestarted x = restarted_takes x
+-- RESET, CLEAR and RESTART are answered at any moment, and what comes before that is dropped. So one that is sent again
+-- may have the same answer, and what CLEAR or RESTART ends needs none (4.1.7, 3.3.1).
+abbrev pub takes : Role → Phase → Packet → Phase
+takes role Idle x = idle_takes x
+takes role (Calls terms) x = calls_takes role terms x
+takes role (WasCalled terms) x = ended_by x (WasCalled terms)
+takes role (Talks k) x = talk_takes k x
+takes role (Resets limits) x = resets_takes limits x
+takes role (WasReset limits) x = ended_by x (WasReset limits)
+takes role Clears x = clears_takes x
+takes role WasCleared x = ended_by x WasCleared
+takes role Restarts x = restarts_takes x
+takes role WasRestarted x = WasRestarted
 
 -- ---- the rules, of an end that begins in one of these states, and what the judge goes by
 
@@ -304,7 +292,7 @@ abbrev pub channel_rules : Role → List Phase → Rules Phase Packet
 channel_rules role begun = record {
   Begins = λ s. IsIn s begun;
   Sends = λ s way x r. (t : ℕ) × (sends_as t s x ≡ Some r);
-  Takes = λ s x r. takes role s x ≡ Some r;
+  Takes = λ s x r. takes role s x ≡ r;
 }
 
 -- a P(R) stands for the least number that it may
@@ -370,7 +358,7 @@ one (Some s) = s ∷ []
 abbrev pub channel_choices : Role → Choices Phase Packet
 channel_choices role = record {
   sends = λ s way x. one (sends s x);
-  takes = λ s x. one (takes role s x);
+  takes = λ s x. takes role s x ∷ [];
   at_once = at_once;
 }
 

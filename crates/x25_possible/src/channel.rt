@@ -462,49 +462,20 @@ fn restarts_takes(packet: Packet) -> Phase
     }
 }
 
-fn restarted_takes(packet: Packet) -> Option<Phase>
-    ensures { result ≡ definition.restarted_takes packet }
-{
-    match packet {
-        Packet::Restart => Some(Phase::WasRestarted),
-        _ => None,
-    }
-}
-
-fn cleared_takes(packet: Packet) -> Option<Phase>
-    ensures { result ≡ definition.cleared_takes packet }
-{
-    match packet {
-        Packet::Clear => Some(Phase::WasCleared),
-        _ => restarted_takes(packet),
-    }
-}
-
-fn reset_takes(limits: Limits, packet: Packet) -> Option<Phase>
-    ensures { result ≡ definition.reset_takes limits packet }
-{
-    match packet {
-        Packet::Reset => Some(Phase::WasReset(limits)),
-        _ => cleared_takes(packet),
-    }
-}
-
-/// Where it is behind a packet that comes; None where it has to answer first.
-pub(crate) fn takes(role: Role, phase: &Phase, packet: &Packet) -> Option<Phase>
+/// Where it is behind a packet that comes.
+pub(crate) fn takes(role: Role, phase: &Phase, packet: &Packet) -> Phase
     requires { IsSmall phase.now }
     ensures { result ≡ definition.takes role phase.now packet.now }
 {
     match phase {
-        Phase::Idle => Some(idle_takes(*packet)),
-        Phase::Calls(terms) => Some(calls_takes(role, *terms, *packet)),
-        Phase::WasCalled(_) => Some(ended_by(*packet, *phase)),
-        Phase::Talks(talk) => Some(talk_takes(*talk, *packet)),
-        Phase::Resets(limits) => Some(resets_takes(*limits, *packet)),
-        Phase::WasReset(limits) => reset_takes(*limits, *packet),
-        Phase::Clears => Some(clears_takes(*packet)),
-        Phase::WasCleared => cleared_takes(*packet),
-        Phase::Restarts => Some(restarts_takes(*packet)),
-        Phase::WasRestarted => restarted_takes(*packet),
+        Phase::Idle => idle_takes(*packet),
+        Phase::Calls(terms) => calls_takes(role, *terms, *packet),
+        Phase::WasCalled(_) | Phase::WasReset(_) | Phase::WasCleared => ended_by(*packet, *phase),
+        Phase::Talks(talk) => talk_takes(*talk, *packet),
+        Phase::Resets(limits) => resets_takes(*limits, *packet),
+        Phase::Clears => clears_takes(*packet),
+        Phase::Restarts => restarts_takes(*packet),
+        Phase::WasRestarted => Phase::WasRestarted,
     }
 }
 

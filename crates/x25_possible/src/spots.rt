@@ -85,10 +85,7 @@ fn settle(role: Role, phase: Phase, at: usize, way: &[Packet], out: &mut Spots) 
         if !keep(out, Spot { phase, at }) {
             return false;
         }
-        let Some(next) = takes(role, &phase, &way[at]) else {
-            return true;
-        };
-        phase = next;
+        phase = takes(role, &phase, &way[at]);
         at += 1;
     }
 }

@@ -9,7 +9,8 @@ use Rattle.x25_possible.specs.Channel.{nth}
 use Rattle.x25_possible_links.specs.laws.Link.{counts, heard, is_ua, may_acknowledge, may_number, sent_to as numbered, told_to}
 use Rattle.x25_possible_links.specs.laws.Places.{sends}
 use Rattle.x25_possible_links.specs.code.Steps.{IsInSession, IsStep, IsTaken, all_of, and_then, first_of, grow_all, in_session}
-use Rattle.x25_possible_links.specs.code.Steps.{are_near, are_sure, is_large, far, marked, near, near_numbers, session, session_of, sent_to, sends_to, settles, shown_to, shows_to}
+use Rattle.x25_possible_links.specs.code.Steps.{are_near, are_sure, is_large, far, marked, near, near_numbers, session, session_of, sent_to, sends_to, settles}
+use Rattle.x25_possible_links.specs.code.Steps.{shown_to, shows_to}
 use Rattle.x25_possible_links.specs.code.Steps.{facts, has_sent, is_counted, is_sure, numbers, numbers_by, session_facts}
 use Rattle.x25_possible_links.specs.code.Steps.{kept_by, spot_at, up_hears, up_sends, walk_all, walks, with_first}
 use Rattle.x25_possible_links.specs.declared.frame.Frame.{Frame}

@@ -22,7 +22,7 @@ use Rattle.x25_possible.specs.declared.phase.Phase.{Phase}
 use Rattle.x25_possible.specs.declared.phase.Phase.TheVariants as phase
 use Rattle.x25_possible_peers.specs.laws.Peers.{item_of, phase_of, stage_phase, transfer_phase, talk_of, limits, IsOfRole, IsTakenSo}
 use Rattle.x25_possible_peers.specs.laws.AsPeers as as_peers
-use Rattle.x25_possible_peers.specs.laws.AsPeers.{End, Stands, Owes, IsAt, IsPeer, IsSized, SendsOn, SendsBeyond, TakesOn, ChannelRulesArePeers}
+use Rattle.x25_possible_peers.specs.laws.AsPeers.{NotClear, End, Stands, Owes, IsAt, IsPeer, IsSized, SendsOn, SendsBeyond, TakesOn, ChannelRulesArePeers}
 use Rattle.x25_possible_peers.proofs.PeerLemmas.{channel_sends, channel_takes, accept_sends, stretch_sends as deed_sends}
 use Rattle.x25_possible_peers.proofs.StretchLemmas.{MayDoIt, stretch_sends}
 use Rattle.x25_possible_peers.proofs.TapeLemmas.{does_of_role, takes_of_role}
@@ -89,16 +89,16 @@ pub data Owed : At PeerCall → theirs.Packet → Phase → Type 0 where
   reset : (e k : ℕ) (m i : List CallRequest) (t b : Terms) (y : PeerStretch)
       → Owed (live e (stands (Talking t b (live k y)) m i)) theirs.Reset (phase.WasReset (limits t))
 
-clear_at : (e : ℕ) (c : PeerCall) (s : Phase) → Some phase.WasCleared ≡ Some s → Owed (live e c) theirs.Clear s
-clear_at e c s h = subst (λ u. Owed (live e c) theirs.Clear u) (same_some phase.WasCleared s h) (clear e c)
+clear_at : (e : ℕ) (c : PeerCall) (s : Phase) → phase.WasCleared ≡ s → Owed (live e c) theirs.Clear s
+clear_at e c s h = subst (λ u. Owed (live e c) theirs.Clear u) h (clear e c)
 
-reset_at : (e k : ℕ) (m i : List CallRequest) (t b : Terms) (y : PeerStretch) (s : Phase) → Some (phase.WasReset (limits t)) ≡ Some s
+reset_at : (e k : ℕ) (m i : List CallRequest) (t b : Terms) (y : PeerStretch) (s : Phase) → phase.WasReset (limits t) ≡ s
     → Owed (live e (stands (Talking t b (live k y)) m i)) theirs.Reset s
 reset_at e k m i t b y s h =
-    subst (λ u. Owed (live e (stands (Talking t b (live k y)) m i)) theirs.Reset u) (same_some (phase.WasReset (limits t)) s h) (reset e k m i t b y)
+    subst (λ u. Owed (live e (stands (Talking t b (live k y)) m i)) theirs.Reset u) h (reset e k m i t b y)
 
 owed_talking : (r : Role) (e k : ℕ) (m i : List CallRequest) (t b : Terms) (y : Side PeerStretch) (q a : theirs.Packet) (s : Phase)
-    → takes r (transfer_phase (limits t) y) (item_of q) ≡ Some s
+    → takes r (transfer_phase (limits t) y) (item_of q) ≡ s
     → (channel_taking r e (Live (stands (Talking t b (record { epoch = k; side = y })) m i)) q).out ≡ a ∷ []
     → Owed (live e (stands (Talking t b (record { epoch = k; side = y })) m i)) q s
 owed_talking r e k m i t b (Live y) theirs.Clear a s h out = clear_at e (stands (Talking t b (live k y)) m i) s h
@@ -108,7 +108,7 @@ owed_talking r e k m i t b (Live y) q a s h out = absurd (no_item a [] out)
 owed_talking r e k m i t b (Left y) q a s h out = absurd (no_item a [] out)
 
 owed_call : (r : Role) (e : ℕ) (stage : Stage (At PeerStretch)) (m i : List CallRequest) (q a : theirs.Packet) (s : Phase)
-    → takes r (stage_phase stage) (item_of q) ≡ Some s
+    → takes r (stage_phase stage) (item_of q) ≡ s
     → (channel_taking r e (Live (stands stage m i)) q).out ≡ a ∷ [] → Owed (live e (stands stage m i)) q s
 owed_call r e (Talking t b at) m i q a s h out = owed_talking r e at.epoch m i t b at.side q a s h out
 owed_call r e Unused m i theirs.Clear a s h out = clear_at e (stands Unused m i) s h
@@ -122,7 +122,7 @@ owed_call r e (Waiting mine) m i q a s h out = absurd (no_item a [] out)
 owed_call r e (Offered their) m i q a s h out = absurd (no_item a [] out)
 owed_call r e (Crossed mine) m i q a s h out = absurd (no_item a [] out)
 
-owed : (r : Role) (e : ℕ) (y : Side PeerCall) (q a : theirs.Packet) (s : Phase) → takes r (phase_of y) (item_of q) ≡ Some s
+owed : (r : Role) (e : ℕ) (y : Side PeerCall) (q a : theirs.Packet) (s : Phase) → takes r (phase_of y) (item_of q) ≡ s
     → (channel_taking r e y q).out ≡ a ∷ [] → Owed (record { epoch = e; side = y }) q s
 owed r e (Live c) q a s h out = owed_call r e c.stage c.made c.indicated q a s h out
 owed r e (Left c) q a s h out = absurd (no_item a [] (left_silent q out))
@@ -340,11 +340,10 @@ beyond_may _ _ _ (as_peers.clears_again e c) r s u at then = (0, stands_may phas
 
 -- what it makes of a packet that it answers
 answer_sends : (r : Role) (e : ℕ) (y : Side PeerCall) (q a : theirs.Packet) (s : Phase) (out : List theirs.Packet) (u : Phase)
-    → takes r (phase_of y) (item_of q) ≡ Some s → out ≡ a ∷ [] → IsTakenSo r (phase_of y) (item_of q) out u
+    → takes r (phase_of y) (item_of q) ≡ s → out ≡ a ∷ [] → IsTakenSo r (phase_of y) (item_of q) out u
     → sends_as 0 s (item_of a) ≡ Some u
 answer_sends r e y q a s out u h is so =
-    let taken = subst (λ o. IsTakenSo r (phase_of y) (item_of q) o u) is so in
-    ap (λ z. sends_as 0 z (item_of a)) (same_some s taken.0 (sym h ∙ taken.1)) ∙ taken.2
+    ap (λ z. sends_as 0 z (item_of a)) (sym h) ∙ subst (λ o. IsTakenSo r (phase_of y) (item_of q) o u) is so
 
 clear_may : (y : At PeerCall) (q : theirs.Packet) (s : Phase) → Owed y q s → q ≡ theirs.Reset → sends_as 0 s item.Clear ≡ Some phase.Clears
 clear_may _ _ _ (clear e c) is = absurd (no_reset is)
@@ -372,7 +371,7 @@ on_may r _ _ _ (as_peers.beyond a b p may) s u at then = beyond_may a b p may r 
 abbrev pub Takes : Role → End → theirs.Packet → Phase → Type 0
 Takes r a q u = (b : End) × TakesOn r a q b × IsAt r b u
 
-stands_takes : (r : Role) (y : At PeerCall) (q : theirs.Packet) (u : Phase) → IsPeer r y.side → takes r (phase_of y.side) (item_of q) ≡ Some u
+stands_takes : (r : Role) (y : At PeerCall) (q : theirs.Packet) (u : Phase) → IsPeer r y.side → takes r (phase_of y.side) (item_of q) ≡ u
     → Takes r (Stands y) q u
 stands_takes r y q u peer h = go (channel_taking r y.epoch y.side q).out refl (channel_takes r y.epoch y.side q (role_of r y.side peer))
   where
@@ -381,36 +380,37 @@ stands_takes r y q u peer h = go (channel_taking r y.epoch y.side q).out refl (c
     go [] is so = (
       Stands (channel_taking r y.epoch y.side q).next,
       as_peers.hears y q is,
-      (takes_peer r y.epoch y.side q peer, same_some u (phase_of (channel_taking r y.epoch y.side q).next.side) (sym h ∙ so)),
+      (takes_peer r y.epoch y.side q peer, sym h ∙ so),
     )
     go (a ∷ []) is so = (Owes y q, as_peers.owes y q a is, (peer, h, (a, is)))
     go (a ∷ b ∷ out) is so = absurd so
 
-owes_takes : (r : Role) (y : At PeerCall) (q p : theirs.Packet) (s u : Phase) → IsAt r (Owes y q) s → Owed y q s → takes r s (item_of p) ≡ Some u
-    → Takes r (Owes y q) p u
-owes_takes r _ _ theirs.Clear s u at (clear e c) h =
-    (Owes (live e c) theirs.Clear, as_peers.beyond _ _ theirs.Clear (as_peers.again (live e c) theirs.Clear), subst (λ z. IsAt r (Owes (live e c) theirs.Clear) z) (same_some s u h) at)
-owes_takes r _ _ theirs.Reset s u at (reset e k m i t b y) h =
-    let y = live e (stands (Talking t b (live k y)) m i) in
-    (Owes y theirs.Reset, as_peers.beyond _ _ theirs.Reset (as_peers.again y theirs.Reset), subst (λ z. IsAt r (Owes y theirs.Reset) z) (same_some s u h) at)
-owes_takes r _ _ theirs.Clear s u at (reset e k m i t b y) h =
-    (Owes (live e (stands (Talking t b (live k y)) m i)) theirs.Clear, as_peers.beyond _ _ theirs.Clear (as_peers.cleared (live e (stands (Talking t b (live k y)) m i))), (at.0, h, (theirs.ClearConf, refl)))
-owes_takes r _ _ (theirs.Data ns nr (More q user)) s u at (clear e c) h = absurd (none-some u h)
-owes_takes r _ _ (theirs.Data ns nr (Last q user)) s u at (clear e c) h = absurd (none-some u h)
-owes_takes r _ _ (theirs.Data ns nr (More q user)) s u at (reset e k m i t b y) h = absurd (none-some u h)
-owes_takes r _ _ (theirs.Data ns nr (Last q user)) s u at (reset e k m i t b y) h = absurd (none-some u h)
-owes_takes r _ _ p s u at (clear e c) h = absurd (none-some u h)
-owes_takes r _ _ p s u at (reset e k m i t b y) h = absurd (none-some u h)
+owed_drops : (r : Role) (y : At PeerCall) (q p : theirs.Packet) (s : Phase) → NotClear p → Owed y q s → takes r s (item_of p) ≡ s
+owed_drops r _ _ theirs.Clear s isnt owed = absurd isnt
+owed_drops r _ _ (theirs.Data ns nr (More q user)) s isnt (clear e c) = refl
+owed_drops r _ _ (theirs.Data ns nr (Last q user)) s isnt (clear e c) = refl
+owed_drops r _ _ (theirs.Data ns nr (More q user)) s isnt (reset e k m i t b y) = refl
+owed_drops r _ _ (theirs.Data ns nr (Last q user)) s isnt (reset e k m i t b y) = refl
+owed_drops r _ _ p s isnt (clear e c) = refl
+owed_drops r _ _ p s isnt (reset e k m i t b y) = refl
 
-pub end_takes : (r : Role) (a : End) (q : theirs.Packet) (s u : Phase) → IsAt r a s → takes r s (item_of q) ≡ Some u → Takes r a q u
+owed_clear : (r : Role) (y : At PeerCall) (q : theirs.Packet) (s u : Phase) → IsAt r (Owes y q) s → Owed y q s → takes r s item.Clear ≡ u
+    → IsAt r (Owes y theirs.Clear) u
+owed_clear r _ _ s u at (clear e c) h = subst (λ z. IsAt r (Owes (live e c) theirs.Clear) z) h at
+owed_clear r _ _ s u at (reset e k m i t b y) h = (at.0, h, (theirs.ClearConf, refl))
+
+owes_takes : (r : Role) (y : At PeerCall) (q p : theirs.Packet) (s u : Phase) → IsAt r (Owes y q) s → Owed y q s → takes r s (item_of p) ≡ u
+    → Takes r (Owes y q) p u
+owes_takes r y q theirs.Clear s u at owed h =
+    (Owes y theirs.Clear, as_peers.beyond _ _ theirs.Clear (as_peers.cleared y q), owed_clear r y q s u at owed h)
+owes_takes r y q p s u at owed h =
+    (Owes y q, as_peers.beyond _ _ p (as_peers.drops y q p tt), subst (λ z. IsAt r (Owes y q) z) (sym (owed_drops r y q p s tt owed) ∙ h) at)
+
+pub end_takes : (r : Role) (a : End) (q : theirs.Packet) (s u : Phase) → IsAt r a s → takes r s (item_of q) ≡ u → Takes r a q u
 end_takes r (Stands y) q s u at h = stands_takes r y q u at.0 (ap (λ z. takes r z (item_of q)) (sym at.1) ∙ h)
 end_takes r (Owes y q) p s u at h = owes_takes r y q p s u at (owed r y.epoch y.side q at.2.0 s at.1 at.2.1) h
 
-again_taken : (r : Role) (y : At PeerCall) (q : theirs.Packet) (s : Phase) → Owed y q s → takes r s (item_of q) ≡ Some s
-again_taken r _ _ _ (clear e c) = refl
-again_taken r _ _ _ (reset e k m i t b y) = refl
-
-cleared_taken : (r : Role) (y : At PeerCall) (q : theirs.Packet) (s : Phase) → Owed y q s → takes r s item.Clear ≡ Some phase.WasCleared
+cleared_taken : (r : Role) (y : At PeerCall) (q : theirs.Packet) (s : Phase) → Owed y q s → takes r s item.Clear ≡ phase.WasCleared
 cleared_taken r _ _ _ (clear e c) = refl
 cleared_taken r _ _ _ (reset e k m i t b y) = refl
 
@@ -425,16 +425,16 @@ clear_owed _ _ _ (reset e k m i t b y) is = absurd (no_clear is)
 pub owes_is : (r : Role) (y : At PeerCall) (q : theirs.Packet) (s : Phase) → IsAt r (Owes y q) s → Owed y q s
 owes_is r y q s at = owed r y.epoch y.side q at.2.0 s at.1 at.2.1
 
-pub on_takes : (r : Role) (a b : End) (q : theirs.Packet) → TakesOn r a q b → (s u : Phase) → IsAt r a s → IsAt r b u → takes r s (item_of q) ≡ Some u
+pub on_takes : (r : Role) (a b : End) (q : theirs.Packet) → TakesOn r a q b → (s u : Phase) → IsAt r a s → IsAt r b u → takes r s (item_of q) ≡ u
 on_takes r _ _ _ (as_peers.hears y q out) s u at then =
     let so = subst (λ o. IsTakenSo r (phase_of y.side) (item_of q) o (phase_of (channel_taking r y.epoch y.side q).next.side)) out
     (channel_takes r y.epoch y.side q (role_of r y.side at.0)) in
-    ap (λ z. takes r z (item_of q)) at.1 ∙ so ∙ ap (λ z. Some z) (sym then.1)
+    ap (λ z. takes r z (item_of q)) at.1 ∙ so ∙ sym then.1
 on_takes r _ _ _ (as_peers.owes y q a out) s u at then = ap (λ z. takes r z (item_of q)) at.1 ∙ then.1
-on_takes r _ _ _ (as_peers.beyond _ _ _ (as_peers.again y q)) s u at then =
-    again_taken r y q s (owes_is r y q s at) ∙ (sym at.1 ∙ then.1)
-on_takes r _ _ _ (as_peers.beyond _ _ _ (as_peers.cleared y)) s u at then =
-    cleared_taken r y theirs.Reset s (owes_is r y theirs.Reset s at) ∙ ap (λ z. Some z) (sym (clear_owed y theirs.Clear u (owes_is r y theirs.Clear u then) refl))
+on_takes r _ _ _ (as_peers.beyond _ _ _ (as_peers.drops y q p isnt)) s u at then =
+    owed_drops r y q p s isnt (owes_is r y q s at) ∙ (sym at.1 ∙ then.1)
+on_takes r _ _ _ (as_peers.beyond _ _ _ (as_peers.cleared y q)) s u at then =
+    cleared_taken r y q s (owes_is r y q s at) ∙ sym (clear_owed y theirs.Clear u (owes_is r y theirs.Clear u then) refl)
 
 pub channel_rules : ChannelRulesArePeers
 channel_rules = record {

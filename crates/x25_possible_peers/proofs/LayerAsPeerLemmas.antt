@@ -18,7 +18,8 @@ use Rattle.x25_possible_peers.specs.laws.Peers.{item_of}
 use Rattle.x25_possible_peers.specs.laws.LayerPeers.{item_on, comes_on}
 use Rattle.x25_possible_peers.specs.laws.AsPeers.{End, Stands, Owes, IsAt}
 use Rattle.x25_possible_peers.specs.laws.LayerAsPeers as as_peers
-use Rattle.x25_possible_peers.specs.laws.LayerAsPeers.{LayerEnd, Ready, Restarting, OwesRestart, peers, put_end, AreAt, AreTaken, LayerSends, LayerTakes, RestartRulesArePeers}
+use Rattle.x25_possible_peers.specs.laws.LayerAsPeers.{LayerEnd, Ready, Restarting, OwesRestart, peers, put_end, AreAt, AreTaken, LayerSends, LayerTakes}
+use Rattle.x25_possible_peers.specs.laws.LayerAsPeers.{RestartRulesArePeers}
 use Rattle.x25_possible_peers.proofs.AsPeerLemmas.{Owed, clear, reset, owes_is, fresh_peer_is, end_goes, on_may, end_takes, on_takes, same_some}
 use Rattle.x25_possible_peers.proofs.LayerTapeLemmas.{in_phase, sends_elsewhere, takes_restart, takes_confirmation, drops}
 
@@ -59,17 +60,12 @@ owing t (theirs.Data ns nr (More q user)) u h = none-some u h
 owing t (theirs.Data ns nr (Last q user)) u h = none-some u h
 owing t p u h = none-some u h
 
-untaken : (r : Role) (p : theirs.Packet) (u : Phase) → takes r phase.WasRestarted (item_of p) ≡ Some u → ⊥
-untaken r (theirs.Data ns nr (More q user)) u h = none-some u h
-untaken r (theirs.Data ns nr (Last q user)) u h = none-some u h
-untaken r p u h = none-some u h
-
 -- ---- in r1
 
 module _ (r : Role) where
   at_unique : (a : End) (s u : Phase) → IsAt r a s → IsAt r a u → u ≡ s
   at_unique (Stands y) s u at after = after.1 ∙ sym at.1
-  at_unique (Owes y q) s u at after = same_some u s (sym after.1 ∙ at.1)
+  at_unique (Owes y q) s u at after = sym after.1 ∙ at.1
 
   ElsewhereGoes : Phase → Type 0
   ElsewhereGoes s = sends_as 0 s item.Elsewhere ≡ Some s
@@ -98,28 +94,21 @@ module _ (r : Role) where
       (λ l t u h. none-some u h) (λ t u h. none-some u h) y.side)
   no_confirmation (Owes y q) s at = owed_confirmation y q s (owes_is r y q s at)
 
-  owed_restart : (y : At PeerCall) (q : theirs.Packet) (s : Phase) → Owed y q s → takes r s item.Restart ≡ Some phase.WasRestarted
+  owed_restart : (y : At PeerCall) (q : theirs.Packet) (s : Phase) → Owed y q s → takes r s item.Restart ≡ phase.WasRestarted
   owed_restart _ _ _ (clear e c) = refl
   owed_restart _ _ _ (reset e k m i n b y) = refl
 
-  restart_comes : (a : End) (s : Phase) → IsAt r a s → takes r s item.Restart ≡ Some phase.WasRestarted
+  restart_comes : (a : End) (s : Phase) → IsAt r a s → takes r s item.Restart ≡ phase.WasRestarted
   restart_comes (Stands y) s at = ap (λ z. takes r z item.Restart) at.1 ∙ takes_restart r y.side
   restart_comes (Owes y q) s at = owed_restart y q s (owes_is r y q s at)
 
-  owed_stray : (y : At PeerCall) (q : theirs.Packet) (s u : Phase) → Owed y q s → takes r s item.RestartConf ≡ Some u → ⊥
-  owed_stray _ _ _ u (clear e c) h = none-some u h
-  owed_stray _ _ _ u (reset e k m i n b y) h = none-some u h
+  owed_stray : (y : At PeerCall) (q : theirs.Packet) (s : Phase) → Owed y q s → takes r s item.RestartConf ≡ s
+  owed_stray _ _ _ (clear e c) = refl
+  owed_stray _ _ _ (reset e k m i n b y) = refl
 
-  strays_at : (a : End) (s u : Phase) → IsAt r a s → takes r s item.RestartConf ≡ Some u → (a ≡ Stands (as_peers.peer_in a)) × (u ≡ s)
-  strays_at (Stands y) s u at h = (refl, same_some u s (sym h ∙ ap (λ z. takes r z item.RestartConf) at.1 ∙ takes_confirmation r y.side ∙ ap (λ z. Some z) (sym at.1)))
-  strays_at (Owes y q) s u at h = absurd (owed_stray y q s u (owes_is r y q s at) h)
-
-  stray_comes : (a : End) (s : Phase) → IsAt r a s → a ≡ Stands (as_peers.peer_in a) → takes r s item.RestartConf ≡ Some s
-  stray_comes (Stands y) s at is = ap (λ z. takes r z item.RestartConf) at.1 ∙ takes_confirmation r y.side ∙ ap (λ z. Some z) (sym at.1)
-  stray_comes (Owes y q) s at is = absurd (differ is)
-    where
-      differ : Owes y q ≡ Stands y → ⊥
-      differ h = cc
+  stray_comes : (a : End) (s : Phase) → IsAt r a s → takes r s item.RestartConf ≡ s
+  stray_comes (Stands y) s at = ap (λ z. takes r z item.RestartConf) at.1 ∙ takes_confirmation r y.side ∙ sym at.1
+  stray_comes (Owes y q) s at = owed_stray y q s (owes_is r y q s at)
 
 -- ---- on one channel, where the others stay
 
@@ -160,18 +149,18 @@ module _ (r : Role) (a : ℕ → End) (k : ℕ) (s u : ℕ → Phase) (at : (h :
   abbrev Taken : theirs.Packet → ℕ → Type 0
   Taken p h = AreTaken r (s h) (comes_on h (layers.On k p)) (u h)
 
-  taken_here : (p : theirs.Packet) → Taken p k → takes r (s k) (item_of p) ≡ Some (u k)
+  taken_here : (p : theirs.Packet) → Taken p k → takes r (s k) (item_of p) ≡ u k
   taken_here p g = subst (λ c. AreTaken r (s k) (if c then item_of p ∷ [] else []) (u k)) (eq-eqb k k refl) g
 
   taken_other : (p : theirs.Packet) → ((h : ℕ) → Taken p h) → (h : ℕ) → (h == k) ≡ false → u h ≡ s h
   taken_other p goes h is = subst (λ c. AreTaken r (s h) (if c then item_of p ∷ [] else []) (u h)) is (goes h)
 
-  takes_there : (p : theirs.Packet) → takes r (s k) (item_of p) ≡ Some (u k) → ((h : ℕ) → (h == k) ≡ false → u h ≡ s h)
+  takes_there : (p : theirs.Packet) → takes r (s k) (item_of p) ≡ u k → ((h : ℕ) → (h == k) ≡ false → u h ≡ s h)
       → (h : ℕ) → Taken p h
   takes_there p here others h = by (h == k) refl
     where
       by : (c : Bool) → (h == k) ≡ c → AreTaken r (s h) (if c then item_of p ∷ [] else []) (u h)
-      by true is = subst (λ j. takes r (s j) (item_of p) ≡ Some (u j)) (sym (eqb-true h k is)) here
+      by true is = subst (λ j. takes r (s j) (item_of p) ≡ u j) (sym (eqb-true h k is)) here
       by false is = others h is
 
 -- ---- what it sends
@@ -236,38 +225,48 @@ layer_takes r (Ready e a) (layers.On k p) s u at goes =
 layer_takes r (Ready e a) layers.Restart s u at goes = (
   OwesRestart e (peers a),
   as_peers.restarted e a layers.RestartConf refl,
-  λ h. same_some (u h) phase.WasRestarted (sym (goes h) ∙ restart_comes r (a h) (s h) (at h)),
+  λ h. sym (goes h) ∙ restart_comes r (a h) (s h) (at h),
 )
 layer_takes r (Ready e a) layers.RestartConf s u at goes = (
   Ready e a,
-  as_peers.strays e a (λ h. (strays_at r (a h) (s h) (u h) (at h) (goes h)).0),
-  λ h. subst (λ z. IsAt r (a h) z) (sym (strays_at r (a h) (s h) (u h) (at h) (goes h)).1) (at h),
+  as_peers.strays e a,
+  λ h. subst (λ z. IsAt r (a h) z) (sym (stray_comes r (a h) (s h) (at h)) ∙ goes h) (at h),
 )
 layer_takes r (Restarting e y) (layers.On k p) s u at goes = (Restarting e y, as_peers.waits e y (layers.On k p) refl, λ h. by h (h == k) (goes h))
   where
     by : (h : ℕ) (c : Bool) → AreTaken r (s h) (if c then item_of p ∷ [] else []) (u h) → u h ≡ phase.Restarts
-    by h true g = same_some (u h) phase.Restarts (sym g ∙ ap (λ z. takes r z (item_of p)) (at h) ∙ drops r p)
+    by h true g = sym g ∙ ap (λ z. takes r z (item_of p)) (at h) ∙ drops r p
     by h false g = g ∙ at h
 layer_takes r (Restarting e y) layers.Restart s u at goes = (
   as_peers.standing (restarting_taking e y layers.Restart).next,
   as_peers.waits e y layers.Restart refl,
-  fresh_at r u (λ h. same_some (u h) phase.Idle (sym (goes h) ∙ ap (λ z. takes r z item.Restart) (at h))),
+  fresh_at r u (λ h. sym (goes h) ∙ ap (λ z. takes r z item.Restart) (at h)),
 )
 layer_takes r (Restarting e y) layers.RestartConf s u at goes = (
   as_peers.standing (restarting_taking e y layers.RestartConf).next,
   as_peers.waits e y layers.RestartConf refl,
-  fresh_at r u (λ h. same_some (u h) phase.Idle (sym (goes h) ∙ ap (λ z. takes r z item.RestartConf) (at h))),
+  fresh_at r u (λ h. sym (goes h) ∙ ap (λ z. takes r z item.RestartConf) (at h)),
 )
 layer_takes r (OwesRestart e y) (layers.On k p) s u at goes =
-    absurd (untaken r p (u k) (ap (λ z. takes r z (item_of p)) (sym (at k))
-    ∙ subst (λ c. AreTaken r (s k) (if c then item_of p ∷ [] else []) (u k)) (eq-eqb k k refl) (goes k)))
-layer_takes r (OwesRestart e y) layers.Restart s u at goes = (
-  OwesRestart e y,
-  as_peers.again e y,
-  λ h. same_some (u h) phase.WasRestarted (sym (goes h) ∙ ap (λ z. takes r z item.Restart) (at h)),
-)
+    (OwesRestart e y, as_peers.drops e y (layers.On k p), λ h. by h (h == k) (goes h))
+  where
+    by : (h : ℕ) (c : Bool) → AreTaken r (s h) (if c then item_of p ∷ [] else []) (u h) → u h ≡ phase.WasRestarted
+    by h true g = sym g ∙ ap (λ z. takes r z (item_of p)) (at h)
+    by h false g = g ∙ at h
+layer_takes r (OwesRestart e y) layers.Restart s u at goes =
+    (OwesRestart e y, as_peers.drops e y layers.Restart, λ h. sym (goes h) ∙ ap (λ z. takes r z item.Restart) (at h))
 layer_takes r (OwesRestart e y) layers.RestartConf s u at goes =
-    absurd (none-some (u 0) (ap (λ z. takes r z item.RestartConf) (sym (at 0)) ∙ goes 0))
+    (OwesRestart e y, as_peers.drops e y layers.RestartConf, λ h. sym (goes h) ∙ ap (λ z. takes r z item.RestartConf) (at h))
+
+dropped_taken : (r : Role) (p : LayerPacket) (h : ℕ) (s u : Phase) → s ≡ phase.WasRestarted → u ≡ phase.WasRestarted
+    → AreTaken r s (comes_on h p) u
+dropped_taken r (layers.On k p) h s u at after = by (h == k)
+  where
+    by : (c : Bool) → AreTaken r s (if c then item_of p ∷ [] else []) u
+    by true = ap (λ z. takes r z (item_of p)) at ∙ sym after
+    by false = after ∙ sym at
+dropped_taken r layers.Restart h s u at after = ap (λ z. takes r z item.Restart) at ∙ sym after
+dropped_taken r layers.RestartConf h s u at after = ap (λ z. takes r z item.RestartConf) at ∙ sym after
 
 waits_taken : (r : Role) (e : ℕ) (y : PeerChannels) (p : LayerPacket) (s u : ℕ → Phase) → AreAt r (Restarting e y) s
     → AreAt r (as_peers.standing (restarting_taking e y p).next) u
@@ -275,20 +274,20 @@ waits_taken : (r : Role) (e : ℕ) (y : PeerChannels) (p : LayerPacket) (s u : �
 waits_taken r e y (layers.On k p) s u at after h = by (h == k)
   where
     by : (c : Bool) → AreTaken r (s h) (if c then item_of p ∷ [] else []) (u h)
-    by true = ap (λ z. takes r z (item_of p)) (at h) ∙ drops r p ∙ ap (λ z. Some z) (sym (after h))
+    by true = ap (λ z. takes r z (item_of p)) (at h) ∙ drops r p ∙ sym (after h)
     by false = after h ∙ sym (at h)
-waits_taken r e y layers.Restart s u at after h = ap (λ z. takes r z item.Restart) (at h) ∙ ap (λ z. Some z) (sym (after h).1)
-waits_taken r e y layers.RestartConf s u at after h = ap (λ z. takes r z item.RestartConf) (at h) ∙ ap (λ z. Some z) (sym (after h).1)
+waits_taken r e y layers.Restart s u at after h = ap (λ z. takes r z item.Restart) (at h) ∙ sym (after h).1
+waits_taken r e y layers.RestartConf s u at after h = ap (λ z. takes r z item.RestartConf) (at h) ∙ sym (after h).1
 
 layer_taken : (r : Role) (a b : LayerEnd) (p : LayerPacket) → LayerTakes r a p b → (s u : ℕ → Phase) → AreAt r a s → AreAt r b u
     → (h : ℕ) → AreTaken r (s h) (comes_on h p) (u h)
 layer_taken r _ _ _ (as_peers.on_channel e k a p b may) s u at after h =
     takes_there r a k s u at p (on_takes r (a k) b p may (s k) (u k) (at k) (from_put r a k s u at b after)) (from_other r a k s u at b after) h
-layer_taken r _ _ _ (as_peers.restarted e a p out) s u at after h = restart_comes r (a h) (s h) (at h) ∙ ap (λ z. Some z) (sym (after h))
-layer_taken r _ _ _ (as_peers.strays e a are) s u at after h =
-    stray_comes r (a h) (s h) (at h) (are h) ∙ ap (λ z. Some z) (sym (at_unique r (a h) (s h) (u h) (at h) (after h)))
+layer_taken r _ _ _ (as_peers.restarted e a p out) s u at after h = restart_comes r (a h) (s h) (at h) ∙ sym (after h)
+layer_taken r _ _ _ (as_peers.strays e a) s u at after h =
+    stray_comes r (a h) (s h) (at h) ∙ sym (at_unique r (a h) (s h) (u h) (at h) (after h))
 layer_taken r _ _ _ (as_peers.waits e y p out) s u at after h = waits_taken r e y p s u at after h
-layer_taken r _ _ _ (as_peers.again e y) s u at after h = ap (λ z. takes r z item.Restart) (at h) ∙ ap (λ z. Some z) (sym (after h))
+layer_taken r _ _ _ (as_peers.drops e y p) s u at after h = dropped_taken r p h (s h) (u h) (at h) (after h)
 
 pub restart_rules : RestartRulesArePeers
 restart_rules = record {

@@ -11,7 +11,8 @@ use Rattle.x25_handshakes.specs.laws.Calls.{Stage, Unused, Waiting, Offered, Cro
 use Rattle.x25_handshakes.specs.laws.PeerStretch.{PeerStretch}
 use Rattle.x25_handshakes.specs.laws.PeerCalls.{PeerCall}
 use Rattle.x25_handshakes.specs.laws.PeerChannel.{does_channel, channel_packet_of, channel_taking}
-use Rattle.x25_handshakes.specs.laws.PeerLayer.{PeerChannels, put_peer, LayerDeed, InChannel, Restarts, MayDoLayer, does_layer, layer_packet_of, layer_taking, ready_taking}
+use Rattle.x25_handshakes.specs.laws.PeerLayer.{PeerChannels, put_peer, LayerDeed, InChannel, Restarts, MayDoLayer, does_layer, layer_packet_of, layer_taking}
+use Rattle.x25_handshakes.specs.laws.PeerLayer.{ready_taking}
 use Rattle.x25_handshakes.specs.laws.PeerLayers.{AreElsewhere}
 use Rattle.x25_possible.specs.Channel.{channel_rules, sends_as, takes}
 use Rattle.x25_possible.specs.laws.Possible.{Item, Own, Stands}
@@ -22,7 +23,8 @@ use Rattle.x25_possible.specs.declared.phase.Limits.{Limits}
 use Rattle.x25_possible.specs.declared.phase.Phase.{Phase}
 use Rattle.x25_possible.specs.declared.phase.Phase.TheVariants as phase
 use Rattle.x25_possible_peers.specs.laws.Peers.{item_of, phase_of, stage_phase, transfer_phase, limits, IsOfRole, confirmed}
-use Rattle.x25_possible_peers.specs.laws.LayerPeers.{phase_on, item_on, confirmed_on, comes_on, way_on, shown_on, LayerStands, Begins, Does, Shown, Hears, HearsChannel}
+use Rattle.x25_possible_peers.specs.laws.LayerPeers.{phase_on, item_on, confirmed_on, comes_on, way_on, shown_on, LayerStands, Begins, Does, Shown, Hears}
+use Rattle.x25_possible_peers.specs.laws.LayerPeers.{HearsChannel}
 use Rattle.x25_possible_peers.proofs.PeerLemmas.{channel_sends, channel_takes}
 use Rattle.x25_possible_peers.proofs.TapeLemmas.{does_of_role, takes_of_role, fresh_of_role, taken_so}
 
@@ -53,15 +55,15 @@ sends_restart : (y : Side PeerCall) → sends_as 0 (phase_of y) item.Restart ≡
 sends_restart y =
     in_phase (λ s. sends_as 0 s item.Restart ≡ Some phase.Restarts) refl (λ t. refl) (λ t. refl) (λ k. refl) (λ l. refl) refl y
 
-pub takes_restart : (r : Role) (y : Side PeerCall) → takes r (phase_of y) item.Restart ≡ Some phase.WasRestarted
+pub takes_restart : (r : Role) (y : Side PeerCall) → takes r (phase_of y) item.Restart ≡ phase.WasRestarted
 takes_restart r y =
-    in_phase (λ s. takes r s item.Restart ≡ Some phase.WasRestarted) refl (λ t. refl) (λ t. refl) (λ k. refl) (λ l. refl) refl y
+    in_phase (λ s. takes r s item.Restart ≡ phase.WasRestarted) refl (λ t. refl) (λ t. refl) (λ k. refl) (λ l. refl) refl y
 
-pub takes_confirmation : (r : Role) (y : Side PeerCall) → takes r (phase_of y) item.RestartConf ≡ Some (phase_of y)
+pub takes_confirmation : (r : Role) (y : Side PeerCall) → takes r (phase_of y) item.RestartConf ≡ phase_of y
 takes_confirmation r y =
-    in_phase (λ s. takes r s item.RestartConf ≡ Some s) refl (λ t. refl) (λ t. refl) (λ k. refl) (λ l. refl) refl y
+    in_phase (λ s. takes r s item.RestartConf ≡ s) refl (λ t. refl) (λ t. refl) (λ k. refl) (λ l. refl) refl y
 
-pub drops : (r : Role) (p : theirs.Packet) → takes r phase.Restarts (item_of p) ≡ Some phase.Restarts
+pub drops : (r : Role) (p : theirs.Packet) → takes r phase.Restarts (item_of p) ≡ phase.Restarts
 drops r (theirs.Data ns nr (More q user)) = refl
 drops r (theirs.Data ns nr (Last q user)) = refl
 drops r p = refl

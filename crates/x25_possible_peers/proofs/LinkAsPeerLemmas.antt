@@ -1,5 +1,6 @@
 -- The rules of a link are those of peers, and no more than is named beyond.
-use Rattle.std.proofs.Common.{◌≡◌, ◌⊎◌, inl, inr, ℕ, suc, ◌+◌, ◌-◌, ◌%◌, ◌≤◌, ◌==◌, Bool, true, false, not, ◌&&◌, ◌||◌, List, [], ◌∷◌, ◌++◌, Option, Some, None, refl, sym, ap, subst, ◌∙◌, arith, nat_le, nat_lt, if◌then◌else◌}
+use Rattle.std.proofs.Common.{◌≡◌, ◌⊎◌, inl, inr, ℕ, suc, ◌+◌, ◌-◌, ◌%◌, ◌≤◌, ◌==◌, Bool, true, false, not, ◌&&◌, ◌||◌, List, [], ◌∷◌, ◌++◌, Option, Some, None}
+use Rattle.std.proofs.Common.{refl, sym, ap, subst, ◌∙◌, arith, nat_le, nat_lt, if◌then◌else◌}
 use Rattle.std.proofs.lemmas.Bool.{and_from, eq-eqb, eqb-true, le-leb, both_ways}
 use Rattle.std.proofs.lemmas.List.{append-nil}
 use Rattle.std.proofs.lemmas.Option.{none-some, cond_some}
@@ -12,14 +13,16 @@ use Rattle.x25_line.specs.laws.Said.{Said, Carried, sabm_of, disc_of, ua_of}
 use Rattle.x25_possible.specs.Channel.{nth}
 use Rattle.x25_possible.specs.laws.Possible.{IsIn}
 use Rattle.x25_possible_links.specs.laws.Link as link
-use Rattle.x25_possible_links.specs.laws.Link.{State, At, Owes, MaySend, MayTake, has_ua, is_asking, may_number, may_acknowledge, sends_as, heard, owed, asked, may_answer}
+use Rattle.x25_possible_links.specs.laws.Link.{State, At, Owes, MaySend, MayTake, has_ua, is_asking, may_number, may_acknowledge, sends_as, heard, owed, asked}
+use Rattle.x25_possible_links.specs.laws.Link.{may_answer}
 use Rattle.x25_possible_links.specs.declared.frame.Frame.{Frame}
 use Rattle.x25_possible_links.specs.declared.frame.Frame.TheVariants as frame
 use Rattle.x25_possible_links.specs.declared.stand.Numbers.{Numbers}
 use Rattle.x25_possible_links.specs.declared.stand.Stand.{Stand}
 use Rattle.x25_possible_links.specs.declared.stand.Stand.TheVariants.{Out, Asking, Up, Free}
 use Rattle.x25_possible_peers.specs.laws.LinkPeers.{numbers_of, stand_of, differs, frames_of, AreShown}
-use Rattle.x25_possible_peers.specs.laws.LinkAsPeers.{stand_in, out_of, Reaches, AsksBeyond, Beyond, asks_again, asks_early, IsRead, IsGiven, HasTaken, LinkRulesArePeers}
+use Rattle.x25_possible_peers.specs.laws.LinkAsPeers.{stand_in, out_of, Reaches, AsksBeyond, Beyond, asks_again, asks_early, IsRead, IsGiven, HasTaken}
+use Rattle.x25_possible_peers.specs.laws.LinkAsPeers.{LinkRulesArePeers}
 use Rattle.x25_possible_peers.proofs.LinkLemmas.{now_is, only}
 use Rattle.x25_possible_peers.proofs.SessionLemmas.{MaySayIt, session_sends, session_takes}
 
@@ -511,9 +514,11 @@ next_goes k way told room =
   where
     number : may_number k.sent k (k.sent % 8) false ≡ true
     number =
-        and_from (k.sent % 8 == k.sent % 8) (nat_le k.sent k.sent && (nat_le k.sent (k.sent + 7) && (nat_lt k.sent (k.acked + 7) && (k.sent == k.sent || true))))
+        and_from (k.sent % 8 == k.sent % 8) (nat_le k.sent k.sent
+        && (nat_le k.sent (k.sent + 7) && (nat_lt k.sent (k.acked + 7) && (k.sent == k.sent || true))))
         (eq-eqb (k.sent % 8) (k.sent % 8) refl)
-        (and_from (nat_le k.sent k.sent) (nat_le k.sent (k.sent + 7) && (nat_lt k.sent (k.acked + 7) && (k.sent == k.sent || true))) (le-leb k.sent k.sent (omega arith))
+        (and_from (nat_le k.sent k.sent) (nat_le k.sent (k.sent + 7) && (nat_lt k.sent (k.acked + 7) && (k.sent == k.sent || true)))
+        (le-leb k.sent k.sent (omega arith))
         (and_from (nat_le k.sent (k.sent + 7)) (nat_lt k.sent (k.acked + 7) && (k.sent == k.sent || true)) (le-leb k.sent (k.sent + 7) (omega arith))
         (and_from (nat_lt k.sent (k.acked + 7)) (k.sent == k.sent || true) room (ap (λ b. b || true) (eq-eqb k.sent k.sent refl)))))
 
@@ -530,7 +535,11 @@ counted_so Out r way n t told h = absurd (none-some r h)
 counted_so Asking r way n t told h = absurd (none-some r h)
 counted_so (Up k) r way n t told h =
     let parts = cond_some (nat_lt k.sent (k.acked + 7)) (Up (record k { sent = k.sent + 1 })) r h in
-    inr (frame.Info (k.sent % 8) (k.told % 8) false, tt, subst (λ z. MaySend (At (Up k)) way (frame.Info (k.sent % 8) (k.told % 8) false) (At z)) parts.1 (next_goes k way told parts.0))
+    inr (
+      frame.Info (k.sent % 8) (k.told % 8) false,
+      tt,
+      subst (λ z. MaySend (At (Up k)) way (frame.Info (k.sent % 8) (k.told % 8) false) (At z)) parts.1 (next_goes k way told parts.0),
+    )
 counted_so Free r way n t told h = inr (frame.Ready 0, tt, link.sends Free r way (frame.Ready 0) 0 0 h)
 
 any_sent : (s u : State) (way : List Frame) (x : Frame) → HasTaken s → MaySend s way x u → x ≡ frame.Unread → StandsFor s u way

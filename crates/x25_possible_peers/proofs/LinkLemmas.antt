@@ -1,5 +1,6 @@
 -- Each step of a peer of the link is one of an end that keeps the rules of a link.
-use Rattle.std.proofs.Common.{◌≡◌, inl, inr, ℕ, ◌+◌, ◌-◌, ◌%◌, ◌≤◌, ◌==◌, Bool, true, false, not, ◌&&◌, ◌||◌, List, [], ◌∷◌, ◌++◌, length, Option, Some, None, refl, sym, ap, ap₂, subst, ◌∙◌, arith, max, suc, nat_le, nat_lt, if◌then◌else◌, slice_get}
+use Rattle.std.proofs.Common.{◌≡◌, inl, inr, ℕ, ◌+◌, ◌-◌, ◌%◌, ◌≤◌, ◌==◌, Bool, true, false, not, ◌&&◌, ◌||◌, List, [], ◌∷◌, ◌++◌, length, Option, Some, None}
+use Rattle.std.proofs.Common.{refl, sym, ap, ap₂, subst, ◌∙◌, arith, max, suc, nat_le, nat_lt, if◌then◌else◌, slice_get}
 use Rattle.std.proofs.Math.Bool.{or-true}
 use Rattle.std.proofs.lemmas.Bool.{and_from, eq-eqb, eqb-true, le-leb, lt-ltb, both_ways, cond-true}
 use Rattle.std.proofs.lemmas.List.{append-nil, append_cancel_left, append_cancel_right, length_push}
@@ -18,7 +19,8 @@ use Rattle.x25_possible_links.specs.declared.frame.Frame.{Frame}
 use Rattle.x25_possible_links.specs.declared.frame.Frame.TheVariants as frame
 use Rattle.x25_possible_links.specs.declared.stand.Stand.{Stand}
 use Rattle.x25_possible_links.specs.declared.stand.Stand.TheVariants.{Out, Asking, Up, Free}
-use Rattle.x25_possible_peers.specs.laws.LinkPeers.{numbers_of, stand_of, StandsAt, differs, frames_of, AreShown, ArePut, IsOwn, HasLeft, IsAllowed, LinkStepsAreAllowed}
+use Rattle.x25_possible_peers.specs.laws.LinkPeers.{numbers_of, stand_of, StandsAt, differs, frames_of, AreShown, ArePut, IsOwn, HasLeft, IsAllowed}
+use Rattle.x25_possible_peers.specs.laws.LinkPeers.{LinkStepsAreAllowed}
 
 -- ---- numbers in a session
 

@@ -9,7 +9,8 @@ use Rattle.x25_possible_links.specs.laws.Link.{At, Owes, State, link_rules}
 use Rattle.x25_possible_links.specs.laws.Sets.{IsTimely}
 use Rattle.x25_possible_links.specs.declared.frame.Frame.{Frame}
 use Rattle.x25_possible_links.specs.declared.stand.Stand.{Stand}
-use Rattle.x25_possible_peers.specs.laws.LinkPeers.{stand_of, StandsAt, IsShown, AreShown, Goes, sent_on, LinkStands, Begins, HandsDown, Steps, Shown, Others, IsPrompt}
+use Rattle.x25_possible_peers.specs.laws.LinkPeers.{stand_of, StandsAt, IsShown, AreShown, Goes, sent_on, LinkStands, Begins, HandsDown, Steps, Shown, Others}
+use Rattle.x25_possible_peers.specs.laws.LinkPeers.{IsPrompt}
 use Rattle.x25_possible_peers.proofs.LinkLemmas.{link_steps, now_is}
 
 -- ---- what is on the way

@@ -25,12 +25,14 @@ use Rattle.x25_handshakes.specs.laws.PeerCalls.{MayDoCall, does_call, call_packe
 use Rattle.x25_handshakes.specs.laws.PeerChannel.{InCall, Clears}
 use Rattle.x25_handshakes.specs.laws.PeerStretch as stretch
 use Rattle.x25_handshakes.specs.laws.PeerStretch.{PeerStretch, Deed, Sends, Says, Interrupts, Confirms}
-use Rattle.x25_possible.specs.Channel.{fits as within, may_answer as answers_so, may_have_sizes, may_have_windows, is_between, is_size, is_toward, called_limits, called_size, called_window, calling_limits, calling_size, calling_window, may_number}
+use Rattle.x25_possible.specs.Channel.{fits as within, may_answer as answers_so, may_have_sizes, may_have_windows, is_between, is_size, is_toward}
+use Rattle.x25_possible.specs.Channel.{called_limits, called_size, called_window, calling_limits, calling_size, calling_window, may_number}
 use Rattle.x25_possible.specs.Channel.{may_ack, may_follow, is_one_message, talked, talk_sends, sends_as, takes, nth, fresh}
 use Rattle.x25_possible.specs.declared.phase.Limits.{Limits}
 use Rattle.x25_possible.specs.declared.phase.Phase.TheVariants as phase
 use Rattle.x25_possible.specs.declared.packet.Packet.TheVariants as item
 use Rattle.x25_possible_peers.specs.laws.Peers.{talk_of, item_of, data_of, transfer_phase, stage_phase, sizes_by, windows_by, said_of, terms_of, limits}
+use Rattle.x25_possible_peers.specs.laws.AsPeers.{NotClear}
 use Rattle.x25_possible_peers.specs.laws.Peers.{DeedsAreSends, PacketsAreTaken, IsTakenSo, IsOfRole}
 use Rattle.x25_handshakes.specs.laws.Terms.{called_terms, calling_terms}
 use Rattle.x25_handshakes.specs.laws.Calls.{Stage, Unused, Waiting, Offered, Crossed, Talking}
@@ -73,7 +75,8 @@ acks l y n may =
 follows : (longest : ℕ) (l : Limits) (y : PeerStretch) (p : Piece) → stretch.MayFollow longest l.most y p
     → may_follow (talk_of l y) (q_of p) (length y.sent % 8) (length (user_of p)) ≡ true
 follows longest l y p may =
-    let fits = fitting longest l.most (length (user_of p)) (length (joining no_part y.sent).user + length (user_of p)) (joining no_part y.sent).begun (q_of p) may.fits in
+    let fits = fitting longest l.most (length (user_of p)) (length (joining no_part y.sent).user + length (user_of p)) (joining no_part y.sent).begun (q_of p)
+    may.fits in
     and_from (may_number (talk_of l y) (length y.sent % 8))
     (within l.most (length (user_of p)) && is_one_message (joining no_part y.sent).begun (q_of p))
     (and_from (length y.sent % 8 == length y.sent % 8) (nat_lt (length y.sent) (y.acked + 7))
@@ -211,21 +214,28 @@ answer_is known (Ok f) =
     && params_toward 2 known.win_calling (said_or (windows_known known) f.window_size).calling)
   where
     sizes : (o : Option Directions) → may_have_sizes (terms_of known) (sizes_by o)
-        ≡ (params_toward 7 known.size_called (said_or (sizes_known known) o).called && params_toward 7 known.size_calling (said_or (sizes_known known) o).calling)
-    sizes None = both_true (params_toward 7 known.size_called known.size_called) (params_toward 7 known.size_calling known.size_calling) (toward_itself 7 known.size_called) (toward_itself 7 known.size_calling)
+        ≡ (params_toward 7 known.size_called (said_or (sizes_known known) o).called
+        && params_toward 7 known.size_calling (said_or (sizes_known known) o).calling)
+    sizes None = both_true (params_toward 7 known.size_called known.size_called) (params_toward 7 known.size_calling known.size_calling)
+        (toward_itself 7 known.size_called) (toward_itself 7 known.size_calling)
     sizes (Some said) = ap₂ (λ a b. a && b) (size_is known.size_called said.called) (size_is known.size_calling said.calling)
 
     windows : (o : Option Directions) → may_have_windows (terms_of known) (windows_by o)
-        ≡ (params_toward 2 known.win_called (said_or (windows_known known) o).called && params_toward 2 known.win_calling (said_or (windows_known known) o).calling)
-    windows None = both_true (params_toward 2 known.win_called known.win_called) (params_toward 2 known.win_calling known.win_calling) (toward_itself 2 known.win_called) (toward_itself 2 known.win_calling)
+        ≡ (params_toward 2 known.win_called (said_or (windows_known known) o).called
+        && params_toward 2 known.win_calling (said_or (windows_known known) o).calling)
+    windows None = both_true (params_toward 2 known.win_called known.win_called) (params_toward 2 known.win_calling known.win_calling)
+        (toward_itself 2 known.win_called) (toward_itself 2 known.win_calling)
     windows (Some said) = refl
 answer_is known (Err e) =
     both_true (params_toward 7 known.size_called known.size_called)
-    (params_toward 7 known.size_calling known.size_calling && (params_toward 2 known.win_called known.win_called && params_toward 2 known.win_calling known.win_calling))
+    (params_toward 7 known.size_calling known.size_calling
+    && (params_toward 2 known.win_called known.win_called && params_toward 2 known.win_calling known.win_calling))
     (toward_itself 7 known.size_called)
-    (and_from (params_toward 7 known.size_calling known.size_calling) (params_toward 2 known.win_called known.win_called && params_toward 2 known.win_calling known.win_calling)
+    (and_from (params_toward 7 known.size_calling known.size_calling)
+    (params_toward 2 known.win_called known.win_called && params_toward 2 known.win_calling known.win_calling)
     (toward_itself 7 known.size_calling)
-    (and_from (params_toward 2 known.win_called known.win_called) (params_toward 2 known.win_calling known.win_calling) (toward_itself 2 known.win_called) (toward_itself 2 known.win_calling)))
+    (and_from (params_toward 2 known.win_called known.win_called) (params_toward 2 known.win_calling known.win_calling) (toward_itself 2 known.win_called)
+    (toward_itself 2 known.win_calling)))
 
 pub accept_sends : (their : Params) (m i : List CallRequest) (field : List ℕ) (most : ℕ)
     → sends_as 0 (stage_phase (Offered their)) (item_of (theirs.Accept field most))
@@ -259,29 +269,24 @@ channel_sends e (Left y) d may = absurd may
 
 -- ---- what it takes
 
-NotClear : theirs.Packet → Type 0
-NotClear theirs.Clear = ⊥
-NotClear p = Unit {0}
-
 -- one is taken where P(S) is the next
 taken_next : (b : Bool) (ps : List Piece) (p : Piece) → (if b then length ps + 1 else length ps) ≡ length (if b then ps ++ p ∷ [] else ps)
 taken_next true ps p = sym (length_push ps p)
 taken_next false ps p = refl
 
 takes_data : (l : Limits) (y : PeerStretch) (ns nr : ℕ) (piece : Piece) (role : Role)
-    → takes role (phase.Talks (talk_of l y)) (data_of ns nr piece) ≡ Some (phase.Talks (talk_of l (stretch.taking y (theirs.Data ns nr piece))))
+    → takes role (phase.Talks (talk_of l y)) (data_of ns nr piece) ≡ phase.Talks (talk_of l (stretch.taking y (theirs.Data ns nr piece)))
 takes_data l y ns nr (More q user) role =
-    ap (λ n. Some (phase.Talks (record (talk_of l y) { acked = nth y.acked nr; taken = n })))
+    ap (λ n. phase.Talks (record (talk_of l y) { acked = nth y.acked nr; taken = n }))
     (taken_next (ns == length y.taken % 8) y.taken (More q user))
 takes_data l y ns nr (Last q user) role =
-    ap (λ n. Some (phase.Talks (record (talk_of l y) { acked = nth y.acked nr; taken = n })))
+    ap (λ n. phase.Talks (record (talk_of l y) { acked = nth y.acked nr; taken = n }))
     (taken_next (ns == length y.taken % 8) y.taken (Last q user))
 
 transfer_takes : (role : Role) (l : Limits) (e : ℕ) (y : Side PeerStretch) (p : theirs.Packet) → NotClear p
     → IsTakenSo role (transfer_phase l y) (item_of p) (transfer_taking e y p).out (transfer_phase l (transfer_taking e y p).next.side)
-unfolding NotClear
 transfer_takes role l e (Live y) theirs.Clear clear = absurd clear
-transfer_takes role l e (Live y) theirs.Reset clear = (phase.WasReset l, refl, refl)
+transfer_takes role l e (Live y) theirs.Reset clear = refl
 transfer_takes role l e (Live y) (theirs.Data ns nr piece) clear = takes_data l y ns nr piece role
 transfer_takes role l e (Live y) p clear = refl
 transfer_takes role l e (Left y) theirs.Clear clear = absurd clear
@@ -290,13 +295,12 @@ transfer_takes role l e (Left y) (theirs.Data ns nr (Last q user)) clear = refl
 transfer_takes role l e (Left y) p clear = refl
 
 calls_accept : (known : Params) (field : List ℕ) (most : ℕ) (role : Role)
-    → takes role (phase.Calls (terms_of known)) (item.Accept (said_of (facilities_of field))) ≡ Some (stage_phase (calling_in_data most (said_in known field)))
-calls_accept known field most role = ap (λ l. Some (fresh l)) (calling_as known most (facilities_of field))
+    → takes role (phase.Calls (terms_of known)) (item.Accept (said_of (facilities_of field))) ≡ stage_phase (calling_in_data most (said_in known field))
+calls_accept known field most role = ap (λ l. fresh l) (calling_as known most (facilities_of field))
 
 call_takes : (r : Role) (stage : Stage (At PeerStretch)) (m i : List CallRequest) (p : theirs.Packet) → NotClear p
     → IsOfRole r (Live (stands stage m i))
     → IsTakenSo r (stage_phase stage) (item_of p) (call_taking r stage m i p).out (stage_phase (call_taking r stage m i p).next.stage)
-unfolding NotClear
 call_takes r Unused m i theirs.Clear clear of = absurd clear
 call_takes r Unused m i (theirs.Data ns nr (More q user)) clear of = refl
 call_takes r Unused m i (theirs.Data ns nr (Last q user)) clear of = refl
@@ -321,11 +325,11 @@ call_takes r (Crossed mine) m i (theirs.Data ns nr (Last q user)) clear of = ref
 call_takes r (Crossed mine) m i p clear of = refl
 call_takes r (Talking t b at) m i p clear of = transfer_takes r (limits t) at.epoch at.side p clear
 
-transfer_cleared : (role : Role) (l : Limits) (y : Side PeerStretch) → takes role (transfer_phase l y) item.Clear ≡ Some phase.WasCleared
+transfer_cleared : (role : Role) (l : Limits) (y : Side PeerStretch) → takes role (transfer_phase l y) item.Clear ≡ phase.WasCleared
 transfer_cleared role l (Live y) = refl
 transfer_cleared role l (Left y) = refl
 
-stage_cleared : (role : Role) (stage : Stage (At PeerStretch)) → takes role (stage_phase stage) item.Clear ≡ Some phase.WasCleared
+stage_cleared : (role : Role) (stage : Stage (At PeerStretch)) → takes role (stage_phase stage) item.Clear ≡ phase.WasCleared
 stage_cleared role (Talking t b at) = transfer_cleared role (limits t) at.side
 stage_cleared role Unused = refl
 stage_cleared role (Waiting mine) = refl
@@ -333,8 +337,7 @@ stage_cleared role (Offered theirs) = refl
 stage_cleared role (Crossed mine) = refl
 
 pub channel_takes : PacketsAreTaken
-unfolding NotClear
-channel_takes r e (Live c) theirs.Clear of = (phase.WasCleared, stage_cleared r c.stage, refl)
+channel_takes r e (Live c) theirs.Clear of = ap (λ s. sends_as 0 s item.ClearConf) (stage_cleared r c.stage)
 channel_takes r e (Live c) p of = call_takes r c.stage c.made c.indicated p tt of
 channel_takes r e (Left c) (theirs.Data ns nr (More q user)) of = refl
 channel_takes r e (Left c) (theirs.Data ns nr (Last q user)) of = refl

@@ -1,5 +1,6 @@
 -- What the rules of a link allow in a session a peer may do.
-use Rattle.std.proofs.Common.{◌≡◌, inl, inr, ℕ, ◌+◌, ◌-◌, ◌%◌, ◌≤◌, ◌==◌, Bool, true, false, not, ◌&&◌, ◌||◌, List, [], ◌∷◌, length, Option, Some, None, refl, sym, ap, subst, ◌∙◌, nat_le, nat_lt, if◌then◌else◌, slice_get}
+use Rattle.std.proofs.Common.{◌≡◌, inl, inr, ℕ, ◌+◌, ◌-◌, ◌%◌, ◌≤◌, ◌==◌, Bool, true, false, not, ◌&&◌, ◌||◌, List, [], ◌∷◌, length, Option, Some, None, refl}
+use Rattle.std.proofs.Common.{sym, ap, subst, ◌∙◌, nat_le, nat_lt, if◌then◌else◌, slice_get}
 use Rattle.std.proofs.lemmas.Bool.{and_parts, eqb-true, leb-true, ltb-true}
 use Rattle.std.proofs.lemmas.Option.{cond_some}
 use Rattle.x25_window.specs.code.Modulo.{resolved}
@@ -70,7 +71,8 @@ record Number (p : Peer) (c : Carried) (n : ℕ) : Type 0 where
   low : n ≤ p.sent
   may : MayNumber p c.ns c.packet n
 
-numbers : (p : Peer) (c : Carried) (nr n : ℕ) → IsGiven p (read.Tells (Some c) nr) → may_number n (numbers_of p) c.ns (differs p (read.Tells (Some c) nr)) ≡ true → Number p c n
+numbers : (p : Peer) (c : Carried) (nr n : ℕ) → IsGiven p (read.Tells (Some c) nr) → may_number n (numbers_of p) c.ns (differs p (read.Tells (Some c) nr))
+    ≡ true → Number p c n
 numbers p c nr n given h =
     let d = differs p (read.Tells (Some c) nr) in
     let a = and_parts (c.ns == n % 8) (nat_le n p.sent && (nat_le p.sent (n + 7) && (nat_lt n (p.acked + 7) && (n == p.sent || not d)))) h in

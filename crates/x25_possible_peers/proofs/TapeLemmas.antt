@@ -9,7 +9,7 @@ use Rattle.x25_handshakes.specs.laws.PeerStretch.{PeerStretch}
 use Rattle.x25_handshakes.specs.laws.PeerCalls.{PeerCall, CallDeed, PlacesCall}
 use Rattle.x25_handshakes.specs.laws.PeerCalls.{AcceptsCall, InTransfer, does_call, call_taking}
 use Rattle.x25_handshakes.specs.laws.PeerChannel.{ChannelDeed, InCall, Clears, does_channel, channel_packet_of, channel_taking}
-use Rattle.x25_possible.specs.Channel.{channel_rules}
+use Rattle.x25_possible.specs.Channel.{channel_rules, takes}
 use Rattle.x25_possible.specs.laws.Possible.{Item, Other, Stands}
 use Rattle.x25_possible.specs.laws.Possible.{Begins as RunBegins, Sends as RunSends, Shows as RunShows, Takes as RunTakes}
 use Rattle.x25_possible.specs.declared.packet.Packet.{Packet}
@@ -72,7 +72,8 @@ of_role r _ _ _ (Hears tape y way p h) = takes_of_role r y.epoch y.side p (of_ro
 pub taken_so : (role : Role) (tape : List (Item Packet)) (s r : Phase) (x : Packet) (way : List Packet) (out : List theirs.Packet)
     → IsTakenSo role s x out r → Stands (channel_rules role (Idle ∷ [])) tape s (x ∷ way) → Stands (channel_rules role (Idle ∷ [])) (confirmed out tape) r way
 taken_so role tape s r x way [] h st = RunTakes tape s r way x h st
-taken_so role tape s r x way (p ∷ []) h st = RunSends tape h.0 r way (item_of p) (0, h.2) (RunTakes tape s h.0 way x h.1 st)
+taken_so role tape s r x way (p ∷ []) h st =
+    RunSends tape (takes role s x) r way (item_of p) (0, h) (RunTakes tape s (takes role s x) way x refl st)
 taken_so role tape s r x way (p ∷ q ∷ ps) h st = absurd h
 
 map_push : (way : List theirs.Packet) (p : theirs.Packet) → map item_of (way ++ p ∷ []) ≡ map item_of way ++ item_of p ∷ []

@@ -1,18 +1,26 @@
 -- SABM and UA begin a session of both ends.
-use Rattle.x25_judge.proofs.verdicts.Names.{◌≡◌, ◌==◌, ◌⊎◌, inl, inr, ℕ, arith, Bool, true, false, zero, suc, List, [], ◌∷◌, ◌++◌, length, drop, Option, Some, None, Result, Ok, Err, refl, sym, ap, ◌∙◌, subst, nat_le, not, ◌&&◌, ◌||◌, nat_lt, both_ways, cond_both, or_parts, and_parts, and_from, Role, Dte, Dce, gap_in, n1, sent_in, Reading, PlainFrame, sabm, ua, frame_of, FrameError, other, Held, no_octets, differs, all_told, answer_to, book_of, gap_of, missed_by, other_of, own_of, past_gap, read_of, seen_by, sent_of, Judge, Strictness, End, Rule, come, comes, has_answer, has_number, is_new, is_number, is_of_order, IsBegun, rule_of, Shows, after, IsClear, SetUpsBegin, PacketRule, IsIn, Place, at, At, Owes, State, fresh, has_ua, heard, is_asking, may_answer, owes, passes, sends, is_plain, onward, settled, upward, hastened, is_below, numbers_below, sends_to, set_as, shows_to, spot_at, trimmed, Frame, Before, Disc, Info, Ready, Sabm, Ua, Unread, LinkSet, Told, Broken, Nothing, Spot, Numbers, Stand, Asking, Free, Out, Up, AllAre, sent_all, shown_all, AreBelow, Below, below_on, below_self, HoldsAt, Leads, Stays, Steps, Has, HasIn, blind_sends, blind_shows, has_less, has_sent, has_shown, has_taken, shows_by, trim_has, is_of_manners, NoPoll, RejectAgain, OverWindow, Repeats, Packet, if◌then◌else◌, eq-eqb, le-leb}
-use Rattle.x25_judge.specs.Judge.{begins as judge_begins}
+use Rattle.x25_judge.proofs.verdicts.Names.{◌≡◌, ◌==◌, ◌⊎◌, inl, inr, ℕ, arith, Bool, true, false, zero, suc, List, [], ◌∷◌, ◌++◌, length, drop, Option, Some}
+use Rattle.x25_judge.proofs.verdicts.Names.{None, Result, Ok, Err, refl, sym, ap, ◌∙◌, subst, nat_le, not, ◌&&◌, ◌||◌, nat_lt, both_ways, cond_both, or_parts}
+use Rattle.x25_judge.proofs.verdicts.Names.{and_parts, and_from, Role, Dte, Dce, gap_in, n1, sent_in, Reading, PlainFrame, sabm, ua, frame_of, FrameError}
+use Rattle.x25_judge.proofs.verdicts.Names.{other, Held, no_octets, differs, all_told, answer_to, book_of, gap_of, missed_by, other_of, own_of, past_gap}
+use Rattle.x25_judge.proofs.verdicts.Names.{read_of, seen_by, sent_of, Judge, Strictness, End, Rule, come, comes, has_answer, has_number, is_new, is_number}
+use Rattle.x25_judge.proofs.verdicts.Names.{is_of_order, IsBegun, rule_of, Shows, after, IsClear, SetUpsBegin, PacketRule, IsIn, Place, at, At, Owes, State}
+use Rattle.x25_judge.proofs.verdicts.Names.{fresh, has_ua, heard, is_asking, may_answer, owes, passes, sends, is_plain, onward, settled, upward, hastened}
+use Rattle.x25_judge.proofs.verdicts.Names.{is_below, numbers_below, sends_to, set_as, shows_to, spot_at, trimmed, Frame, Before, Disc, Info, Ready, Sabm, Ua}
+use Rattle.x25_judge.proofs.verdicts.Names.{Unread, LinkSet, Told, Broken, Nothing, Spot, Numbers, Stand, Asking, Free, Out, Up, AllAre, sent_all, shown_all}
+use Rattle.x25_judge.proofs.verdicts.Names.{AreBelow, Below, below_on, below_self, HoldsAt, Leads, Stays, Steps, Has, HasIn, blind_sends, blind_shows, has_less}
+use Rattle.x25_judge.proofs.verdicts.Names.{has_sent, has_shown, has_taken, shows_by, trim_has, is_of_manners, NoPoll, RejectAgain, OverWindow, Repeats, Packet}
+use Rattle.x25_judge.proofs.{verdicts.Names.{if◌then◌else◌, eq-eqb, le-leb}, verdicts.Lines.{Goes, goes, next_goes, next_past, other_twice}}
+use Rattle.x25_judge.specs.{Judge.{begins as judge_begins}, Rule.{first as first_rule}}
 use Rattle.x25_possible_links.specs.{laws.Link.{asks, answers, begins}, laws.Places.{first}}
 use Rattle.x25_possible_links.specs.declared.set.Told.TheVariants.{Skips as SkipsOf}
-use Rattle.x25_judge.specs.Rule.{first as first_rule}
 use Rattle.x25_judge.specs.declared.rule.Rule.TheVariants.{Skips}
 use Rattle.std.specs.List.{list_any}
 use Rattle.std.proofs.lemmas.List.Folds.{list_any-append}
 use Rattle.x25_possible_links.proofs.Covers.{Covers, Here, Asked, Later, Begins}
-use Rattle.x25_judge.proofs.verdicts.Lines.{Goes, goes, next_goes, next_past, other_twice}
 use Rattle.x25_judge.proofs.{verdicts.Octets.{HasRoom, each_room, keeps_room}, verdicts.Silences.{no_numbers, saw}}
 use Rattle.x25_judge.proofs.verdicts.Silent.{Fits, IsWithin, comes_on, settled_comes, up_below, settled_within, upward_within}
-use Rattle.x25_judge.proofs.{verdicts.Following.{owed_first}, verdicts.Innocents.{sent_end}}
-use Rattle.x25_judge.proofs.verdicts.Manners.{IsFair, minds_has, small_window}
+use Rattle.x25_judge.proofs.{verdicts.Following.{owed_first}, verdicts.Innocents.{sent_end}, verdicts.Manners.{IsFair, minds_has, small_window}}
 use Rattle.x25_judge.specs.Links as links
 use Rattle.x25_possible_links.specs.laws.Places as place
 use Rattle.x25_possible_links.specs.code.Steps.{set_of}
@@ -24,7 +32,8 @@ step_comes Asking x way b =
     cond_both (may_answer x) fresh Asking (λ (u : Stand). Below fresh (comes way u)) (λ _. up_below way no_numbers) (λ _. b)
 step_comes u x way b = b
 
-covers_come : (u : Stand) (way : List Frame) (s : State) (end : List Frame) → Covers u way s end → (g : Stand) → s ≡ At g → end ≡ [] → Below fresh g → Below fresh (comes way u)
+covers_come : (u : Stand) (way : List Frame) (s : State) (end : List Frame) → Covers u way s end → (g : Stand) → s ≡ At g → end ≡ [] → Below fresh g
+    → Below fresh (comes way u)
 covers_come _ _ _ _ (Here s u way below) g e none b =
     subst (λ w. Below fresh (comes w u)) (sym none) (below_on fresh s u (subst (λ r. Below fresh r) (sym cc) b) below)
 covers_come _ _ _ _ (Asked s u r x way below is) g e none b = absurd cc
@@ -90,7 +99,8 @@ Asks s = Has (sends_to Sabm s).set (At Asking) []
 asks_in : (way : List Frame) (qs : List Spot) (b : Bool) → Asks (set_in way qs b)
 asks_in way [] b =
     let s = trimmed (set_as (set_in way [] b) way (spot_at (length way) Free ∷ [])) in
-    has_less s.spots.items s.way.items Free Asking [] (trim_has (set_in way [] b) way (spot_at (length way) Free ∷ []) (At Free) [] (free_in (length way) way)) tt
+    has_less s.spots.items s.way.items Free Asking [] (trim_has (set_in way [] b) way (spot_at (length way) Free ∷ []) (At Free) [] (free_in (length way) way))
+    tt
 asks_in way (q ∷ qs) b =
     has_sent (set_in way (q ∷ qs) b) Sabm (At q.stand) (At Asking) [] (sends q.stand Asking [] Sabm 0 0 (asks_alone q.stand)) (first_in q qs way)
 
@@ -174,8 +184,8 @@ goes_waits (y ∷ way) s m free there =
     first_waits (is_asking s || not (has_ua (y ∷ way))) (y ∷ way) (place.goes Sabm (upward s y) way) m free
     (λ h. goes_waits way (upward s y) m (or_parts (may_answer y) (has_answer way) free).1 h) there
 
-asker_new : (s : LinkSet) → has_answer s.way.items ≡ false → (sends_to Sabm s).told ≡ Nothing → (sends_to Sabm s).set.is_blind ≡ false → (shows_to Ua (sends_to Sabm s).set).is_blind ≡ false
-    → IsNew (shows_to Ua (sends_to Sabm s).set)
+asker_new : (s : LinkSet) → has_answer s.way.items ≡ false → (sends_to Sabm s).told ≡ Nothing → (sends_to Sabm s).set.is_blind ≡ false
+    → (shows_to Ua (sends_to Sabm s).set).is_blind ≡ false → IsNew (shows_to Ua (sends_to Sabm s).set)
 asker_new s free told some room =
     shown_all Waits (IsWithin no_numbers) (sends_to Sabm s).set Ua waits (λ u x v e h. subst (λ w. comes v w ≡ Asking) e h) each room
   where
@@ -295,8 +305,8 @@ not_up : (s : Stand) → is_of_order (Some (links.broken s Sabm)) ≡ true
 not_up Out = refl
 not_up s = refl
 
-heard_by : (from : Role) (j : Judge) (line octets : List ℕ) (frame : PlainFrame) → Shows line from octets frame → (own_of (other from) (answer_to j line).next).set
-    ≡ shows_to (links.shown frame (differs (own_of from j).held frame)) (own_of (other from) j).set
+heard_by : (from : Role) (j : Judge) (line octets : List ℕ) (frame : PlainFrame) → Shows line from octets frame
+    → (own_of (other from) (answer_to j line).next).set ≡ shows_to (links.shown frame (differs (own_of from j).held frame)) (own_of (other from) j).set
 heard_by Dte j line octets frame shows = ap (λ (e : End). e.set) (goes j line Dte octets frame shows).opposite
 heard_by Dce j line octets frame shows = ap (λ (e : End). e.set) (goes j line Dce octets frame shows).opposite
 
@@ -370,7 +380,8 @@ either Dte Dce = inr refl
 either Dce Dte = inr refl
 either from end = inl refl
 
-begin_both : (j : Judge) (from end : Role) (asks accepts asked accepted : List ℕ) (p f : Bool) → AreRoomy j → Shows asks from asked (sabm p) → Shows accepts (other from) accepted (ua f)
+begin_both : (j : Judge) (from end : Role) (asks accepts asked accepted : List ℕ) (p f : Bool) → AreRoomy j → Shows asks from asked (sabm p)
+    → Shows accepts (other from) accepted (ua f)
     → is_of_order (rule_of j from (sabm p)) ≡ false → is_of_order (rule_of (answer_to j asks).next (other from) (ua f)) ≡ false → IsClear j from end
     → (own_of end (after j (asks ∷ accepts ∷ []))).set.is_blind ≡ false → IsBegun (after j (asks ∷ accepts ∷ [])) end
 unfolding links.shown
@@ -393,29 +404,31 @@ begin_both j from end asks accepts asked accepted p f stays first second asks_we
     asked_is : (own_of from j2).set ≡ shows_to Ua (sends_to Sabm (own_of from j).set).set
     asked_is =
         subst (λ (r : Role). (own_of r j2).set ≡ shows_to Ua (own_of r j1).set) (other_twice from)
-        (heard_by (other from) j1 accepts accepted (ua f) second)
-        ∙ ap (shows_to Ua) (sent_end from j asks asked (sabm p) first).places
+        (heard_by (other from) j1 accepts accepted (ua f) second) ∙ ap (shows_to Ua) (sent_end from j asks asked (sabm p) first).places
 
     shown_is : (own_of (other from) j1).set ≡ shows_to Sabm (own_of (other from) j).set
     shown_is = heard_by from j asks asked (sabm p) first
 
     untold : (sends_to Ua (shows_to Sabm (own_of (other from) j).set)).told ≡ Nothing
     untold =
-        ap (λ (s : LinkSet). (sends_to Ua s).told) (sym shown_is)
-        ∙ not_told j1 (other from) (ua f) Ua (λ d. refl) quiet (λ s. refl) (λ s. refl)
+        ap (λ (s : LinkSet). (sends_to Ua s).told) (sym shown_is) ∙ not_told j1 (other from) (ua f) Ua (λ d. refl) quiet (λ s. refl) (λ s. refl)
 
     by_asker : has_answer (own_of from j).set.way.items ≡ false → (own_of from j2).set.is_blind ≡ false → IsBegun j2 from
     by_asker free sees =
         let set = (own_of from j).set in
         begun_by j2 from _ asked_is (asker set)
-        (λ s. asker_new set free (not_told j from (sabm p) Sabm (λ d. refl) asks_well not_up not_up) (saw (sends_to Sabm set).set.is_blind (shows_to Ua (sends_to Sabm set).set).is_blind (blind_shows (sends_to Sabm set).set Ua) s) s) sees (still from)
+        (λ s. asker_new set free (not_told j from (sabm p) Sabm (λ d. refl) asks_well not_up not_up)
+        (saw (sends_to Sabm set).set.is_blind (shows_to Ua (sends_to Sabm set).set).is_blind (blind_shows (sends_to Sabm set).set Ua) s) s) sees
+        (still from)
 
     by_answerer : has_number (own_of (other from) j).set.way.items ≡ false → (own_of (other from) j2).set.is_blind ≡ false → IsBegun j2 (other from)
     by_answerer free sees =
         let set = (own_of (other from) j).set in
         begun_by j2 (other from) _
         ((sent_end (other from) j1 accepts accepted (ua f) second).places ∙ ap (λ (s : LinkSet). (sends_to Ua s).set) shown_is)
-        (answerer set untold) (λ s. answerer_new set free (saw (shows_to Sabm set).is_blind (sends_to Ua (shows_to Sabm set)).set.is_blind (blind_sends (shows_to Sabm set) Ua) s) s untold) sees (still (other from))
+        (answerer set untold) (λ s. answerer_new set free
+        (saw (shows_to Sabm set).is_blind (sends_to Ua (shows_to Sabm set)).set.is_blind (blind_sends (shows_to Sabm set) Ua) s) s untold) sees
+        (still (other from))
 
 after_on : (j : Judge) (xs ys : List (List ℕ)) → after j (xs ++ ys) ≡ after (after j xs) ys
 after_on j [] ys = refl
@@ -426,6 +439,7 @@ set_ups_begin window reading strictness lines from end asks accepts asked accept
     let j = after (judge_begins window reading strictness) lines in
     let all = after_on (judge_begins window reading strictness) lines (asks ∷ accepts ∷ []) in
     subst (λ k. IsBegun k end) (sym all)
-    (begin_both j from end asks accepts asked accepted p f (lines_stay (judge_begins window reading strictness) lines (begins_so window reading strictness)) first second asks_well
+    (begin_both j from end asks accepts asked accepted p f (lines_stay (judge_begins window reading strictness) lines (begins_so window reading strictness))
+    first second asks_well
     (subst (λ k. is_of_order (rule_of k (other from) (ua f)) ≡ false) (after_on (judge_begins window reading strictness) lines (asks ∷ [])) quiet) clear
     (subst (λ k. (own_of end k).set.is_blind ≡ false) all room))

@@ -1,5 +1,11 @@
 -- An end that keeps the rules of docs/PEER.md, beside the places in which the judge has it.
-use Rattle.x25_judge.proofs.verdicts.Names.{◌≡◌, ◌⊎◌, inl, inr, ℕ, ◌+◌, ◌%◌, ◌≤◌, ◌==◌, arith, max, Bool, true, false, List, [], ◌∷◌, ◌++◌, length, suc, Option, Some, None, refl, sym, ap, ◌∙◌, subst, not, ◌&&◌, ◌||◌, nat_le, nat_lt, and_from, both_ways, cond-true, eqb-true, lt-ltb, PlainFrame, info, rr, rnr, rej, sabm, disc, ua, Peer, fresh_peer, MayAcknowledge, MayNumber, Said, Tells, In, shown, Way, MaySay, MaySend, HaveNoUa, IsUa, declined, numbered, asks_again, closes, declines, rejects, takes_disc, takes_sabm, waits_on, IsIn, State, At, Owes, owes, fresh, has_ua, is_asking, is_ua, may_acknowledge, may_number, sends_as, Frame, Ready, Sabm, Disc, Ua, Dm, Frmr, Unread, LinkSet, Numbers, Stand, Out, Asking, Up, Free, Has, has_taken, if◌then◌else◌, eq-eqb, le-leb}
+use Rattle.x25_judge.proofs.verdicts.Names.{◌≡◌, ◌⊎◌, inl, inr, ℕ, ◌+◌, ◌%◌, ◌≤◌, ◌==◌, arith, max, Bool, true, false, List, [], ◌∷◌, ◌++◌, length, suc, Option}
+use Rattle.x25_judge.proofs.verdicts.Names.{Some, None, refl, sym, ap, ◌∙◌, subst, not, ◌&&◌, ◌||◌, nat_le, nat_lt, and_from, both_ways, cond-true, eqb-true}
+use Rattle.x25_judge.proofs.verdicts.Names.{lt-ltb, PlainFrame, info, rr, rnr, rej, sabm, disc, ua, Peer, fresh_peer, MayAcknowledge, MayNumber, Said, Tells}
+use Rattle.x25_judge.proofs.verdicts.Names.{In, shown, Way, MaySay, MaySend, HaveNoUa, IsUa, declined, numbered, asks_again, closes, declines, rejects}
+use Rattle.x25_judge.proofs.verdicts.Names.{takes_disc, takes_sabm, waits_on, IsIn, State, At, Owes, owes, fresh, has_ua, is_asking, is_ua, may_acknowledge}
+use Rattle.x25_judge.proofs.verdicts.Names.{may_number, sends_as, Frame, Ready, Sabm, Disc, Ua, Dm, Frmr, Unread, LinkSet, Numbers, Stand, Out, Asking, Up}
+use Rattle.x25_judge.proofs.verdicts.Names.{Free, Has, has_taken, if◌then◌else◌, eq-eqb, le-leb}
 use Rattle.x25_judge.specs.laws.Sessions.{asks}
 use Rattle.x25_line.specs.laws.Peer as peer
 use Rattle.x25_line.specs.laws.PeerSessions as session
@@ -94,7 +100,8 @@ acknowledged p nr t m =
     and_from (nr == t % 8) (nat_le p.told t && nat_le t (length p.taken)) (eq-eqb nr (t % 8) m.number)
     (and_from (nat_le p.told t) (nat_le t (length p.taken)) (le-leb p.told t m.rising) (le-leb t (length p.taken) m.taken))
 
-may_be_numbered : (p : Peer) (ns n : ℕ) (packet : List ℕ) (d : Bool) → MayNumber p ns packet n → n ≤ p.sent → (n == p.sent || not d) ≡ true → may_number n (numbers_of p) ns d ≡ true
+may_be_numbered : (p : Peer) (ns n : ℕ) (packet : List ℕ) (d : Bool) → MayNumber p ns packet n → n ≤ p.sent → (n == p.sent || not d) ≡ true
+    → may_number n (numbers_of p) ns d ≡ true
 may_be_numbered p ns n packet d m low same =
     and_from (ns == n % 8) (nat_le n p.sent && (nat_le p.sent (n + 7) && (nat_lt n (p.acked + 7) && (n == p.sent || not d))))
     (eq-eqb ns (n % 8) m.number)
@@ -215,7 +222,8 @@ module _ (set : LinkSet) where
       go false = ap (λ c. if not c then Some Asking else None) e
 
   pub says : (stand next : session.Stand) (p q : Peer) (way rest : Way) (end : List Frame) (frame : PlainFrame) (d : Bool)
-      → Has set (At (stand_of stand p)) end → Means end way → MaySay stand p way frame next q rest → (stand ≡ In → IsSame p frame d) → Says set (shown frame d) next q rest
+      → Has set (At (stand_of stand p)) end → Means end way → MaySay stand p way frame next q rest → (stand ≡ In → IsSame p frame d)
+      → Says set (shown frame d) next q rest
   unfolding shown
   says stand _ p q way _ end frame d has m (numbered _ _ is may) same =
       let c = counts p q end frame d may (same is) in

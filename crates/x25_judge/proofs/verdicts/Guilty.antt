@@ -1,8 +1,9 @@
 -- What no run of an end that keeps the rules explains is told, and the first rule of order is told of that alone.
-use Rattle.x25_judge.proofs.verdicts.Names.{◌≡◌, ℕ, Bool, true, false, [], ◌∷◌, None, refl, sym, ap, ◌∙◌, subst, is_some, both_ways, Role, PlainFrame, info, differs, own_of, seen_by, Judge, Minding, Sent, is_of_order, rule_of, GuiltyAreTold, ToldAreGuilty, begun_as, played, sends_to, Frame, Info, LinkSet, Told, Broken, Nothing, Skips, Stand, Free, Up}
+use Rattle.x25_judge.proofs.verdicts.Names.{◌≡◌, ℕ, Bool, true, false, [], ◌∷◌, None, refl, sym, ap, ◌∙◌, subst, is_some, both_ways, Role, PlainFrame, info}
+use Rattle.x25_judge.proofs.verdicts.Names.{differs, own_of, seen_by, Judge, Minding, Sent, is_of_order, rule_of, GuiltyAreTold, ToldAreGuilty, begun_as}
+use Rattle.x25_judge.proofs.{verdicts.Names.{played, sends_to, Frame, Info, LinkSet, Told, Broken, Nothing, Skips, Stand, Free, Up}, verdicts.Tapes.{told_is}}
 use Rattle.x25_judge.proofs.{verdicts.Innocents.{none_of_order, seen_fair, sent_end}, verdicts.Manners.{minds_has}}
 use Rattle.x25_judge.proofs.verdicts.Minded.{IsTold, Tells, asks_tells, first_brings, first_keeps, number_tells, tells_of}
-use Rattle.x25_judge.proofs.verdicts.Tapes.{told_is}
 use Rattle.x25_judge.specs.Links as links
 use Rattle.x25_judge.specs.Manners as manners
 use Rattle.x25_possible_links.proofs.SetLemmas as sets
@@ -43,8 +44,8 @@ rule_some Nothing x some plain = absurd some
 rule_some (Skips s) (Info ns nr d) some plain = absurd plain
 rule_some told x some plain = refl
 
-frame_tells : (window : ℕ) (t : Sent) (to : LinkSet) (frame : PlainFrame) (d : Bool) (b : Minding) → IsSome t.told → b.seen.rule ≡ links.rule_of t.told (links.shown frame d)
-    → Tells (links.minds window t to frame b)
+frame_tells : (window : ℕ) (t : Sent) (to : LinkSet) (frame : PlainFrame) (d : Bool) (b : Minding) → IsSome t.told → b.seen.rule
+    ≡ links.rule_of t.told (links.shown frame d) → Tells (links.minds window t to frame b)
 unfolding links.minds links.shown Plain
 frame_tells window t to (info ns nr p octets) d b some is =
     counts_tell window t ns p (links.asks p b) t.facts.stand (Info ns nr d) some (λ broken. asks_tells p b (subst IsTold (sym is) broken))

@@ -1,14 +1,21 @@
 -- No rule of order is told of an end that keeps the rules.
-use Rattle.x25_judge.proofs.verdicts.Names.{◌≡◌, ◌⊎◌, inl, inr, ℕ, ◌+◌, ◌%◌, ◌<◌, ◌≤◌, ◌==◌, arith, max, Bool, true, false, suc, List, [], ◌∷◌, ◌++◌, length, drop, refl, sym, ap, ◌∙◌, subst, not, ◌&&◌, ◌||◌, both_ways, cases_eq, Role, Dte, Dce, PlainFrame, info, rr, rnr, rej, ua, Peer, fresh_peer, hearing, taking, MayHear, MayNumber, In, other, Held, differs, keeps, no_octets, none_held, comes, IsBegun, IsDamaged, IsTimely, Shows, Way, is_of_order, answer_to, own_of, seen_by, forgets_each, held_by, shown, breaks_order, Judge, End, MaySay, MaySend, MayStand, declined, numbered, declines, takes_sabm, NoSessionIsAccused, nth, IsIn, is_below, sends_to, shows_to, unknown, State, At, Owes, passes, fresh, heard, may_answer, onward, upward, Frame, Info, Ready, Unread, Before, LinkSet, Nothing, Spot, Numbers, Stand, Out, Asking, Up, Free, AreBelow, Below, below_self, Leads, Stays, Steps, stays_at, below_is, Has, has_taken, has_less, has_sent, has_shown, is_untold, if◌then◌else◌, Ok, Option, Some, None, eq-eqb}
+use Rattle.x25_judge.proofs.verdicts.Names.{◌≡◌, ◌⊎◌, inl, inr, ℕ, ◌+◌, ◌%◌, ◌<◌, ◌≤◌, ◌==◌, arith, max, Bool, true, false, suc, List, [], ◌∷◌, ◌++◌, length}
+use Rattle.x25_judge.proofs.verdicts.Names.{drop, refl, sym, ap, ◌∙◌, subst, not, ◌&&◌, ◌||◌, both_ways, cases_eq, Role, Dte, Dce, PlainFrame, info, rr, rnr}
+use Rattle.x25_judge.proofs.verdicts.Names.{rej, ua, Peer, fresh_peer, hearing, taking, MayHear, MayNumber, In, other, Held, differs, keeps, no_octets}
+use Rattle.x25_judge.proofs.verdicts.Names.{none_held, comes, IsBegun, IsDamaged, IsTimely, Shows, Way, is_of_order, answer_to, own_of, seen_by, forgets_each}
+use Rattle.x25_judge.proofs.verdicts.Names.{held_by, shown, breaks_order, Judge, End, MaySay, MaySend, MayStand, declined, numbered, declines, takes_sabm}
+use Rattle.x25_judge.proofs.verdicts.Names.{NoSessionIsAccused, nth, IsIn, is_below, sends_to, shows_to, unknown, State, At, Owes, passes, fresh, heard}
+use Rattle.x25_judge.proofs.verdicts.Names.{may_answer, onward, upward, Frame, Info, Ready, Unread, Before, LinkSet, Nothing, Spot, Numbers, Stand, Out, Asking}
+use Rattle.x25_judge.proofs.verdicts.Names.{Up, Free, AreBelow, Below, below_self, Leads, Stays, Steps, stays_at, below_is, Has, has_taken, has_less, has_sent}
+use Rattle.x25_judge.proofs.{verdicts.Names.{has_shown, is_untold, if◌then◌else◌, Ok, Option, Some, None, eq-eqb}, verdicts.Octets.{sent_held}}
 use Rattle.x25_judge.specs.laws.Session.{rule_of as told_rule}
 use Rattle.x25_judge.specs.Links.{rule_of}
 use Rattle.x25_possible_links.specs.laws.Link.{hears, begins}
 use Rattle.x25_line.specs.laws.Said.{said as read_as}
 use Rattle.x25_possible_links.proofs.Covers.{Covers, Here, Asked, Later, Begins}
-use Rattle.x25_judge.proofs.{verdicts.Lines.{goes, past, told_of_order}, verdicts.Manners.{minds_fair}}
-use Rattle.x25_judge.proofs.verdicts.Octets.{HasSent, HasRoom, IsHeld, begun_held, each_room, held_less, held_more, keeps_room, pushed_held, same_octets, sent_held}
+use Rattle.x25_judge.proofs.{verdicts.Lines.{goes, past, told_of_order}, verdicts.Manners.{minds_fair}, verdicts.Silent.{heard_sent}}
+use Rattle.x25_judge.proofs.verdicts.Octets.{HasSent, HasRoom, IsHeld, begun_held, each_room, held_less, held_more, keeps_room, pushed_held, same_octets}
 use Rattle.x25_judge.proofs.verdicts.Following.{heard_keeps, IsPart, IsSame, IsSeen, Means, Says, front, means_on, means_same, numbers_of, says, stand_of}
-use Rattle.x25_judge.proofs.verdicts.Silent.{heard_sent}
 use Rattle.x25_line.specs.laws.Peer as peer
 use Rattle.x25_line.specs.laws.PeerSessions as session
 use Rattle.x25_packet_judge.specs.Book as book
@@ -32,7 +39,8 @@ with_heard h t ns nr p = record {
   told = p.told;
 }
 
-numbers_heard : (h t : Bool) (ns nr : ℕ) (packet : List ℕ) (p : Peer) → peer.IsWanted t ns p → with_heard h t ns nr p ≡ numbers_of (taking t packet (hearing h nr p))
+numbers_heard : (h t : Bool) (ns nr : ℕ) (packet : List ℕ) (p : Peer) → peer.IsWanted t ns p → with_heard h t ns nr p
+    ≡ numbers_of (taking t packet (hearing h nr p))
 numbers_heard true true ns nr packet p wanted =
     ap (λ m. record { sent = p.sent; acked = nth p.acked nr; taken = m; told = p.told })
     (ap (λ b. if b then length p.taken + 1 else length p.taken) (eq-eqb ns (length p.taken % 8) wanted) ∙ sym (one_more packet p.taken))
@@ -104,7 +112,8 @@ module _ (set : LinkSet) (p : Peer) (end : List Frame) where
   seen_ready y nr f (inl g) same = inl (g.1 ∙ same g.0)
   seen_ready y nr f (inr g) same = inr g
 
-  pub heard_has : (q : Peer) (y : Frame) (f : PlainFrame) → IsSeen y f → MayHear p (Ok f) q → Has set (At (Up (numbers_of p))) (y ∷ end) → Has set (At (Up (numbers_of q))) end
+  pub heard_has : (q : Peer) (y : Frame) (f : PlainFrame) → IsSeen y f → MayHear p (Ok f) q → Has set (At (Up (numbers_of p))) (y ∷ end)
+      → Has set (At (Up (numbers_of q))) end
   unfolding shown
   heard_has q y (info ns nr pf packet) (inl g) may has =
       subst (λ k. Has set (At (Up k)) end) (numbers_heard may.0 may.1 ns nr packet p may.2 ∙ ap numbers_of (sym may.3))
@@ -305,7 +314,8 @@ module _ {set : LinkSet} {held : Held} {stand : session.Stand} {p : Peer} {way :
               (begun_held (keeps held frame) [] room) may h.octets;
         }
 
-  garbled : (next : session.Stand) (q : Peer) (rest : Way) (state : State) (end : List Frame) → link.MaySend state end Unread (At (stand_of next q)) → Has set state end → Means end rest
+  garbled : (next : session.Stand) (q : Peer) (rest : Way) (state : State) (end : List Frame) → link.MaySend state end Unread (At (stand_of next q))
+      → Has set state end → Means end rest
       → HeldIn next (forgets_each set.spots.items held) q → Follows (sends_to Unread set).set (forgets_each set.spots.items held) next q rest
   garbled next q rest state end may has means is = record {
     end = end;
@@ -438,7 +448,8 @@ lost_end Dce j line octets broken = same_end _ _ (past j line Dte octets broken)
 abbrev FollowsOf : End → session.Stand → Peer → Way → Type 0
 FollowsOf e stand p way = Follows e.set e.held stand p way
 
-by_end : {set : LinkSet} {held : Held} {e : End} {stand : session.Stand} {p : Peer} {way : Way} → IsEnd set held e → Follows set held stand p way → FollowsOf e stand p way
+by_end : {set : LinkSet} {held : Held} {e : End} {stand : session.Stand} {p : Peer} {way : Way} → IsEnd set held e → Follows set held stand p way
+    → FollowsOf e stand p way
 by_end {set} {held} {e} {stand} {p} {way} g h =
     subst (λ (s : LinkSet). Follows s e.held stand p way) (sym g.places)
     (subst (λ (x : Held). Follows set x stand p way) (sym g.octets) h)
@@ -449,12 +460,13 @@ is_lost (Some f) = inr refl
 
 -- ---- the laws
 
-pub seen_fair : (from : Role) (j : Judge) (frame : PlainFrame) → (sends_to (shown frame (differs (own_of from j).held frame)) (own_of from j).set).told ≡ Nothing
-    → is_of_order (seen_by j from frame).seen.rule ≡ false
+pub seen_fair : (from : Role) (j : Judge) (frame : PlainFrame) → (sends_to (shown frame (differs (own_of from j).held frame)) (own_of from j).set).told
+    ≡ Nothing → is_of_order (seen_by j from frame).seen.rule ≡ false
 seen_fair from j frame e =
     minds_fair j.window _ _ frame _ (ap (λ t. is_of_order (rule_of t (shown frame (differs (own_of from j).held frame)))) e)
 
-pub none_of_order : (from : Role) (j : Judge) (frame : PlainFrame) → is_of_order (seen_by j from frame).seen.rule ≡ false → is_of_order (told_rule j from frame) ≡ false
+pub none_of_order : (from : Role) (j : Judge) (frame : PlainFrame) → is_of_order (seen_by j from frame).seen.rule ≡ false
+    → is_of_order (told_rule j from frame) ≡ false
 none_of_order from j frame e =
     let t = seen_by j from frame in
     told_of_order t.seen.rule (book.sees from j.reading frame (breaks_order t.seen.rule) j.book).verdict.rule e
@@ -464,7 +476,8 @@ comes_to : (way : List Frame) (u : Stand) → is_below fresh (comes way u) ≡ t
 comes_to [] u e = Here fresh u [] (below_is fresh u e)
 comes_to (x ∷ way) Asking e = go (may_answer x) refl e (comes_to way fresh) (comes_to way Asking)
   where
-    go : (b : Bool) → may_answer x ≡ b → is_below fresh (comes way (if b then fresh else Asking)) ≡ true → (is_below fresh (comes way fresh) ≡ true → Covers fresh way (At fresh) [])
+    go : (b : Bool) → may_answer x ≡ b → is_below fresh (comes way (if b then fresh else Asking)) ≡ true
+        → (is_below fresh (comes way fresh) ≡ true → Covers fresh way (At fresh) [])
         → (is_below fresh (comes way Asking) ≡ true → Covers Asking way (At fresh) []) → Covers Asking (x ∷ way) (At fresh) []
     go true a h one two = Begins x way (At fresh) [] a (one h)
     go false a h one two = Later Asking x way (At fresh) [] (two h)

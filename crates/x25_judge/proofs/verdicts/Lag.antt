@@ -1,5 +1,7 @@
 -- An end that keeps the rules, ahead of the trace: what it did since its last octets that the trace has seen.
-use Rattle.x25_judge.proofs.verdicts.Names.{◌≡◌, inl, inr, ℕ, ◌≤◌, le_trans, arith, length, length-append, List, [], ◌∷◌, ◌++◌, true, false, Option, Some, None, Result, Ok, Err, refl, sym, ap, ◌∙◌, subst, Role, n1, PlainFrame, info, rr, rnr, rej, frame_of, FrameError, Short, other, Peer, MayHear, number_in, is_visible, IsSeen, visible_reads, Judge, MaySend, MayStand, In, IsNumbered, Way}
+use Rattle.x25_judge.proofs.verdicts.Names.{◌≡◌, inl, inr, ℕ, ◌≤◌, le_trans, arith, length, length-append, List, [], ◌∷◌, ◌++◌, true, false, Option, Some, None}
+use Rattle.x25_judge.proofs.verdicts.Names.{Result, Ok, Err, refl, sym, ap, ◌∙◌, subst, Role, n1, PlainFrame, info, rr, rnr, rej, frame_of, FrameError, Short}
+use Rattle.x25_judge.proofs.verdicts.Names.{other, Peer, MayHear, number_in, is_visible, IsSeen, visible_reads, Judge, MaySend, MayStand, In, IsNumbered, Way}
 use Rattle.std.proofs.Common.{append_assoc}
 use Rattle.std.proofs.lemmas.List.{append-nil}
 use Rattle.x25_judge.specs.laws.Sessions as sessions
@@ -75,20 +77,44 @@ module _ (from : Role) where
   pub did_more : (p q r : Peer) (way left last : Way) (out : List (List ℕ)) → Quiet q left r last → Did p way q left out → Did p way r last out
   did_more p q r way left last [] e d = both d e
   did_more p q r way left last (o ∷ out) e d =
-      record { before = d.before; on_way = d.on_way; after = d.after; quiet = d.quiet; sends = d.sends; did = did_more d.after q r d.on_way left last out e d.did }
+      record {
+        before = d.before;
+        on_way = d.on_way;
+        after = d.after;
+        quiet = d.quiet;
+        sends = d.sends;
+        did = did_more d.after q r d.on_way left last out e d.did;
+      }
 
-  pub did_send : (p q r : Peer) (way left : Way) (out : List (List ℕ)) (octets : List ℕ) → Sends from q octets r → Did p way q left out → Did p way r left (out ++ octets ∷ [])
+  pub did_send : (p q r : Peer) (way left : Way) (out : List (List ℕ)) (octets : List ℕ) → Sends from q octets r → Did p way q left out
+      → Did p way r left (out ++ octets ∷ [])
   did_send p q r way left [] octets s d = record { before = q; on_way = left; after = r; quiet = d; sends = s; did = nothing r left }
   did_send p q r way left (o ∷ out) octets s d =
-      record { before = d.before; on_way = d.on_way; after = d.after; quiet = d.quiet; sends = d.sends; did = did_send d.after q r d.on_way left out octets s d.did }
+      record {
+        before = d.before;
+        on_way = d.on_way;
+        after = d.after;
+        quiet = d.quiet;
+        sends = d.sends;
+        did = did_send d.after q r d.on_way left out octets s d.did;
+      }
 
-  pub comes_behind : (p q : Peer) (way left : Way) (out : List (List ℕ)) (what : Option PlainFrame) → Did p way q left out → Did p (way ++ what ∷ []) q (left ++ what ∷ []) out
+  pub comes_behind : (p q : Peer) (way left : Way) (out : List (List ℕ)) (what : Option PlainFrame) → Did p way q left out
+      → Did p (way ++ what ∷ []) q (left ++ what ∷ []) out
   comes_behind p q way left [] what d = one_comes what d
   comes_behind p q way left (o ∷ out) what d =
-      record { before = d.before; on_way = d.on_way ++ what ∷ []; after = d.after; quiet = one_comes what d.quiet; sends = d.sends; did = comes_behind d.after q d.on_way left out what d.did }
+      record {
+        before = d.before;
+        on_way = d.on_way ++ what ∷ [];
+        after = d.after;
+        quiet = one_comes what d.quiet;
+        sends = d.sends;
+        did = comes_behind d.after q d.on_way left out what d.did;
+      }
 
   -- a frame with a number is at the front
-  pub numbered_front : (p q : Peer) (octets : List ℕ) (frame : PlainFrame) → frame_of from n1 octets ≡ Ok frame → IsNumbered frame → Sends from p octets q → MaySend p frame q
+  pub numbered_front : (p q : Peer) (octets : List ℕ) (frame : PlainFrame) → frame_of from n1 octets ≡ Ok frame → IsNumbered frame → Sends from p octets q
+      → MaySend p frame q
   numbered_front p q octets frame reads is (said f read may) =
       let same : f ≡ frame = cc in subst (λ (x : PlainFrame). MaySend p x q) same may
   numbered_front p q octets frame reads is (freed none same) = absurd (none_numbered frame is (sym (ap number_in reads) ∙ none))
@@ -112,7 +138,8 @@ module _ (from : Role) where
     | inr bad ↦ subst (λ (r : Result PlainFrame FrameError). MayHear p r q) bad may
   ]
 
-  one_behind : (way : Way) (back : List (List ℕ)) (octets : List ℕ) (what : Option PlainFrame) → ((p q : Peer) → MayHear p (frame_of (other from) n1 octets) q → Quiet p (what ∷ []) q [])
+  one_behind : (way : Way) (back : List (List ℕ)) (octets : List ℕ) (what : Option PlainFrame)
+      → ((p q : Peer) → MayHear p (frame_of (other from) n1 octets) q → Quiet p (what ∷ []) q [])
       → OnLine way back → OnLine (way ++ what ∷ []) (back ++ octets ∷ [])
   one_behind way [] octets what takes h =
       record { left = []; did = λ p q may. both (one_comes what (h p)) (takes p q may); line = λ p. nothing p [] }
@@ -124,7 +151,8 @@ module _ (from : Role) where
   one_more way back octets frame reads h =
       one_behind way back octets (Some frame) (λ p q may. heard p q frame (subst (λ (r : Result PlainFrame FrameError). MayHear p r q) reads may)) h
 
-  pub one_more_damaged : (way : Way) (back : List (List ℕ)) (octets : List ℕ) → is_visible octets ≡ true → OnLine way back → OnLine (way ++ None ∷ []) (back ++ octets ∷ [])
+  pub one_more_damaged : (way : Way) (back : List (List ℕ)) (octets : List ℕ) → is_visible octets ≡ true → OnLine way back
+      → OnLine (way ++ None ∷ []) (back ++ octets ∷ [])
   one_more_damaged way back octets visible h =
       one_behind way back octets None
       (λ p q may. subst (λ (r : Peer). Quiet p (None ∷ []) r []) (sym (says_nothing octets visible p q may))

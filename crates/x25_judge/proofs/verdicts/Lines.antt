@@ -1,5 +1,9 @@
 -- What a line makes of the judge, where it is a frame.
-use Rattle.x25_judge.proofs.verdicts.Names.{◌≡◌, inl, inr, ℕ, Bool, true, false, List, Option, Some, None, Err, refl, sym, ap, ◌∙◌, subst, is_some, not, ◌&&◌, both_ways, or_parts, cond_both, Role, Dte, Dce, PlainFrame, info, other, PacketRule, Answer, own_of, counts_packet, counts_carried, all_told, is_open, told_frame, remark_of, next_by, seen_by, missed_by, next_missed, no_frame, tallies, read_of, sent_of, answer_to, Both, breaks_order, is_of_manners, Judge, Rule, Packet, Shows, IsDamaged, is_of_order, gap_in, n1, frame_of, FrameError, Short, BadFcs, visible_reads, End}
+use Rattle.x25_judge.proofs.verdicts.Names.{◌≡◌, inl, inr, ℕ, Bool, true, false, List, Option, Some, None, Err, refl, sym, ap, ◌∙◌, subst, is_some, not, ◌&&◌}
+use Rattle.x25_judge.proofs.verdicts.Names.{both_ways, or_parts, cond_both, Role, Dte, Dce, PlainFrame, info, other, PacketRule, Answer, own_of, counts_packet}
+use Rattle.x25_judge.proofs.verdicts.Names.{counts_carried, all_told, is_open, told_frame, remark_of, next_by, seen_by, missed_by, next_missed, no_frame}
+use Rattle.x25_judge.proofs.verdicts.Names.{tallies, read_of, sent_of, answer_to, Both, breaks_order, is_of_manners, Judge, Rule, Packet, Shows, IsDamaged}
+use Rattle.x25_judge.proofs.verdicts.Names.{is_of_order, gap_in, n1, frame_of, FrameError, Short, BadFcs, visible_reads, End}
 use Rattle.std.specs.Prelude.{unwrap_or}
 use Rattle.x25_packet.specs.Reading.{channel_in}
 use Rattle.x25_packet_judge.specs.Book as book
@@ -51,7 +55,8 @@ goes j line from octets frame shows =
 abbrev Past : Judge → Judge → Role → Type 0
 Past j k from = Goes k from (missed_by j from).own (missed_by j from).other
 
-pub next_past : (from : Role) (e : FrameError) (in_doubt : Bool) (j : Judge) → Past j (tallies in_doubt (no_frame e) (next_missed from e (missed_by j from) j)) from
+pub next_past : (from : Role) (e : FrameError) (in_doubt : Bool) (j : Judge)
+    → Past j (tallies in_doubt (no_frame e) (next_missed from e (missed_by j from) j)) from
 next_past Dte e in_doubt j = record { own = refl; opposite = refl }
 next_past Dce e in_doubt j = record { own = refl; opposite = refl }
 

@@ -1,5 +1,9 @@
 -- Manners tell no rule of order, and nothing of what is told of the link.
-use Rattle.x25_judge.proofs.verdicts.Names.{◌≡◌, ℕ, ◌<◌, ◌≤◌, ◌%◌, ◌==◌, Bool, true, false, Option, Some, None, refl, arith, is_some, not, nat_lt, nat_le, ◌&&◌, ◌||◌, and_parts, cond_both, leb-true, ltb-true, PlainFrame, info, rr, rnr, rej, sabm, disc, ua, dm, frmr, answers, asks, bits, by_own, counts_in, hears, minded_as, minds, ready_minded, place_in, skipped_by, first, is_of_manners, Minding, Sent, Manners, Minded, Rule, OverWindow, is_of_order, LinkSet, Told, Nothing, Skips, Broken, Numbers, Stand, Up, if◌then◌else◌}
+use Rattle.x25_judge.proofs.verdicts.Names.{◌≡◌, ℕ, ◌<◌, ◌≤◌, ◌%◌, ◌==◌, Bool, true, false, Option, Some, None, refl, arith, is_some, not, nat_lt, nat_le, ◌&&◌}
+use Rattle.x25_judge.proofs.verdicts.Names.{◌||◌, and_parts, cond_both, leb-true, ltb-true, PlainFrame, info, rr, rnr, rej, sabm, disc, ua, dm, frmr, answers}
+use Rattle.x25_judge.proofs.verdicts.Names.{asks, bits, by_own, counts_in, hears, minded_as, minds, ready_minded, place_in, skipped_by, first, is_of_manners}
+use Rattle.x25_judge.proofs.verdicts.Names.{Minding, Sent, Manners, Minded, Rule, OverWindow, is_of_order, LinkSet, Told, Nothing, Skips, Broken, Numbers}
+use Rattle.x25_judge.proofs.verdicts.Names.{Stand, Up, if◌then◌else◌}
 use Rattle.x25_judge.specs.{Links.{begins}, declared.manners.Place.{Place}}
 use Rattle.x25_judge.specs.Manners as manners
 
@@ -35,7 +39,8 @@ new_fair window at m = go (nat_lt window 7 && nat_le window at.pending) refl
     go true e = small_window window (and_parts (nat_lt window 7) (nat_le window at.pending) e).0
     go false e = refl
 
-from_fair : (window : ℕ) (at : Place) (back next : ℕ) (is_poll skips : Bool) (m : Manners) → IsFair (manners.sends_from window at back next is_poll skips m).rule
+from_fair : (window : ℕ) (at : Place) (back next : ℕ) (is_poll skips : Bool) (m : Manners)
+    → IsFair (manners.sends_from window at back next is_poll skips m).rule
 from_fair window at back next is_poll skips m =
     either skips _ _ refl
     (either (nat_lt 0 back) _ _
@@ -48,7 +53,8 @@ sends_fair window at number is_poll skips m = from_fair window (manners.seen_pla
 
 -- ---- with what is said
 
-minded_fair : (told : Told) (window : ℕ) (k : Numbers) (t : Sent) (ns : ℕ) (p differs : Bool) (m : Manners) → IsFair (minded_as told window k t ns p differs m).rule
+minded_fair : (told : Told) (window : ℕ) (k : Numbers) (t : Sent) (ns : ℕ) (p differs : Bool) (m : Manners)
+    → IsFair (minded_as told window k t ns p differs m).rule
 minded_fair (Broken s) window k t ns p differs m = refl
 minded_fair (Skips s) window k t ns p differs m = sends_fair window (manners.place_of k) ns p true m
 minded_fair Nothing window k t ns p differs m =

@@ -1,11 +1,13 @@
 -- What counts as judged is told of: an N(S), and F=1.
-use Rattle.x25_judge.proofs.verdicts.Names.{◌≡◌, ◌==◌, inl, inr, ℕ, ◌≤◌, arith, Bool, true, false, List, Option, Some, None, refl, sym, ap, ◌∙◌, subst, eq-eqb, le-leb, nat_le, nat_lt, ◌&&◌, ◌||◌, not, is_some, eqb-true, and_parts, and_cases, or_cases, or_parts, both_ways, cond_both, Role, PlainFrame, info, rr, rnr, rej, dm, frmr, differs, all_told, book_of, other_of, own_of, seen_by, first, is_of_manners, Judge, End, Minding, Sent, Manners, Minded, Rule, Packet, Repeats, is_final, is_up, rule_of, IsOutOfPlace, JudgedFinalsAreTold, JudgedSendingsAreTold, PacketRule, Frame, Info, LinkSet, Told, Broken, Nothing, Numbers, Stand, Up}
-use Rattle.x25_judge.specs.declared.rule.Rule.TheVariants.{Skips}
+use Rattle.x25_judge.proofs.verdicts.Names.{◌≡◌, ◌==◌, inl, inr, ℕ, ◌≤◌, arith, Bool, true, false, List, Option, Some, None, refl, sym, ap, ◌∙◌, subst, eq-eqb}
+use Rattle.x25_judge.proofs.verdicts.Names.{le-leb, nat_le, nat_lt, ◌&&◌, ◌||◌, not, is_some, eqb-true, and_parts, and_cases, or_cases, or_parts, both_ways}
+use Rattle.x25_judge.proofs.verdicts.Names.{cond_both, Role, PlainFrame, info, rr, rnr, rej, dm, frmr, differs, all_told, book_of, other_of, own_of, seen_by}
+use Rattle.x25_judge.proofs.verdicts.Names.{first, is_of_manners, Judge, End, Minding, Sent, Manners, Minded, Rule, Packet, Repeats, is_final, is_up, rule_of}
+use Rattle.x25_judge.proofs.verdicts.Names.{IsOutOfPlace, JudgedFinalsAreTold, JudgedSendingsAreTold, PacketRule, Frame, Info, LinkSet, Told, Broken, Nothing}
+use Rattle.x25_judge.proofs.{verdicts.Names.{Numbers, Stand, Up}, verdicts.Manners.{minds_has}}
+use Rattle.x25_judge.specs.declared.{rule.Rule.TheVariants.{Skips}, note.Note.TheVariants.{PollAgain, SentAgain}, manners.Place.{Place}}
 use Rattle.x25_possible_links.specs.declared.set.Told.TheVariants.{Skips as SkipsOf}
-use Rattle.x25_judge.specs.declared.note.Note.TheVariants.{PollAgain, SentAgain}
 use Rattle.std.proofs.lemmas.Bool.Decides.{nat_tests}
-use Rattle.x25_judge.specs.declared.manners.Place.{Place}
-use Rattle.x25_judge.proofs.verdicts.Manners.{minds_has}
 use Rattle.x25_packet_judge.specs.Numbers.{apart}
 use Rattle.x25_judge.specs.Links as links
 use Rattle.x25_judge.specs.Manners as manners
@@ -50,7 +52,8 @@ module _ (window : ℕ) (t : Sent) (to : LinkSet) (b : Minding) (known : t.facts
   unfolding links.minds links.judges
   minds_tells (rr false nr true) final judged = answers_tell t.facts.is_known b (known judged) none
   minds_tells (rnr false nr true) final judged = answers_tell t.facts.is_known b (known judged) none
-  minds_tells (rej false nr true) final judged = first_keeps (links.bits false true t.facts.is_known b).seen.rule _ (answers_tell t.facts.is_known b (known judged) none)
+  minds_tells (rej false nr true) final judged = first_keeps (links.bits false true t.facts.is_known b).seen.rule
+      _ (answers_tell t.facts.is_known b (known judged) none)
   minds_tells (dm true) final judged = answers_tell t.facts.is_shown b judged none
   minds_tells (frmr true why) final judged = answers_tell t.facts.is_shown b judged none
   minds_tells frame final judged = absurd (both_ways false refl final)
@@ -71,7 +74,8 @@ module _ (window : ℕ) (frame : PlainFrame) (x : Frame) (was : Bool) (own other
   unfolding links.minds links.judges
   judged_is = minds_has (λ r judged. judged ≡ before.seen.is_judged) (λ r m judged fair h. h) window t (steps.shows_to x other.set) frame before refl
 
-  final_is : is_final frame ≡ true → (links.sees_as window frame x was own other).seen.is_judged ≡ true → other.manners.polls ≡ 0 → IsTold (links.sees_as window frame x was own other).seen.rule
+  final_is : is_final frame ≡ true → (links.sees_as window frame x was own other).seen.is_judged ≡ true → other.manners.polls ≡ 0
+      → IsTold (links.sees_as window frame x was own other).seen.rule
   final_is final judged none = minds_tells window t (steps.shows_to x other.set) before (λ sure. (and_parts (steps.is_known own.set) _ sure).0) none frame final
       (subst (λ n. links.judges n frame (steps.facts x own.set) ≡ true) none (sym judged_is ∙ judged))
 
@@ -84,11 +88,15 @@ judged_finals_are_told from j frame final judged none =
 -- ---- N(S)
 
 module _ (m : Manners) (at : Place) where
-  again_told : (next : ℕ) (is_poll : Bool) (back : ℕ) → manners.goes_on at back m ≡ false → manners.may_go_back at is_poll back m ≡ false → IsTold (manners.sent_again at next is_poll back m).rule
+  again_told : (next : ℕ) (is_poll : Bool) (back : ℕ) → manners.goes_on at back m ≡ false → manners.may_go_back at is_poll back m ≡ false
+      → IsTold (manners.sent_again at next is_poll back m).rule
   again_told next is_poll back out stays =
-      cond_both (manners.goes_on at back m) (manners.notes SentAgain true (manners.repeated back m)) _ P (λ on. absurd (both_ways (manners.goes_on at back m) out on))
-      (λ _. cond_both (manners.may_go_back at is_poll back m) (manners.notes SentAgain true (manners.gone_back is_poll back m)) _ P (λ may. absurd (both_ways (manners.may_go_back at is_poll back m) stays may))
-      (λ _. cond_both (nat_lt back m.behind) (manners.breaks (Skips next) true (manners.repeated back m)) (manners.breaks (Repeats next) true (manners.repeated back m)) P (λ _. refl) (λ _. refl)))
+      cond_both (manners.goes_on at back m) (manners.notes SentAgain true (manners.repeated back m)) _ P
+      (λ on. absurd (both_ways (manners.goes_on at back m) out on))
+      (λ _. cond_both (manners.may_go_back at is_poll back m) (manners.notes SentAgain true (manners.gone_back is_poll back m)) _ P
+      (λ may. absurd (both_ways (manners.may_go_back at is_poll back m) stays may))
+      (λ _. cond_both (nat_lt back m.behind) (manners.breaks (Skips next) true (manners.repeated back m))
+      (manners.breaks (Repeats next) true (manners.repeated back m)) P (λ _. refl) (λ _. refl)))
     where
       P : Minded → Type 0
       P x = IsTold x.rule
@@ -102,11 +110,13 @@ module _ (m : Manners) (at : Place) where
         | inl now ↦ both_ways (back == m.behind) parts.0 (eq-eqb back m.behind (zero ∙ sym (eqb-true m.behind 0 now)))
         | inr acked ↦ elim (and_cases (nat_le at.pending back) (nat_lt back m.behind) parts.1) [
           | inl far ↦ both_ways (nat_le at.pending back) far (le-leb at.pending back (let e : at.pending ≡ 0 = eqb-true at.pending 0 acked in omega (arith, e)))
-          | inr low ↦ both_ways (back == m.behind) parts.0 (eq-eqb back m.behind (let e : m.behind ≤ back = grind (arith, nat_tests, low) in omega (arith, e, zero)))
+          | inr low ↦ both_ways (back == m.behind) parts.0
+              (eq-eqb back m.behind (let e : m.behind ≤ back = grind (arith, nat_tests, low) in omega (arith, e, zero)))
         ]
       ]
 
-  number_told : (window back next : ℕ) (is_poll : Bool) → manners.goes_on at back m ≡ false → manners.may_go_back at is_poll back m ≡ false → IsTold (manners.sends_from window at back next is_poll false m).rule
+  number_told : (window back next : ℕ) (is_poll : Bool) → manners.goes_on at back m ≡ false → manners.may_go_back at is_poll back m ≡ false
+      → IsTold (manners.sends_from window at back next is_poll false m).rule
   number_told window back next is_poll out stays =
       cond_both (nat_lt 0 back) (manners.sent_again at next is_poll back m) _ P (λ _. again_told next is_poll back out stays)
       (λ none. cond_both (m.behind == 0 || at.pending == 0) (manners.sent_new window at m) (manners.breaks (Skips next) false (manners.grown 1 m)) P
@@ -117,14 +127,16 @@ module _ (m : Manners) (at : Place) where
 
 -- P=1 changes nothing of this
 asked_is : (m : Manners) → (manners.asks m).manners ≡ manners.asks_on true m
-asked_is m = cond_both m.is_polling (manners.notes PollAgain false (manners.asks_on true m)) (manners.quiet (manners.asks_on true m)) (λ (x : Minded). x.manners ≡ manners.asks_on true m) (λ _. refl) (λ _. refl)
+asked_is m = cond_both m.is_polling (manners.notes PollAgain false (manners.asks_on true m)) (manners.quiet (manners.asks_on true m))
+    (λ (x : Minded). x.manners ≡ manners.asks_on true m) (λ _. refl) (λ _. refl)
 
 stays_out : (ns : ℕ) (p q : Bool) (at : Place) (b : Minding) → IsOutOfPlace ns p b.own at → IsOutOfPlace ns p (links.asks q b).own at
 stays_out ns p true at b h = subst (λ m. IsOutOfPlace ns p m at) (sym (asked_is b.own)) (record { here = h.here; back = h.back })
 stays_out ns p false at b h = h
 
 module _ (window : ℕ) (t : Sent) (ns : ℕ) (p : Bool) (b : Minding) where
-  pub number_tells : (told : Told) (x : Frame) (k : Numbers) → (told ≡ Nothing → IsTold (links.minded_as Nothing window k t ns p (links.is_differing b.seen.rule) b.own).rule)
+  pub number_tells : (told : Told) (x : Frame) (k : Numbers)
+      → (told ≡ Nothing → IsTold (links.minded_as Nothing window k t ns p (links.is_differing b.seen.rule) b.own).rule)
       → (IsTold (links.rule_of told x) → Tells b) → Tells (links.by_own (links.minded_as told window k t ns p (links.is_differing b.seen.rule) b.own) b)
   number_tells (Broken s) x k told broken = first_keeps b.seen.rule _ (broken refl)
   number_tells (SkipsOf s) x k told broken = first_brings b.seen.rule (manners.sends window (manners.place_of k) ns p true b.own).rule refl
@@ -149,7 +161,8 @@ module _ (window : ℕ) (x : Frame) (was : Bool) (own other : End) (ns nr : ℕ)
   number_is judged up out =
       let frame = info ns nr p octets in
       let b = before window frame x was own other in
-      let sure = and_parts (steps.is_certain own.set) (steps.is_counted (steps.numbers own.set) own.set) (sym (judged_is window frame x was own other) ∙ judged) in
+      let sure = and_parts (steps.is_certain own.set) (steps.is_counted (steps.numbers own.set) own.set)
+      (sym (judged_is window frame x was own other) ∙ judged) in
       stand_tells window (t window frame x was own other) ns p (links.asks p b) (steps.numbers own.set) x sure.1 up
       (λ broken. asks_tells p b broken) (stays_out ns p p (links.place own) b out)
 
@@ -158,4 +171,5 @@ unfolding links.shown
 judged_sendings_are_told from j ns nr p octets judged up out =
     let own = own_of from j in
     let frame = info ns nr p octets in
-    tells_of from j frame (number_is j.window (Info ns nr (differs own.held frame)) (links.is_blind own (other_of from j)) own (other_of from j) ns nr p octets judged up out)
+    tells_of from j frame (number_is j.window (Info ns nr (differs own.held frame)) (links.is_blind own (other_of from j)) own (other_of from j) ns nr p octets
+    judged up out)

@@ -1,8 +1,11 @@
 -- The lines of an end of which nothing is told are those of an end that keeps the rules, and each number carries one
 -- packet, whatever is told of the other end.
-use Rattle.x25_judge.proofs.verdicts.Names.{◌≡◌, ◌⊎◌, inl, inr, ℕ, ◌%◌, ◌≤◌, ◌+◌, ◌==◌, Bool, true, false, List, [], ◌∷◌, ◌++◌, if◌then◌else◌, arith, length, refl, sym, ap, ◌∙◌, subst, slice_get, eqb-true, length_push, Role, PlainFrame, info, rr, rnr, rej, ReadsWhatIsSpelled, Peer, fresh_peer, MayHear, IsWanted, said, notes, other, own_of, Judge, Shows, IsDamaged, IsNumbered, SilenceMeansNumbers, SilenceMeansRules, more, Unread, Some, Ok}
-use Rattle.x25_judge.specs.laws.Explaining.{IsUntold, Begins, Says, Comes, Fails, IsKept, Fresh, HandsDown, Sends, Hears, Carries, Nothing, Next, Again, Beside, Passes}
-use Rattle.x25_judge.proofs.verdicts.Innocents.{lost_end}
+use Rattle.x25_judge.proofs.verdicts.Names.{◌≡◌, ◌⊎◌, inl, inr, ℕ, ◌%◌, ◌≤◌, ◌+◌, ◌==◌, Bool, true, false, List, [], ◌∷◌, ◌++◌, if◌then◌else◌, arith, length}
+use Rattle.x25_judge.proofs.verdicts.Names.{refl, sym, ap, ◌∙◌, subst, slice_get, eqb-true, length_push, Role, PlainFrame, info, rr, rnr, rej}
+use Rattle.x25_judge.proofs.verdicts.Names.{ReadsWhatIsSpelled, Peer, fresh_peer, MayHear, IsWanted, said, notes, other, own_of, Judge, Shows, IsDamaged}
+use Rattle.x25_judge.proofs.{verdicts.Names.{IsNumbered, SilenceMeansNumbers, SilenceMeansRules, more, Unread, Some, Ok}, verdicts.Innocents.{lost_end}}
+use Rattle.x25_judge.specs.laws.Explaining.{IsUntold, Begins, Says, Comes, Fails, IsKept, Fresh, HandsDown, Sends, Hears, Carries, Nothing, Next, Again, Beside}
+use Rattle.x25_judge.specs.laws.Explaining.{Passes}
 use Rattle.x25_judge.proofs.verdicts.Silences.{Explains, Given, begun_knows, noted_line, notes_given, other_by, other_line, own_line, passes_line}
 
 -- what holds of such lines and of the end behind them
@@ -21,7 +24,8 @@ record Steps (from : Role) (Damage : Type 0) (P : List (List ℕ) → Peer → T
       → length p.given ≡ p.sent → Given p frame q → q.given ≡ more frame p.given → P lines p → P (lines ++ line ∷ []) q
   pub opposite : (lines : List (List ℕ)) (p : Peer) (line octets : List ℕ) (frame : PlainFrame)
       → Shows line (other from) octets frame → IsNumbered frame → P lines p → P (lines ++ line ∷ []) (notes (Ok frame) p)
-  pub damaged : Damage → (lines : List (List ℕ)) (p : Peer) (line octets : List ℕ) → IsDamaged line (other from) octets → P lines p → P (lines ++ line ∷ []) (unread p)
+  pub damaged : Damage → (lines : List (List ℕ)) (p : Peer) (line octets : List ℕ) → IsDamaged line (other from) octets → P lines p
+      → P (lines ++ line ∷ []) (unread p)
 
 module _ (reads : ReadsWhatIsSpelled) (from : Role) (Damage : Type 0) (P : List (List ℕ) → Peer → Type 0)
     (starts : P [] fresh_peer) (steps : Steps from Damage P) where

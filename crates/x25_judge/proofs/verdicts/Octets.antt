@@ -1,5 +1,8 @@
 -- The octets that the judge holds of an end's last eight numbers.
-use Rattle.x25_judge.proofs.verdicts.Names.{◌≡◌, ◌⊎◌, inl, inr, ℕ, ◌+◌, ◌%◌, ◌<◌, ◌≤◌, arith, max, Bool, true, zero, suc, List, [], ◌∷◌, ◌++◌, length, Some, refl, sym, ap, ◌∙◌, subst, slice_get, slice_index_or, slice_set, nat_le, not, ◌&&◌, replicate, both_ways, cases_eq, cond-true, get_or-set_same, get_or-set_other, get_or-replicate, length-set, PlainFrame, info, rr, ROOM, Held, differs, forgets, forgets_all, is_held, kept, keeps, forgets_each, forgets_in, IsIn, Spot, Stand, Up, false, le-leb}
+use Rattle.x25_judge.proofs.verdicts.Names.{◌≡◌, ◌⊎◌, inl, inr, ℕ, ◌+◌, ◌%◌, ◌<◌, ◌≤◌, arith, max, Bool, true, zero, suc, List, [], ◌∷◌, ◌++◌, length, Some}
+use Rattle.x25_judge.proofs.verdicts.Names.{refl, sym, ap, ◌∙◌, subst, slice_get, slice_index_or, slice_set, nat_le, not, ◌&&◌, replicate, both_ways, cases_eq}
+use Rattle.x25_judge.proofs.verdicts.Names.{cond-true, get_or-set_same, get_or-set_other, get_or-replicate, length-set, PlainFrame, info, rr, ROOM, Held}
+use Rattle.x25_judge.proofs.verdicts.Names.{differs, forgets, forgets_all, is_held, kept, keeps, forgets_each, forgets_in, IsIn, Spot, Stand, Up, false, le-leb}
 use Rattle.std.specs.Str.{bytes_eq}
 use Rattle.std.proofs.lemmas.Slice.Eq.{bytes_eq-Decides}
 
@@ -55,8 +58,8 @@ sent_held h given m n ns nr pf packet number le near fits same is = record {
     apart_from : (k : ℕ) → k < max m (n + 1) → max m (n + 1) ≤ k + 8 → (k ≡ n → ⊥) → (k % 8 ≡ ns % 8 → ⊥)
     apart_from k before low ne e = omega (arith, number, le, near, ne)
 
-    go : (k : ℕ) → k < max m (n + 1) → max m (n + 1) ≤ k + 8 → slice_index_or (slice_set h.known (ns % 8) (nat_le (length packet) ROOM)) (k % 8) false ≡ true → ((k ≡ n) ⊎ (k ≡ n → ⊥))
-        → slice_get given k ≡ Some (slice_index_or (slice_set h.octets (ns % 8) (kept packet)) (k % 8) [])
+    go : (k : ℕ) → k < max m (n + 1) → max m (n + 1) ≤ k + 8 → slice_index_or (slice_set h.known (ns % 8) (nat_le (length packet) ROOM)) (k % 8) false ≡ true
+        → ((k ≡ n) ⊎ (k ≡ n → ⊥)) → slice_get given k ≡ Some (slice_index_or (slice_set h.octets (ns % 8) (kept packet)) (k % 8) [])
     go k before low known (inl e) =
         let here : slice_index_or (slice_set h.octets (ns % 8) (kept packet)) (k % 8) [] ≡ packet =
         ap (λ i. slice_index_or (slice_set h.octets (ns % 8) (kept packet)) i []) (ap (λ x. x % 8) e ∙ sym at)
@@ -64,8 +67,7 @@ sent_held h given m n ns nr pf packet number le near fits same is = record {
         ap (λ x. slice_get given x) e ∙ same ∙ ap (λ (x : List ℕ). Some x) (sym here)
     go k before low known (inr ne) =
         is.octets k (omega (arith, before, le, ne)) (omega (arith, low))
-        (sym (get_or-set_other h.known (ns % 8) (k % 8) (nat_le (length packet) ROOM) false (apart_from k before low ne)) ∙ known)
-        ∙ ap (λ (x : List ℕ). Some x)
+        (sym (get_or-set_other h.known (ns % 8) (k % 8) (nat_le (length packet) ROOM) false (apart_from k before low ne)) ∙ known) ∙ ap (λ (x : List ℕ). Some x)
         (sym (get_or-set_other h.octets (ns % 8) (k % 8) (kept packet) [] (apart_from k before low ne)))
 
 -- a number that went before carries what it did
@@ -86,8 +88,7 @@ same_octets h given m n ns nr pf packet number before near same is = go (is_held
     octets_are : is_held h ns ≡ true → bytes_eq (slice_index_or h.octets (ns % 8) []) packet ≡ true
     octets_are known =
         (bytes_eq-Decides (slice_index_or h.octets (ns % 8) []) packet).1
-        (ap (λ i. slice_index_or h.octets i []) at
-        ∙ some_is (sym (is.octets n before low (ap (λ i. slice_index_or h.known i false) (sym at) ∙ known)) ∙ same))
+        (ap (λ i. slice_index_or h.octets i []) at ∙ some_is (sym (is.octets n before low (ap (λ i. slice_index_or h.known i false) (sym at) ∙ known)) ∙ same))
 
     go : (b : Bool) → is_held h ns ≡ b → (b && not (bytes_eq (slice_index_or h.octets (ns % 8) []) packet)) ≡ false
     go false e = refl
@@ -166,15 +167,15 @@ octets_less : (qs : List Spot) (h : Held) (given : List (List ℕ)) (m n : ℕ) 
     → is_held (forgets_each qs h) n ≡ true → slice_get given n ≡ Some (slice_index_or (forgets_each qs h).octets (n % 8) [])
 octets_less qs h given m n is before near known =
     let less = each_less qs h is.room.known in
-    is.octets n before near (less.known n known)
-    ∙ ap (λ (xs : List (List ℕ)). Some (slice_index_or xs (n % 8) [])) (sym less.octets)
+    is.octets n before near (less.known n known) ∙ ap (λ (xs : List (List ℕ)). Some (slice_index_or xs (n % 8) [])) (sym less.octets)
 
 pub held_less : (qs : List Spot) (h : Held) (given : List (List ℕ)) (m : ℕ) → IsHeld h given m → IsHeld (forgets_each qs h) given m
 held_less qs h given m is =
     record { room = each_room qs h is.room; octets = λ n before near known. octets_less qs h given m n is before near known }
 
 -- a number more may have gone
-pub held_more : (qs : List Spot) (h : Held) (given : List (List ℕ)) (m : ℕ) → IsHeld h given m → ((q : Spot) × IsIn q qs × HasSent m q.stand) → IsHeld (forgets_each qs h) given (m + 1)
+pub held_more : (qs : List Spot) (h : Held) (given : List (List ℕ)) (m : ℕ) → IsHeld h given m → ((q : Spot) × IsIn q qs × HasSent m q.stand)
+    → IsHeld (forgets_each qs h) given (m + 1)
 held_more qs h given m is at = record {
   room = each_room qs h is.room;
   octets = λ n before near known. go n before near known (cases_eq n m);
@@ -221,8 +222,7 @@ pub old_octets : (h : Held) (given : List (List ℕ)) (m n ns nr : ℕ) (pf : Bo
     → differs h (info ns nr pf packet) ≡ false → IsHeld h given m → AreKnown h m → slice_get given n ≡ Some packet
 unfolding differs
 old_octets h given m n ns nr pf packet number before near same is are =
-    is.octets n before low (are n before low)
-    ∙ ap (λ (x : List ℕ). Some x)
+    is.octets n before low (are n before low) ∙ ap (λ (x : List ℕ). Some x)
     (ap (λ i. slice_index_or h.octets i []) (sym at)
     ∙ (bytes_eq-Decides (slice_index_or h.octets (ns % 8) []) packet).0 (equal (bytes_eq (slice_index_or h.octets (ns % 8) []) packet) known same))
   where

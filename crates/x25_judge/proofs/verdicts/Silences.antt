@@ -1,14 +1,19 @@
 -- Behind a set-up the places of an end are within one session. So what it sends is what an end sends that keeps the
 -- rules, and a trace of which nothing is told is a silent tape of `x25_line`.
-use Rattle.x25_judge.proofs.verdicts.Names.{◌≡◌, ◌==◌, ◌⊎◌, inl, inr, ℕ, ◌+◌, ◌-◌, ◌%◌, ◌<◌, ◌≤◌, arith, max, Bool, true, false, if◌then◌else◌, List, [], ◌∷◌, ◌++◌, length, Some, None, Ok, refl, sym, ap, ◌∙◌, subst, slice_get, nat_lt, nat_le, not, ◌&&◌, ◌||◌, both_ways, eqb-true, ne_eqb, lt-ltb, and_from, and_parts, cond-true, cond-false, length_push, Role, n1, PlainFrame, info, rr, rnr, rej, frame_of, ReadsWhatIsSpelled, Peer, fresh_peer, MayAcknowledge, numbered_to, told_to, hearing, taking, Said, Tells, said, same_octets, is_item, judges_ack, then_ack, judges_item, judges, notes, notes_said, other, LinkSettings, ROOM, Held, differs, keeps, own_of, answer_to, held_by, shown, Judge, End, MaySend, come, is_new, IsBegun, Shows, IsNumbered, Watched, more, IsSilent, Begins, Acts, Rests, Says, Comes, Fails, SilenceMeansOrder, nth, sends_to, shows_to, fresh, heard, may_acknowledge, may_count, may_number, least_of, number_of, Frame, Info, Ready, LinkSet, Nothing, Numbers, Stand, Out, Asking, Up, Free, AllAre, sent_all, shown_all, blind_sends, blind_shows, counted_at, Acknowledges, acknowledges, is_numbered, below_is, eq-eqb, le-leb}
+use Rattle.x25_judge.proofs.verdicts.Names.{◌≡◌, ◌==◌, ◌⊎◌, inl, inr, ℕ, ◌+◌, ◌-◌, ◌%◌, ◌<◌, ◌≤◌, arith, max, Bool, true, false, if◌then◌else◌, List, [], ◌∷◌}
+use Rattle.x25_judge.proofs.verdicts.Names.{◌++◌, length, Some, None, Ok, refl, sym, ap, ◌∙◌, subst, slice_get, nat_lt, nat_le, not, ◌&&◌, ◌||◌, both_ways}
+use Rattle.x25_judge.proofs.verdicts.Names.{eqb-true, ne_eqb, lt-ltb, and_from, and_parts, cond-true, cond-false, length_push, Role, n1, PlainFrame, info, rr}
+use Rattle.x25_judge.proofs.verdicts.Names.{rnr, rej, frame_of, ReadsWhatIsSpelled, Peer, fresh_peer, MayAcknowledge, numbered_to, told_to, hearing, taking}
+use Rattle.x25_judge.proofs.verdicts.Names.{Said, Tells, said, same_octets, is_item, judges_ack, then_ack, judges_item, judges, notes, notes_said, other}
+use Rattle.x25_judge.proofs.verdicts.Names.{LinkSettings, ROOM, Held, differs, keeps, own_of, answer_to, held_by, shown, Judge, End, MaySend, come, is_new}
+use Rattle.x25_judge.proofs.verdicts.Names.{IsBegun, Shows, IsNumbered, Watched, more, IsSilent, Begins, Acts, Rests, Says, Comes, Fails, SilenceMeansOrder}
+use Rattle.x25_judge.proofs.verdicts.Names.{nth, sends_to, shows_to, fresh, heard, may_acknowledge, may_count, may_number, least_of, number_of, Frame, Info}
+use Rattle.x25_judge.proofs.verdicts.Names.{Ready, LinkSet, Nothing, Numbers, Stand, Out, Asking, Up, Free, AllAre, sent_all, shown_all, blind_sends}
+use Rattle.x25_judge.proofs.verdicts.Names.{blind_shows, counted_at, Acknowledges, acknowledges, is_numbered, below_is, eq-eqb, le-leb}
 use Rattle.x25_possible_links.proofs.Stands.{IsNumbered as MayBeNumbered}
 use Rattle.x25_frame.specs.Spelling.{IsWithin as IsWithinLine, information_of}
-use Rattle.x25_line.specs.laws.InWindow.{IsPrefix}
-use Rattle.x25_line.specs.laws.PeerClaims.{KeepsOrder, OnAnySilentTape}
-use Rattle.x25_line.specs.laws.PeerJoined.{JoinedOnce}
-use Rattle.x25_judge.proofs.verdicts.Following.{numbers_of, sent_is}
-use Rattle.x25_judge.proofs.verdicts.Guilty.{untold}
-use Rattle.x25_judge.proofs.verdicts.Innocents.{IsEnd, sent_end, shown_end}
+use Rattle.x25_line.specs.laws.{InWindow.{IsPrefix}, PeerClaims.{KeepsOrder, OnAnySilentTape}, PeerJoined.{JoinedOnce}}
+use Rattle.x25_judge.proofs.{verdicts.Following.{numbers_of, sent_is}, verdicts.Guilty.{untold}, verdicts.Innocents.{IsEnd, sent_end, shown_end}}
 use Rattle.x25_judge.proofs.verdicts.Lines.{other_twice, none_told}
 use Rattle.x25_judge.proofs.verdicts.Octets.{AreKnown, IsHeld, begun_held, last_of, old_octets, pushed_held, sent_held, sent_known}
 use Rattle.x25_judge.proofs.verdicts.Silent.{Fits, IsNumber, IsWithin, heard_sent, shown_within, walked_within, walks_within, within_passes}
@@ -87,7 +92,8 @@ ack_passes u nr a =
 
 module _ (set : LinkSet) (h : Held) (p : Peer) (e : Knows set h p) where
   -- the other end sends
-  shown_knows : (y : Frame) (q : Peer) → numbers_of q ≡ heard true true (numbers_of p) y → q.given ≡ p.given → (shows_to y set).is_blind ≡ false → Knows (shows_to y set) h q
+  shown_knows : (y : Frame) (q : Peer) → numbers_of q ≡ heard true true (numbers_of p) y → q.given ≡ p.given → (shows_to y set).is_blind ≡ false
+      → Knows (shows_to y set) h q
   shown_knows y q now same room = record {
     sees = room;
     within = subst (λ k. AllAre (IsWithin k) (shows_to y set)) (sym now)
@@ -119,8 +125,8 @@ module _ (set : LinkSet) (h : Held) (p : Peer) (e : Knows set h p) where
 
   -- without N(S)
   ready_passes : (frame : PlainFrame) (nr : ℕ) → judges (Ok frame) p ≡ judges_ack nr p → more frame p.given ≡ p.given → keeps h frame ≡ h
-      → (MayAcknowledge p nr (t nr) → MaySend p frame (told_to (t nr) p)) → (sends_to (Ready nr) set).set.is_blind ≡ false → (sends_to (Ready nr) set).told ≡ Nothing
-      → Passes (sends_to (Ready nr) set).set (keeps h frame) p frame
+      → (MayAcknowledge p nr (t nr) → MaySend p frame (told_to (t nr) p)) → (sends_to (Ready nr) set).set.is_blind ≡ false → (sends_to (Ready nr) set).told
+      ≡ Nothing → Passes (sends_to (Ready nr) set).set (keeps h frame) p frame
   ready_passes frame nr is no_more bare may_send room told =
       let a = acknowledges (t nr) (numbers_of p) nr (may (Ready nr) tt room told) in
       record {
@@ -157,8 +163,8 @@ module _ (set : LinkSet) (h : Held) (p : Peer) (e : Knows set h p) where
       says = acknowledges (t nr) (numbers_of p) nr parts.1
 
       passes_with : (now : List (List ℕ)) → (with_given now ≡ p) ⊎ ((x : List ℕ) × (with_given now ≡ with_given (p.given ++ x ∷ [])))
-          → length now ≡ max p.sent (n + 1) → slice_get now n ≡ Some packet → IsHeld h now p.sent → judges_item n packet p ≡ Some (numbered_to n (with_given now)) → now ≡ more f p.given
-          → Passes (sends_to y set).set (keeps h f) p f
+          → length now ≡ max p.sent (n + 1) → slice_get now n ≡ Some packet → IsHeld h now p.sent → judges_item n packet p
+          ≡ Some (numbered_to n (with_given now)) → now ≡ more f p.given → Passes (sends_to y set).set (keeps h f) p f
       passes_with now given all same held item shown =
           let u = numbered_to n (with_given now) in
           record {
@@ -178,8 +184,7 @@ module _ (set : LinkSet) (h : Held) (p : Peer) (e : Knows set h p) where
             };
             passes = ap (then_ack nr)
                 (cond-true (nat_lt n (p.acked + 7) && n % 8 == ns) (judges_item n packet p) None
-                (and_from (nat_lt n (p.acked + 7)) (n % 8 == ns) (lt-ltb n (p.acked + 7) is_it.window) (eq-eqb (n % 8) ns (sym is_it.number)))
-                ∙ item)
+                (and_from (nat_lt n (p.acked + 7)) (n % 8 == ns) (lt-ltb n (p.acked + 7) is_it.window) (eq-eqb (n % 8) ns (sym is_it.number))) ∙ item)
                 ∙ ack_passes u nr (record { number = says.number; rising = says.rising; taken = says.taken });
             shown = shown;
             knows = record {
@@ -225,8 +230,7 @@ module _ (set : LinkSet) (h : Held) (p : Peer) (e : Knows set h p) where
               let same = old_octets h p.given p.sent n ns nr pf packet is_it.number before is_it.near
               (equal (n == p.sent) (differs h f) old is_it.same) e.octets e.known in
               passes_with p.given (inl refl) (e.all ∙ stays p.sent n before) same e.octets
-              (cond-false (n == p.sent) _ _ old
-              ∙ cond-true (nat_lt n p.sent && is_item (slice_get p.given n) packet) (Some (numbered_to n p)) None
+              (cond-false (n == p.sent) _ _ old ∙ cond-true (nat_lt n p.sent && is_item (slice_get p.given n) packet) (Some (numbered_to n p)) None
               (and_from (nat_lt n p.sent) (is_item (slice_get p.given n) packet) (lt-ltb n p.sent before)
               (ap (λ x. is_item x packet) same ∙ same_to_itself packet)))
               (sym (cond-false (ns == length p.given % 8) (p.given ++ packet ∷ []) p.given
@@ -279,9 +283,11 @@ own_line from j line octets frame shows is quiet room =
 -- and one of the other end
 pub record OtherLine (from : Role) (j : Judge) (line : List ℕ) (y : Frame) : Type 0 where
   pub sees : (own_of from j).set.is_blind ≡ false
-  pub on : (p q : Peer) → numbers_of q ≡ heard true true (numbers_of p) y → q.given ≡ p.given → Explains (own_of from j) p → Explains (own_of from (answer_to j line).next) q
+  pub on : (p q : Peer) → numbers_of q ≡ heard true true (numbers_of p) y → q.given ≡ p.given → Explains (own_of from j) p
+      → Explains (own_of from (answer_to j line).next) q
 
-pub other_by : (from : Role) (j : Judge) (line : List ℕ) (y : Frame) → IsEnd (shows_to y (own_of from j).set) (own_of from j).held (own_of from (answer_to j line).next)
+pub other_by : (from : Role) (j : Judge) (line : List ℕ) (y : Frame)
+    → IsEnd (shows_to y (own_of from j).set) (own_of from j).held (own_of from (answer_to j line).next)
     → (own_of from (answer_to j line).next).set.is_blind ≡ false → OtherLine from j line y
 other_by from j line y g room =
     let set = (own_of from j).set in
@@ -293,8 +299,8 @@ other_by from j line y g room =
           (shown_knows set h p e y q is same now);
     }
 
-pub other_line : (from : Role) (j : Judge) (line octets : List ℕ) (frame : PlainFrame) → Shows line (other from) octets frame → (own_of from (answer_to j line).next).set.is_blind ≡ false
-    → OtherLine from j line (shown frame (differs (own_of (other from) j).held frame))
+pub other_line : (from : Role) (j : Judge) (line octets : List ℕ) (frame : PlainFrame) → Shows line (other from) octets frame
+    → (own_of from (answer_to j line).next).set.is_blind ≡ false → OtherLine from j line (shown frame (differs (own_of (other from) j).held frame))
 other_line from j line octets frame shows room =
     other_by from j line (shown frame (differs (own_of (other from) j).held frame)) (shown_end from j line octets frame shows) room
 
@@ -322,14 +328,16 @@ notes_given (Tells (Some c) nr) p = taking_given (c.ns == length p.taken % 8) c.
 notes_given s p = refl
 
 pub noted_line : (from : Role) (j : Judge) (line octets : List ℕ) (frame : PlainFrame) (p : Peer) → Shows line (other from) octets frame
-    → IsNumbered frame → (own_of from (answer_to j line).next).set.is_blind ≡ false → Explains (own_of from j) p → Explains (own_of from (answer_to j line).next) (notes (Ok frame) p)
+    → IsNumbered frame → (own_of from (answer_to j line).next).set.is_blind ≡ false → Explains (own_of from j) p
+    → Explains (own_of from (answer_to j line).next) (notes (Ok frame) p)
 noted_line from j line octets frame p shows is room e =
     (other_line from j line octets frame shows room).on p (notes (Ok frame) p)
     (sym (noted frame (differs (own_of (other from) j).held frame) p is)) (notes_given (said (Ok frame)) p) e
 
 -- a line of the end, of which nothing is told
 pub passes_line : ReadsWhatIsSpelled → (from : Role) (j : Judge) (line octets : List ℕ) (frame : PlainFrame) (p : Peer) → Shows line from octets frame
-    → IsNumbered frame → OwnLine from j line frame → Explains (own_of from j) p → Passes (own_of from (answer_to j line).next).set (own_of from (answer_to j line).next).held p frame
+    → IsNumbered frame → OwnLine from j line frame → Explains (own_of from j) p
+    → Passes (own_of from (answer_to j line).next).set (own_of from (answer_to j line).next).held p frame
 passes_line reads from j line octets frame p shows is own e =
     let spelled = (reads from n1 frame octets shows.low).0 shows.reads in
     let g = frame_passes (own_of from j).set (own_of from j).held p e frame (is_short frame spelled.within) is own.room own.told in
@@ -346,7 +354,8 @@ record Explained (c : LinkSettings) (w : Watched) : Type 0 where
   pub given : p.given ≡ w.shown
   pub knows : Explains (own_of (other c.role) w.judge) p
 
-explained : ReadsWhatIsSpelled → (c : LinkSettings) → c.longest ≡ n1 → (w : Watched) → IsSilent c w → (own_of (other c.role) w.judge).set.is_blind ≡ false → Explained c w
+explained : ReadsWhatIsSpelled → (c : LinkSettings) → c.longest ≡ n1 → (w : Watched) → IsSilent c w → (own_of (other c.role) w.judge).set.is_blind ≡ false
+    → Explained c w
 explained reads c longest w (Begins j up) room =
     record { p = fresh_peer; silent = tape.Begins; given = refl; knows = begun_knows j (other c.role) (up (other c.role)) room }
 explained reads c longest w (Acts v act h) room =

@@ -1,6 +1,10 @@
 -- Places of an end each of which stands no better than one session, in which all is heard and taken as it is shown: what
 -- it sends with a number is what the session allows.
-use Rattle.x25_judge.proofs.verdicts.Names.{◌≡◌, inl, inr, arith, Bool, true, false, List, [], ◌∷◌, ◌++◌, Some, None, Option, refl, sym, ap, ◌∙◌, subst, both_ways, cond_both, cond-true, none-some, cond_some, comes, IsIn, Place, at, counts, fresh, heard, may_answer, may_count, goes, is_plain, least_of, number_of, onward, settle, settled, upward, Frame, Info, Ready, Ua, Unread, Numbers, Stand, Out, Asking, Up, Free, IsPassed, counted_at, swaps, AreBelow, Below, below_on, below_self, counts_more, heard_below, onward_up, if◌then◌else◌}
+use Rattle.x25_judge.proofs.verdicts.Names.{◌≡◌, inl, inr, arith, Bool, true, false, List, [], ◌∷◌, ◌++◌, Some, None, Option, refl, sym, ap, ◌∙◌, subst}
+use Rattle.x25_judge.proofs.verdicts.Names.{both_ways, cond_both, cond-true, none-some, cond_some, comes, IsIn, Place, at, counts, fresh, heard, may_answer}
+use Rattle.x25_judge.proofs.verdicts.Names.{may_count, goes, is_plain, least_of, number_of, onward, settle, settled, upward, Frame, Info, Ready, Ua, Unread}
+use Rattle.x25_judge.proofs.verdicts.Names.{Numbers, Stand, Out, Asking, Up, Free, IsPassed, counted_at, swaps, AreBelow, Below, below_on, below_self}
+use Rattle.x25_judge.proofs.verdicts.Names.{counts_more, heard_below, onward_up, if◌then◌else◌}
 use Rattle.x25_possible_links.specs.laws.Places.{first, sends}
 use Rattle.x25_possible_links.specs.laws.Places as place
 
@@ -123,7 +127,8 @@ counts_on j k x b may =
     let there = cond_some (may_count (number_of (Up k) x) (least_of (Up k) x) k x) (Up (counted_at k x)) more.0 more.1 in
     (there.0, subst (Below (Up (counted_at j x))) (sym there.1) more.2)
 
-at_up : (k j : Numbers) (way : List Frame) (x : Frame) (r : Stand) → counts (number_of (Up j) x) (least_of (Up j) x) (Up j) x ≡ Some r → Fits k (comes way (Up j)) → Allows k x (at r way)
+at_up : (k j : Numbers) (way : List Frame) (x : Frame) (r : Stand) → counts (number_of (Up j) x) (least_of (Up j) x) (Up j) x ≡ Some r
+    → Fits k (comes way (Up j)) → Allows k x (at r way)
 at_up k j way x r e b =
     let here = cond_some (may_count (number_of (Up j) x) (least_of (Up j) x) j x) (Up (counted_at j x)) r e in
     let all = counts_on j (hears_all way j) x (up_better way j) here.0 in
@@ -135,7 +140,8 @@ at_up k j way x r e b =
           (sym (up_comes way (counted_at j x) ∙ ap (λ (i : Numbers). Up i) (all_swaps way j x))) more.1);
     }
 
-found_within : (k : Numbers) (s : Stand) (way : List Frame) (x : Frame) (r : Stand) → IsNumber x → sends s way x ≡ Some r → Fits k (comes way s) → Allows k x (at r way)
+found_within : (k : Numbers) (s : Stand) (way : List Frame) (x : Frame) (r : Stand) → IsNumber x → sends s way x ≡ Some r → Fits k (comes way s)
+    → Allows k x (at r way)
 found_within k s way x r is e b = go s (sym (sends_counts s way x is) ∙ e) b
   where
     go : (s : Stand) → counts (number_of s x) (least_of s x) s x ≡ Some r → Fits k (comes way s) → Allows k x (at r way)
@@ -150,7 +156,8 @@ first_within k s way x (Some r) later m is e b rest (inl same) =
     subst (λ p. Allows k x p) (sym same) (found_within k s way x r is e b)
 first_within k s way x (Some r) later m is e b rest (inr h) = absurd h
 
-goes_within : (k : Numbers) (x : Frame) (way : List Frame) (s : Stand) (m : Place Stand Frame) → IsNumber x → Fits k (comes way s) → IsIn m (goes x s way) → Allows k x m
+goes_within : (k : Numbers) (x : Frame) (way : List Frame) (s : Stand) (m : Place Stand Frame) → IsNumber x → Fits k (comes way s) → IsIn m (goes x s way)
+    → Allows k x m
 goes_within k x [] s m is b there = first_within k s [] x (sends s [] x) [] m is refl b (λ h. absurd h) there
 goes_within k x (y ∷ way) s m is b there =
     first_within k s (y ∷ way) x (sends s (y ∷ way) x) (goes x (upward s y) way) m is refl b
@@ -164,5 +171,6 @@ walks_within k x p m is b there = absurd is
 pub settled_within : (k : Numbers) (m : Place Stand Frame) → IsWithin k m → IsWithin k (settle m)
 settled_within k m h = subst (Fits k) (sym (settled_comes m.way m.state)) h
 
-pub walked_within : (k : Numbers) (x : Frame) (p m : Place Stand Frame) → IsNumber x → IsWithin k p → IsIn m (place.walks x p) → IsWithin (counted_at k x) (settle m)
+pub walked_within : (k : Numbers) (x : Frame) (p m : Place Stand Frame) → IsNumber x → IsWithin k p → IsIn m (place.walks x p)
+    → IsWithin (counted_at k x) (settle m)
 walked_within k x p m is b there = settled_within (counted_at k x) m (walks_within k x p m is b there).within

@@ -1,12 +1,14 @@
 -- A station of ours keeps the rules, whatever the other end and the line do.
-use Rattle.x25_judge.proofs.verdicts.Names.{◌≡◌, ℕ, ◌+◌, ◌<◌, ◌≤◌, le_trans, List, [], ◌∷◌, ◌++◌, inl, length, false, Option, Some, None, Result, Ok, Err, refl, sym, ap, ◌∙◌, subst, arith, length-append, same_Some, slice_get_within, n1, PlainFrame, info, rr, rnr, rej, frame_of, ReadsSpelled, FrameError, Short, BadFcs, BadAddress, LinkSettings, other, Peer, fresh_peer, MayHear, Said, Tells, Odd, number_in, EachEventHandsOne, HandsOne, Near, acts, Judge, MayStand, numbered, In, Way, NoSessionIsAccused, NoStationIsAccused, Watched, our_end, IsAny, Begins, Acts, Rests, Says, Comes, Fails}
-use Rattle.x25_line.specs.laws.Said.{said as read_as}
+use Rattle.x25_judge.proofs.verdicts.Names.{◌≡◌, ℕ, ◌+◌, ◌<◌, ◌≤◌, le_trans, List, [], ◌∷◌, ◌++◌, inl, length, false, Option, Some, None, Result, Ok, Err, refl}
+use Rattle.x25_judge.proofs.verdicts.Names.{sym, ap, ◌∙◌, subst, arith, length-append, same_Some, slice_get_within, n1, PlainFrame, info, rr, rnr, rej}
+use Rattle.x25_judge.proofs.verdicts.Names.{frame_of, ReadsSpelled, FrameError, Short, BadFcs, BadAddress, LinkSettings, other, Peer, fresh_peer, MayHear, Said}
+use Rattle.x25_judge.proofs.verdicts.Names.{Tells, Odd, number_in, EachEventHandsOne, HandsOne, Near, acts, Judge, MayStand, numbered, In, Way}
+use Rattle.x25_judge.proofs.verdicts.Names.{NoSessionIsAccused, NoStationIsAccused, Watched, our_end, IsAny, Begins, Acts, Rests, Says, Comes, Fails}
+use Rattle.x25_line.specs.laws.{Said.{said as read_as}, LawsBelow.{Laws}}
 use Rattle.std.specs.List.{slice_get}
-use Rattle.x25_line.specs.laws.LawsBelow.{Laws}
-use Rattle.x25_line.proofs.{StationPeers.{Seen, peer_acts}, StationRuns.{noted_before}}
-use Rattle.x25_line.proofs.{StationSays.{MayDo}, StationSends.{AllWithin, within_push, item_at}}
-use Rattle.x25_judge.proofs.verdicts.Following.{heard_keeps}
-use Rattle.x25_judge.proofs.verdicts.Lag.{Did, Front, Sends, at_front, both, comes_behind, did_more, did_send, freed, nothing, numbered_front, said, was_given, OnLine, one_more, one_more_damaged, one_less}
+use Rattle.x25_line.proofs.{StationPeers.{Seen, peer_acts}, StationRuns.{noted_before}, StationSays.{MayDo}, StationSends.{AllWithin, within_push, item_at}}
+use Rattle.x25_judge.proofs.{verdicts.Following.{heard_keeps}, verdicts.Lag.{OnLine, one_more, one_more_damaged, one_less}}
+use Rattle.x25_judge.proofs.verdicts.Lag.{Did, Front, Sends, at_front, both, comes_behind, did_more, did_send, freed, nothing, numbered_front, said, was_given}
 use Rattle.x25_line.specs.laws.Peer as once
 use Rattle.x25_judge.specs.laws.Sessions as sessions
 
@@ -62,14 +64,17 @@ module _ (c : LinkSettings) (longest : c.longest ≡ n1) (j : Judge) (since : �
         goes_on os os p _ out out h (did_more c.role h.before p _ h.way h.left h.left out (was_given c.role p h.left packet) h.did) h.line
         (within_push c.longest p.given packet h.within short);
     sends = λ os p q out octets may next h.
-        goes_on os os p q out _ h (did_send c.role h.before p q h.way h.left out octets (sends p q octets (frame_of c.role n1 octets) refl (subst (λ (n : ℕ). once.MaySend ⊥ p (frame_of c.role n octets) q) longest may) next h.within) h.did)
+        goes_on os os p q out _ h (did_send c.role h.before p q h.way h.left out octets
+        (sends p q octets (frame_of c.role n1 octets) refl (subst (λ (n : ℕ). once.MaySend ⊥ p (frame_of c.role n octets) q) longest may) next h.within)
+        h.did)
         h.line (subst (AllWithin c.longest) (sym (same_given p q (read_as (frame_of c.role c.longest octets)) may)) h.within);
     hears = λ o os p q out may h. record {
       before = h.before;
       way = h.way;
       may = h.may;
       left = h.line.left;
-      did = did_more c.role h.before p q h.way h.left h.line.left out (h.line.did p q (subst (λ (n : ℕ). MayHear p (frame_of (other c.role) n o) q) longest may)) h.did;
+      did = did_more c.role h.before p q h.way h.left h.line.left out
+          (h.line.did p q (subst (λ (n : ℕ). MayHear p (frame_of (other c.role) n o) q) longest may)) h.did;
       line = h.line.line;
       within = heard_keeps (λ given sent. AllWithin c.longest given) p q (read_as (frame_of (other c.role) c.longest o)) may h.within;
       few = h.few;
@@ -91,16 +96,40 @@ module _ (c : LinkSettings) (high : c.window ≤ 7) (longest : c.longest ≡ n1)
   Watches w = Seen c ⊥ (OnTrace c longest w.judge w.since) (our_end w)
 
   -- the same station, and more of the trace
-  moved : (w : Watched) (h : Watches w) (judge : Judge) (shown out back : List (List ℕ)) (since : ℕ) → OnTrace c longest judge since back h.peer out → Watches (record { judge = judge; near = w.near; shown = shown; out = out; back = back; since = since })
+  moved : (w : Watched) (h : Watches w) (judge : Judge) (shown out back : List (List ℕ)) (since : ℕ) → OnTrace c longest judge since back h.peer out
+      → Watches (record { judge = judge; near = w.near; shown = shown; out = out; back = back; since = since })
   moved w h judge shown out back since reached =
-      record { peer = h.peer; reached = reached; fits = h.fits; room = h.room; told = h.told; within = h.within; down = h.down; up = h.up; fine = λ never. absurd never }
+      record {
+        peer = h.peer;
+        reached = reached;
+        fits = h.fits;
+        room = h.room;
+        told = h.told;
+        within = h.within;
+        down = h.down;
+        up = h.up;
+        fine = λ never. absurd never;
+      }
 
   watched : (w : Watched) → IsAny c w → w.near.came_up ≡ false → Watches w
   watched w (Begins j up) once =
       record {
         peer = fresh_peer;
-        reached = record { before = fresh_peer; way = []; may = sessions.SetUp j (up c.role); left = []; did = nothing c.role fresh_peer []; line = λ p. nothing c.role p []; within = tt; few = omega arith };
-        fits = inl (record { up = refl; sound = record { place_low = omega arith; place_high = omega arith; sent_high = omega arith; room = omega arith }; same = refl });
+        reached = record {
+          before = fresh_peer;
+          way = [];
+          may = sessions.SetUp j (up c.role);
+          left = [];
+          did = nothing c.role fresh_peer [];
+          line = λ p. nothing c.role p [];
+          within = tt;
+          few = omega arith;
+        };
+        fits = inl (record {
+          up = refl;
+          sound = record { place_low = omega arith; place_high = omega arith; sent_high = omega arith; room = omega arith };
+          same = refl;
+        });
         room = omega arith;
         told = omega arith;
         within = tt;
@@ -132,10 +161,21 @@ module _ (c : LinkSettings) (high : c.window ≤ 7) (longest : c.longest ≡ n1)
   watched w (Says v line octets frame rest out shows is h) once =
       let k = watched v h once in
       let r = k.reached in
-      let f : Front c.role octets r.before r.way (λ s way. Did c.role s way k.peer r.left rest) = subst (λ (o : List (List ℕ)). Did c.role r.before r.way k.peer r.left o) out r.did in
+      let f : Front c.role octets r.before r.way (λ s way. Did c.role s way k.peer r.left rest) =
+      subst (λ (o : List (List ℕ)). Did c.role r.before r.way k.peer r.left o) out r.did in
       let may = at_front c.role v.judge r.before f.before r.way f.on_way f.quiet r.may in
       moved v k w.judge v.shown rest v.back v.since
-      (record { before = f.after; way = f.on_way; may = sessions.Says v.judge In In f.before f.after f.on_way f.on_way line octets frame shows (numbered frame f.after refl (numbered_front c.role f.before f.after octets frame shows.reads is f.sends)) may; left = r.left; did = f.did; line = r.line; within = r.within; few = le_trans f.quiet.few r.few })
+      (record {
+        before = f.after;
+        way = f.on_way;
+        may = sessions.Says v.judge In In f.before f.after f.on_way f.on_way line octets frame shows
+            (numbered frame f.after refl (numbered_front c.role f.before f.after octets frame shows.reads is f.sends)) may;
+        left = r.left;
+        did = f.did;
+        line = r.line;
+        within = r.within;
+        few = le_trans f.quiet.few r.few;
+      })
   watched w (Comes v line octets frame shows is passes lags h) once =
       let k = watched v h once in
       let r = k.reached in
@@ -169,6 +209,8 @@ pub no_station_is_accused : ReadsSpelled → Laws → EachEventHandsOne → NoSe
 no_station_is_accused reads laws hands fair c high longest w any once line octets frame rest out shows is =
     let k = watched c high longest reads laws hands w any once in
     let r = k.reached in
-    let f : Front c.role octets r.before r.way (λ s way. Did c.role s way k.peer r.left rest) = subst (λ (o : List (List ℕ)). Did c.role r.before r.way k.peer r.left o) out r.did in
-    fair c.role w.judge In In f.before f.after f.on_way f.on_way line octets frame (at_front c.role w.judge r.before f.before r.way f.on_way f.quiet r.may) shows
+    let f : Front c.role octets r.before r.way (λ s way. Did c.role s way k.peer r.left rest) =
+    subst (λ (o : List (List ℕ)). Did c.role r.before r.way k.peer r.left o) out r.did in
+    fair c.role w.judge In In f.before f.after f.on_way f.on_way line octets frame (at_front c.role w.judge r.before f.before r.way f.on_way f.quiet r.may)
+    shows
     (numbered frame f.after refl (numbered_front c.role f.before f.after octets frame shows.reads is f.sends))

@@ -1,14 +1,9 @@
 -- What stands in the midst of an input.
-use Rattle.std.specs.Prelude.{◌≡◌, ℕ, Bool, ◌||◌, List, ◌++◌, Option, Result, OnOk}
-use Rattle.std.specs.Io.KnownBytes.{Appends}
+use Rattle.std.specs.{Prelude.{◌≡◌, ℕ, Bool, ◌||◌, List, ◌++◌, Option, Result, OnOk}, Io.KnownBytes.{Appends}}
 use Rattle.x25_io.specs.Lines.{lines_of}
-use Rattle.x25_io.specs.code.LinesLead.{LinesEnded}
-use Rattle.x25_io.specs.code.Runs.{Program}
-use Rattle.x25_io.specs.code.Written.{Tells, TellsMore}
-use Rattle.x25_judge.specs.Answerer.{output_by, status_by, text_of, has_fault}
-use Rattle.x25_judge.specs.Judge.{Answer}
-use Rattle.x25_judge.specs.declared.answerer.Answerer.{Answerer}
-use Rattle.x25_judge.specs.declared.judge.Judge.{Judge}
+use Rattle.x25_io.specs.code.{LinesLead.{LinesEnded}, Runs.{Program}, Written.{Tells, TellsMore}}
+use Rattle.x25_judge.specs.{Answerer.{output_by, status_by, text_of, has_fault}, Judge.{Answer}}
+use Rattle.x25_judge.specs.declared.{answerer.Answerer.{Answerer}, judge.Judge.{Judge}}
 
 -- With `lines` to come the text of the input is told in the end, and a line was faulty where one of the input is.
 pub record JudgesOn (loose : Bool) (j : Judge) (a : Answerer) (old now : Option (List ℕ)) (lines : List (List ℕ))

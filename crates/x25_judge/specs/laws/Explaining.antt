@@ -8,8 +8,7 @@ use Rattle.x25_judge.specs.Judge.{answer_to}
 use Rattle.x25_judge.specs.declared.judge.Judge.{Judge}
 use Rattle.x25_line.specs.laws.Peer.{Peer, fresh_peer, MayHear}
 use Rattle.x25_link.specs.Hearing.{other}
-use Rattle.x25_judge.specs.laws.Sessions.{MaySend}
-use Rattle.x25_judge.specs.laws.Session.{IsSetUp, Shows, IsDamaged, IsNumbered, IsSupervisory}
+use Rattle.x25_judge.specs.laws.{Sessions.{MaySend}, Session.{IsSetUp, Shows, IsDamaged, IsNumbered, IsSupervisory}}
 
 -- The judge behind frames with numbers of both ends, where no rule and no manners are told of the end `from`. Where
 -- `Damage` holds octets of the other end may be damaged.

@@ -1,26 +1,18 @@
 -- One session of a link, as a trace shows it: SABM and UA, and then frames with numbers.
 use Rattle.std.specs.Prelude.{◌≡◌, ℕ, ◌<◌, All, drop, Bool, true, false, not, ◌&&◌, List, [], ◌∷◌, length, Option}
-use Rattle.std.specs.Prelude.{Some, None, Ok, nat_le}
-use Rattle.std.specs.List.{list_any}
+use Rattle.std.specs.{Prelude.{Some, None, Ok, nat_le}, List.{list_any}}
 use Rattle.x25_bits.specs.declared.role.Role.{Role}
 use Rattle.x25_decode.specs.Decoding.{n1, sent_in}
-use Rattle.x25_frame.specs.Frame.{PlainFrame, info, rr, rnr, rej, dm, frmr}
-use Rattle.x25_frame.specs.Reading.{frame_of}
+use Rattle.x25_frame.specs.{Frame.{PlainFrame, info, rr, rnr, rej, dm, frmr}, Reading.{frame_of}}
 use Rattle.x25_judge.specs.Judge.{own_of, remark_of, seen_by}
-use Rattle.x25_judge.specs.declared.judge.Judge.{Judge}
-use Rattle.x25_judge.specs.declared.rule.Rule.{Rule}
+use Rattle.x25_judge.specs.declared.{judge.Judge.{Judge}, rule.Rule.{Rule}, rule.Rule.TheVariants.{Differs, Packet}}
 use Rattle.x25_judge.specs.declared.rule.Rule.TheVariants.{NoFrame, UaUnasked, NotUp, Unsent, Falls, OverWindow}
-use Rattle.x25_judge.specs.declared.rule.Rule.TheVariants.{Differs, Packet}
 use Rattle.x25_line.specs.laws.Stations.{is_visible}
 use Rattle.x25_possible.specs.laws.Possible.{IsIn}
 use Rattle.x25_possible_links.specs.code.Steps.{is_below}
-use Rattle.x25_possible_links.specs.laws.Link.{fresh, may_answer}
-use Rattle.x25_possible_links.specs.laws.Places.{upward}
-use Rattle.x25_possible_links.specs.declared.frame.Frame.{Frame}
-use Rattle.x25_possible_links.specs.declared.frame.Frame.TheVariants.{Info, Ready, Unread}
-use Rattle.x25_possible_links.specs.declared.set.LinkSet.{LinkSet}
-use Rattle.x25_possible_links.specs.declared.spots.Spot.{Spot}
-use Rattle.x25_possible_links.specs.declared.stand.Stand.{Stand}
+use Rattle.x25_possible_links.specs.laws.{Link.{fresh, may_answer}, Places.{upward}}
+use Rattle.x25_possible_links.specs.declared.{frame.Frame.{Frame}, frame.Frame.TheVariants.{Info, Ready, Unread}}
+use Rattle.x25_possible_links.specs.declared.{set.LinkSet.{LinkSet}, spots.Spot.{Spot}, stand.Stand.{Stand}}
 use Rattle.x25_possible_links.specs.declared.stand.Stand.TheVariants.{Asking, Up}
 
 -- where an end stands once all has come

@@ -7,8 +7,7 @@ use Rattle.x25_bits.specs.declared.role.Role.{Role}
 use Rattle.x25_decode.specs.declared.answer.Reading.{Reading}
 use Rattle.x25_frame.specs.Frame.{PlainFrame, info, rr, rnr, rej, sabm, disc, ua, dm, frmr}
 use Rattle.x25_judge.specs.Judge.{begins, answer_to}
-use Rattle.x25_judge.specs.declared.judge.Judge.{Judge}
-use Rattle.x25_judge.specs.declared.judge.Strictness.{Strictness}
+use Rattle.x25_judge.specs.declared.{judge.Judge.{Judge}, judge.Strictness.{Strictness}}
 use Rattle.x25_line.specs.laws.Peer.{Peer, fresh_peer, MayNumber, MayAcknowledge, numbered_to, told_to, MayHear}
 use Rattle.x25_link.specs.Hearing.{other}
 use Rattle.x25_line.specs.laws.PeerSessions.{Stand, Out, Asking, In}

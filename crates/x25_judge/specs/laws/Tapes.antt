@@ -1,18 +1,13 @@
 -- What a trace is to an end: what it sent itself, and what the other end did.
 use Rattle.std.specs.Prelude.{ℕ, List, [], ◌∷◌}
-use Rattle.x25_bits.specs.declared.role.Role.{Role}
-use Rattle.x25_bits.specs.declared.role.Role.TheVariants.{Dte, Dce}
+use Rattle.x25_bits.specs.declared.{role.Role.{Role}, role.Role.TheVariants.{Dte, Dce}}
 use Rattle.x25_decode.specs.declared.answer.Reading.{Reading}
 use Rattle.x25_frame.specs.Frame.{PlainFrame}
-use Rattle.x25_judge.specs.Held.{differs}
-use Rattle.x25_judge.specs.Judge.{answer_to, begins, own_of}
-use Rattle.x25_judge.specs.Links.{shown}
-use Rattle.x25_judge.specs.declared.judge.Judge.{Judge}
-use Rattle.x25_judge.specs.declared.judge.Strictness.{Strictness}
+use Rattle.x25_judge.specs.{Held.{differs}, Judge.{answer_to, begins, own_of}, Links.{shown}}
+use Rattle.x25_judge.specs.declared.{judge.Judge.{Judge}, judge.Strictness.{Strictness}}
 use Rattle.x25_judge.specs.laws.Session.{IsDamaged, Shows}
 use Rattle.x25_possible.specs.laws.Possible.{Item, Own, Other}
-use Rattle.x25_possible_links.specs.declared.frame.Frame.{Frame}
-use Rattle.x25_possible_links.specs.declared.frame.Frame.TheVariants.{Before, Unread}
+use Rattle.x25_possible_links.specs.declared.{frame.Frame.{Frame}, frame.Frame.TheVariants.{Before, Unread}}
 
 abbrev pub item_by : Role → Role → Frame → Item Frame
 item_by Dte Dte x = Own x

@@ -3,32 +3,20 @@ use Rattle.std.specs.Prelude.{◌≡◌, ◌⊎◌, ℕ, ◌≤◌, Bool, true, 
 use Rattle.x25_bits.specs.declared.role.Role.{Role}
 use Rattle.x25_decode.specs.Decoding.{n1}
 use Rattle.x25_frame.specs.Frame.{PlainFrame, info, sabm, ua}
-use Rattle.x25_judge.specs.Held.{differs}
+use Rattle.x25_judge.specs.{Held.{differs}, Judge.{answer_to, begins, other_of, own_of, seen_by}, Links.{place, shown}}
 use Rattle.x25_decode.specs.declared.answer.Reading.{Reading}
-use Rattle.x25_judge.specs.Judge.{answer_to, begins, other_of, own_of, seen_by}
-use Rattle.x25_judge.specs.Links.{place, shown}
 use Rattle.x25_judge.specs.Manners.{goes_on, may_go_back, seen_place}
-use Rattle.x25_judge.specs.declared.judge.Judge.{Judge}
-use Rattle.x25_judge.specs.declared.judge.Strictness.{Strictness}
-use Rattle.x25_judge.specs.declared.manners.Manners.{Manners}
+use Rattle.x25_judge.specs.declared.{judge.Judge.{Judge}, judge.Strictness.{Strictness}, manners.Manners.{Manners}}
 use Rattle.x25_judge.specs.declared.manners.Place.{Place}
 use Rattle.x25_possible.specs.laws.Possible.{IsUnexplained, Item, Own, Stands}
 use Rattle.x25_possible_links.specs.code.Steps.{numbers}
-use Rattle.x25_possible_links.specs.laws.Link.{State, link_rules}
-use Rattle.x25_possible_links.specs.laws.Sets.{IsRoomy, IsTimely}
-use Rattle.x25_possible_links.specs.declared.frame.Frame.{Frame}
-use Rattle.x25_possible_links.specs.declared.stand.Stand.TheVariants.{Free}
-use Rattle.x25_line.specs.laws.InWindow.{IsPrefix}
-use Rattle.x25_line.specs.laws.Peer.{Peer}
-use Rattle.x25_link.specs.Hearing.{other}
-use Rattle.x25_link.specs.Station.{LinkSettings}
-use Rattle.x25_line.specs.laws.PeerSessions.{Stand}
-use Rattle.x25_judge.specs.laws.Explaining.{IsKept, IsUntold, Carries}
-use Rattle.x25_judge.specs.laws.Sessions.{MaySay, MayStand}
+use Rattle.x25_possible_links.specs.laws.{Link.{State, link_rules}, Sets.{IsRoomy, IsTimely}}
+use Rattle.x25_possible_links.specs.declared.{frame.Frame.{Frame}, stand.Stand.TheVariants.{Free}}
+use Rattle.x25_line.specs.laws.{InWindow.{IsPrefix}, Peer.{Peer}, PeerSessions.{Stand}}
+use Rattle.x25_link.specs.{Hearing.{other}, Station.{LinkSettings}}
+use Rattle.x25_judge.specs.laws.{Explaining.{IsKept, IsUntold, Carries}, Sessions.{MaySay, MayStand}, Tapes.{IsTape}}
 use Rattle.x25_judge.specs.laws.Session.{IsBegun, Shows, IsNumbered, has_answer, has_number, is_final, is_of_order}
-use Rattle.x25_judge.specs.laws.Session.{is_up, rule_of, Way}
-use Rattle.x25_judge.specs.laws.Tapes.{IsTape}
-use Rattle.x25_judge.specs.laws.Watching.{Watched, IsSilent, IsAny}
+use Rattle.x25_judge.specs.laws.{Session.{is_up, rule_of, Way}, Watching.{Watched, IsSilent, IsAny}}
 use Rattle.x25_packet_judge.specs.Numbers.{apart}
 
 -- no rule of order is told of what an end sends that keeps the rules, over any number of set-ups

@@ -4,8 +4,7 @@ use Rattle.x25_frame.specs.Frame.{PlainFrame, info}
 use Rattle.x25_judge.specs.Judge.{answer_to}
 use Rattle.x25_judge.specs.declared.judge.Judge.{Judge}
 use Rattle.x25_line.specs.laws.Stations.{StationEnd, Stations, Act, acts, fresh_station}
-use Rattle.x25_link.specs.Hearing.{other}
-use Rattle.x25_link.specs.Station.{LinkSettings}
+use Rattle.x25_link.specs.{Hearing.{other}, Station.{LinkSettings}}
 use Rattle.x25_judge.specs.laws.Session.{IsSetUp, Shows, IsDamaged, IsNumbered}
 
 -- The judge, the station, what the I frames of the other end carried, each number once, the octets between the tape and

@@ -4,17 +4,14 @@ use Rattle.std.specs.Prelude.{Option, Some, None, is_some}
 use Rattle.x25_bits.specs.Role.{other}
 use Rattle.x25_bits.specs.declared.role.{Role.{Role}, Role.TheVariants.{Dte, Dce}}
 use Rattle.x25_packet.specs.Packet.{PlainPacket, restart, restart_conf}
-use Rattle.x25_packet_judge.specs.Book.{begins, is_of_all, is_restart, layers_of, takes}
-use Rattle.x25_packet_judge.specs.Channel.{by_end, lost, rule_of}
-use Rattle.x25_packet_judge.specs.Channels.{channel_of}
-use Rattle.x25_packet_judge.specs.Item.{item_of}
+use Rattle.x25_packet_judge.specs.{Book.{begins, is_of_all, is_restart, layers_of, takes}, Channels.{channel_of}}
+use Rattle.x25_packet_judge.specs.{Channel.{by_end, lost, rule_of}, Item.{item_of}}
 use Rattle.x25_packet_judge.specs.PacketRule.{is_of_manners, is_order}
 use Rattle.x25_packet_judge.specs.declared.{book.Book.{Book}, channel.Channel.{Channel}, layers.Layers.{Layers}}
 use Rattle.x25_packet_judge.specs.declared.packet_rule.PacketRule.{PacketRule}
 use Rattle.x25_packet_judge.specs.declared.packet_rule.PacketRule.TheVariants as rules
 use Rattle.x25_possible.specs.Channel.{channel_rules, is_polite, sends_as}
-use Rattle.x25_possible.specs.laws.Possible.{IsIn, IsUnexplained, Item, Own, Other, Stands}
-use Rattle.x25_possible.specs.laws.Sets.{Fits}
+use Rattle.x25_possible.specs.laws.{Possible.{IsIn, IsUnexplained, Item, Own, Other, Stands}, Sets.{Fits}}
 use Rattle.x25_possible.specs.code.Steps.{behind, is_known, may_send, sends_to, shows_to}
 use Rattle.x25_possible.specs.declared.packet.{Packet.{Packet}, Packet.TheVariants.{Elsewhere, Restart, RestartConf}}
 use Rattle.x25_possible.specs.declared.{phase.Phase.{Phase}, phase.Phase.TheVariants.{Idle}, set.Set.{Set}}

@@ -72,14 +72,10 @@ is_large s = false
 abbrev pub spot_at : ℕ → Phase → Spot
 spot_at n s = record { phase = s; at = n }
 
-abbrev pub taken_on : Option Phase → (Phase → List Spot → Option (List Spot)) → List Spot → Option (List Spot)
-taken_on None next out = Some out
-taken_on (Some u) next out = next u out
-
-abbrev pub settles_by : Option Phase → Option Phase → Spot → (Phase → List Spot → Option (List Spot)) → List Spot
+abbrev pub settles_by : Option Phase → Phase → Spot → (Phase → List Spot → Option (List Spot)) → List Spot
     → Option (List Spot)
-settles_by (Some u) o spot next out = next u out
-settles_by None o spot next out = and_then (kept spot out) (taken_on o next)
+settles_by (Some u) r spot next out = next u out
+settles_by None r spot next out = and_then (kept spot out) (next r)
 
 -- with so much of the way in front of it
 abbrev pub settles : Role → ℕ → List Packet → Phase → List Spot → Option (List Spot)

@@ -72,7 +72,7 @@ OfSome (Some s) P = P s
 abbrev pub IsCounted : List Packet → Role → Phase → Type 0
 IsCounted [] role s = is_large s ≡ false
 IsCounted (x ∷ way) role s =
-    (is_large s ≡ false) × OfSome (at_once s x) (IsCounted way role) × OfSome (takes role s x) (IsCounted way role)
+    (is_large s ≡ false) × OfSome (at_once s x) (IsCounted way role) × IsCounted way role (takes role s x)
 
 abbrev pub AreCounted : List Spot → Type 0
 AreCounted qs = (q : Spot) → IsIn q qs → is_large q.phase ≡ false

@@ -74,6 +74,18 @@ pub record RowsAreUntold : Type 0 where
   pub cleared_over_reset : is_told Dce (Own ClearConf ∷ Other Clear ∷ Other Reset ∷ called) ≡ false
   pub restarted_over_reset : is_told Dte (Own RestartConf ∷ Other Restart ∷ Other Reset ∷ calling) ≡ false
   pub restarted_over_clear : is_told Dte (Own RestartConf ∷ Other Restart ∷ Other Clear ∷ calling) ≡ false
+  -- what comes between two CLEARs, RESETs or RESTARTs that have one answer is dropped
+  pub dropped_before_clear_conf :
+      is_told Dte (Own (Rr 0) ∷ Other (Accept as_proposed) ∷ Own (Call usual) ∷ Own ClearConf ∷ Other Clear
+      ∷ Other RestartConf ∷ Other Clear ∷ Other RestartConf ∷ Own Restart ∷ Own Restart ∷ [])
+      ≡ false
+  pub dropped_before_reset_conf :
+      is_told Dte (Own (Rr 2) ∷ Other (Data false false 1 0 9) ∷ Other (Data false false 0 0 9) ∷ Own ResetConf
+      ∷ Other Reset ∷ Other (Data false false 0 0 9) ∷ Other Reset ∷ calling)
+      ≡ false
+  pub dropped_before_restart_conf :
+      is_told Dte (Own (Rr 0) ∷ calling ++ Own RestartConf ∷ Other Restart ∷ Other (Call usual) ∷ Other Restart ∷ [])
+      ≡ false
   -- two resets on the way, of which it has taken one
   pub resets : is_told Dte (Own (Rr 0) ∷ Own ResetConf ∷ Other Reset ∷ Other Reset ∷ calling) ≡ false
 

@@ -40,7 +40,7 @@ IsPeer r (Left c) = Unit {0}
 abbrev pub IsAt : Role → End → Phase → Type 0
 IsAt r (Stands y) s = IsPeer r y.side × (s ≡ phase_of y.side)
 IsAt r (Owes y q) s =
-    IsPeer r y.side × (takes r (phase_of y.side) (item_of q) ≡ Some s)
+    IsPeer r y.side × (takes r (phase_of y.side) (item_of q) ≡ s)
     × ((a : theirs.Packet) × ((channel_taking r y.epoch y.side q).out ≡ a ∷ []))
 
 -- ---- what it may send, and is then
@@ -76,12 +76,16 @@ pub data SendsOn (r : Role) : End → theirs.Packet → End → Type 0 where
 
 -- ---- what it makes of what comes
 
--- what the judge allows beyond docs/PEER.md
+abbrev pub NotClear : theirs.Packet → Type 0
+NotClear theirs.Clear = ⊥
+NotClear p = Unit {0}
+
+-- what the judge allows beyond docs/PEER.md, before an answer
 pub data TakesBeyond : End → theirs.Packet → End → Type 0 where
-  -- one answer for a RESET or CLEAR that came again (4.4.3, 4.1.7, timers T22 and T23)
-  again : (y : At PeerCall) (q : theirs.Packet) → TakesBeyond (Owes y q) q (Owes y q)
-  -- none for a RESET whose call a CLEAR ended (4.1.7)
-  cleared : (y : At PeerCall) → TakesBeyond (Owes y theirs.Reset) theirs.Clear (Owes y theirs.Clear)
+  -- what comes is dropped: so one answer is enough for a RESET that came again (4.4.3, timer T22)
+  drops : (y : At PeerCall) (q p : theirs.Packet) → NotClear p → TakesBeyond (Owes y q) p (Owes y q)
+  -- or for a CLEAR (4.1.7, timer T23), and a RESET whose call a CLEAR ended needs none (4.1.7)
+  cleared : (y : At PeerCall) (q : theirs.Packet) → TakesBeyond (Owes y q) theirs.Clear (Owes y theirs.Clear)
 
 pub data TakesOn (r : Role) : End → theirs.Packet → End → Type 0 where
   -- what a peer makes of it, which it doesn't answer
@@ -98,4 +102,4 @@ pub record ChannelRulesArePeers : Type 0 where
   pub sends : (r : Role) (a : End) (p : theirs.Packet) (s u : Phase) → IsAt r a s
       → ((t : ℕ) × (sends_as t s (item_of p) ≡ Some u)) ↔ ((b : End) × SendsOn r a p b × IsAt r b u)
   pub takes : (r : Role) (a : End) (q : theirs.Packet) (s u : Phase) → IsAt r a s
-      → (takes r s (item_of q) ≡ Some u) ↔ ((b : End) × TakesOn r a q b × IsAt r b u)
+      → (takes r s (item_of q) ≡ u) ↔ ((b : End) × TakesOn r a q b × IsAt r b u)

@@ -80,21 +80,21 @@ pub data LayerTakes (r : Role) : LayerEnd → LayerPacket → LayerEnd → Type 
   -- RESTART, which a peer answers; beyond docs/PEER.md a RESET or CLEAR in front of it then needs no answer (3.3.1)
   restarted : (e : ℕ) (a : ℕ → End) (p : LayerPacket) → (ready_taking r e (peers a) layers.Restart).out ≡ p ∷ []
       → LayerTakes r (Ready e a) layers.Restart (OwesRestart e (peers a))
-  -- a confirmation of no RESTART, of which a peer makes nothing
-  strays : (e : ℕ) (a : ℕ → End) → ((h : ℕ) → a h ≡ Stands (peers a h))
-      → LayerTakes r (Ready e a) layers.RestartConf (Ready e a)
+  -- a confirmation of no RESTART, of which a peer makes nothing; beyond docs/PEER.md before an answer too
+  strays : (e : ℕ) (a : ℕ → End) → LayerTakes r (Ready e a) layers.RestartConf (Ready e a)
   -- what a peer makes of it while its RESTART is out
   waits : (e : ℕ) (y : PeerChannels) (p : LayerPacket) → (restarting_taking e y p).out ≡ []
       → LayerTakes r (Restarting e y) p (standing (restarting_taking e y p).next)
-  -- beyond docs/PEER.md: one answer for a RESTART that came again (3.3.1, timer T20)
-  again : (e : ℕ) (y : PeerChannels) → LayerTakes r (OwesRestart e y) layers.Restart (OwesRestart e y)
+  -- beyond docs/PEER.md: before its answer all is dropped, so one is enough for a RESTART that came again (3.3.1,
+  -- timer T20)
+  drops : (e : ℕ) (y : PeerChannels) (p : LayerPacket) → LayerTakes r (OwesRestart e y) p (OwesRestart e y)
 
 -- ---- the rules of all channels are those of peers, and no more than that
 
 -- what comes to channel h is taken there; what comes to another changes nothing
 abbrev pub AreTaken : Role → Phase → List Packet → Phase → Type 0
 AreTaken r s [] u = u ≡ s
-AreTaken r s (x ∷ []) u = takes r s x ≡ Some u
+AreTaken r s (x ∷ []) u = takes r s x ≡ u
 AreTaken r s (x ∷ y ∷ xs) u = ⊥
 
 abbrev pub AreAt : Role → LayerEnd → (ℕ → Phase) → Type 0

@@ -125,8 +125,8 @@ DeedsAreSends =
 
 -- A packet that comes is taken, and where it is confirmed, that is sent then.
 abbrev pub IsTakenSo : Role → Phase → Packet → List theirs.Packet → Phase → Type 0
-IsTakenSo role s x [] r = takes role s x ≡ Some r
-IsTakenSo role s x (p ∷ []) r = (u : Phase) × (takes role s x ≡ Some u) × (sends_as 0 u (item_of p) ≡ Some r)
+IsTakenSo role s x [] r = takes role s x ≡ r
+IsTakenSo role s x (p ∷ []) r = sends_as 0 (takes role s x) (item_of p) ≡ Some r
 IsTakenSo role s x (p ∷ q ∷ ps) r = ⊥
 
 -- only the DTE's call goes ahead where both called

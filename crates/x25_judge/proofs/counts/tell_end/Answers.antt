@@ -9,7 +9,8 @@ use Rattle.x25_judge.proofs.counts.tell_end.Goals as goal
 pub returns-in_err-tell_line-clause-tells : goal.returns-in_err-tell_line-clause-tells
 returns-in_err-tell_line-clause-tells g c = λ old told h.
     let p = err_from_is_err_and c.from_residual.result c.from_residual.ensures.1 in
-    rw p.1 (part_of_all old _ told (frames_line c.args.from c.args.frames) (flat_map (packets_line c.args.from) c.args.packets.now) _ refl (c.in_err-tell_line.ensures.tells old told h))
+    rw p.1 (part_of_all old _ told (frames_line c.args.from c.args.frames) (flat_map (packets_line c.args.from) c.args.packets.now) _ refl
+    (c.in_err-tell_line.ensures.tells old told h))
 
 pub returns-clause-tells : goal.returns-clause-tells
 returns-clause-tells g c = λ old told h.

@@ -22,7 +22,8 @@ returns-clause-runs g c =
     record {
       zero_or_one = c.take_text.ensures.zero_or_one;
       answers = c.take_text.ensures.answers (c.args.loose, j) written
-          (input_begins c.args.loose j written c.new-lines.result.held _ c.new-lines.result.taker _ c.new-lines.ensures.held c.new-lines.ensures.taker c.in_ok-held.ensures made.loose made.judge made.empty made.faultless);
+          (input_begins c.args.loose j written c.new-lines.result.held _ c.new-lines.result.taker _ c.new-lines.ensures.held c.new-lines.ensures.taker
+          c.in_ok-held.ensures made.loose made.judge made.empty made.faultless);
       marks = c.take_text.ensures.marks;
     }
 

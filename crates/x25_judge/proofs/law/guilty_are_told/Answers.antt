@@ -1,5 +1,4 @@
-use Rattle.x25_judge.proofs.verdicts.Guilty.{guilty_are_told, told_are_guilty}
-use Rattle.x25_judge.proofs.verdicts.Minded.{judged_finals_are_told, judged_sendings_are_told}
+use Rattle.x25_judge.proofs.{verdicts.Guilty.{guilty_are_told, told_are_guilty}, verdicts.Minded.{judged_finals_are_told, judged_sendings_are_told}}
 use Rattle.x25_judge.proofs.law.guilty_are_told.Goals as goal
 
 pub returns-clause-guilty : goal.returns-clause-guilty

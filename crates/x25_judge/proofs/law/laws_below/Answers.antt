@@ -11,7 +11,15 @@ returns c =
       spelled = c.reads_what_is_spelled.ensures.reads;
       order = c.silent_tape_keeps_order.ensures;
       station = record {
-        window = record { take = law.take; put = law.put; timer = law.timer; disconnect = law.disconnect; abandon = law.abandon; take_out = law.take_out; disconnect_out = law.disconnect_out };
+        window = record {
+          take = law.take;
+          put = law.put;
+          timer = law.timer;
+          disconnect = law.disconnect;
+          abandon = law.abandon;
+          take_out = law.take_out;
+          disconnect_out = law.disconnect_out;
+        };
         set_up = record { waits = rows.waits; sets_up = rows.sets_up; connects = rows.connects; timer = rows.timer; disconnects = rows.disconnects };
         take_tells = notes.take;
         timer_tells = notes.timer;

@@ -21,4 +21,5 @@ returns-clause-items c =
     let same : length c.loop-place.place-items ≡ length c.args.seen.now.items = c.loop-place.auto.place-items ∙ ap length value in
     let all : length c.loop-place.place-items ≤ c.loop-place.place-index = omega arith in
     let high : length c.args.seen.now.items ≤ c.args.seen.now.len = omega arith in
-    written_back f c.loop-place.place-index c.args.seen.now.len c.loop-place.place-items c.args.seen.now.items (c.loop-place.invariant ∙ ap (map f) value) all high same
+    written_back f c.loop-place.place-index c.args.seen.now.len c.loop-place.place-items c.args.seen.now.items (c.loop-place.invariant ∙ ap (map f) value) all
+    high same

@@ -15,6 +15,9 @@ returns c = record {
     cleared_over_reset = refl;
     restarted_over_reset = refl;
     restarted_over_clear = refl;
+    dropped_before_clear_conf = refl;
+    dropped_before_reset_conf = refl;
+    dropped_before_restart_conf = refl;
     resets = refl;
   };
   known = record {

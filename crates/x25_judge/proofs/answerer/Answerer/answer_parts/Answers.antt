@@ -1,11 +1,9 @@
-use Rattle.std.proofs.Common.{◌≡◌, ◌∙◌, ◌||◌, None, Some, ap, sym, subst, refl}
+use Rattle.std.proofs.{Common.{◌≡◌, ◌∙◌, ◌||◌, None, Some, ap, sym, subst, refl}, Math.Bool.{or-false}}
 use Rattle.std.specs.Prelude.{MatchOption}
-use Rattle.std.proofs.Math.Bool.{or-false}
 use Rattle.std.proofs.lemmas.Result.{err_from_is_err_and, on_ok_weaker}
 use Rattle.x25_io.specs.Loose.{asked}
 use Rattle.x25_io.proofs.ToldLemmas.{part_of_all}
-use Rattle.x25_judge.specs.Answerer.{reply, reply_to}
-use Rattle.x25_judge.specs.Judge.{Answer}
+use Rattle.x25_judge.specs.{Answerer.{reply, reply_to}, Judge.{Answer}}
 use Rattle.x25_judge.specs.code.Stream.{Replies}
 use Rattle.x25_judge.proofs.LineLemmas.{plain_reply, reply_counts, reply_next, reply_text, told_behind}
 use Rattle.x25_judge.proofs.answerer.Answerer.answer_parts.Goals as goal
@@ -38,7 +36,8 @@ returns-in-Some-clause-replies g c = λ few.
     let line = c.args.line.now in
     let part = c.in-Some.line.now in
     let head = c.split_loose.result.0.now in
-    let found = subst (λ o. MatchOption o (asked s.loose line ≡ None) (λ found. asked s.loose line ≡ Some found.now)) c.in-Some.is (c.split_loose.ensures.asked few) in
+    let found = subst (λ o. MatchOption o (asked s.loose line ≡ None) (λ found. asked s.loose line ≡ Some found.now)) c.in-Some.is
+    (c.split_loose.ensures.asked few) in
     let answered = c.answer_asked-in-Some.ensures in
     record {
       tells = λ old told h. told_behind c.answer_asked-in-Some.result old _ _ told head (reply_to s.judge (Some part)).text (reply s.loose s.judge line).text
@@ -55,7 +54,8 @@ returns-in-None-clause-replies g c = λ few.
     let s = c.args.self.now in
     let line = c.args.line.now in
     let head = c.split_loose.result.0.now in
-    let none = subst (λ o. MatchOption o (asked s.loose line ≡ None) (λ found. asked s.loose line ≡ Some found.now)) c.in-None.is (c.split_loose.ensures.asked few) in
+    let none = subst (λ o. MatchOption o (asked s.loose line ≡ None) (λ found. asked s.loose line ≡ Some found.now)) c.in-None.is
+    (c.split_loose.ensures.asked few) in
     let told = c.tell-in-None.ensures in
     record {
       tells = λ old before h. told_behind c.tell-in-None.result old _ _ before head (reply_to s.judge None).text (reply s.loose s.judge line).text

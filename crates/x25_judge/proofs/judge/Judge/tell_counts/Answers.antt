@@ -3,8 +3,7 @@ use Rattle.std.proofs.lemmas.Result.{err_from_is_err_and}
 use Rattle.x25_io.specs.code.Written.{AppendsPrefix}
 use Rattle.x25_io.proofs.ToldLemmas.{part_of_all}
 use Rattle.x25_bits.specs.declared.role.Role.TheVariants.{Dte, Dce}
-use Rattle.x25_judge.specs.Counts.{end_text, line_text}
-use Rattle.x25_judge.specs.Judge.{last_line}
+use Rattle.x25_judge.specs.{Counts.{end_text, line_text}, Judge.{last_line}}
 use Rattle.x25_judge.proofs.LineLemmas.{told_behind}
 use Rattle.x25_judge.proofs.judge.Judge.tell_counts.Goals as goal
 
@@ -22,7 +21,8 @@ returns-in_err-tell_end-2-clause-tells g c = λ old told h.
     let first = end_text Dte j.dte_frames j.dte_packets in
     let second = end_text Dce j.dce_frames j.dce_packets in
     rw p.1 (subst (AppendsPrefix old (g.W.Sink.contents c.tell_end-2.new.writer)) (append_assoc told first (second ++ line_text (last_line j)))
-    (part_of_all old _ (told ++ first) second (line_text (last_line j)) _ refl (c.in_err-tell_end-2.ensures.tells old (told ++ first) (c.in_ok-tell_end.ensures.tells old told h))))
+    (part_of_all old _ (told ++ first) second (line_text (last_line j)) _ refl
+    (c.in_err-tell_end-2.ensures.tells old (told ++ first) (c.in_ok-tell_end.ensures.tells old told h))))
 
 pub returns-clause-tells : goal.returns-clause-tells
 returns-clause-tells g c = λ old told h.
@@ -32,4 +32,5 @@ returns-clause-tells g c = λ old told h.
     let last = line_text c.last_line.result in
     told_behind c.tell_line.result old _ _ told first (second ++ last) _ (ap (λ l. first ++ (second ++ line_text l)) (sym c.last_line.ensures))
     (told_behind c.tell_line.result old _ _ (told ++ first) second last _ refl
-    (c.tell_line.ensures.tells old ((told ++ first) ++ second) (c.in_ok-tell_end-2.ensures.tells old (told ++ first) (c.in_ok-tell_end.ensures.tells old told h))))
+    (c.tell_line.ensures.tells old ((told ++ first) ++ second)
+    (c.in_ok-tell_end-2.ensures.tells old (told ++ first) (c.in_ok-tell_end.ensures.tells old told h))))
