@@ -23,9 +23,9 @@ import time
 SECONDS = 120
 
 
-def free_ports(count):
-    """Ports of UDP that nobody has."""
-    made = [socket.socket(socket.AF_INET, socket.SOCK_DGRAM) for _ in range(count)]
+def free_ports(count, kind=socket.SOCK_DGRAM):
+    """Ports of UDP, or of TCP, that nobody has."""
+    made = [socket.socket(socket.AF_INET, kind) for _ in range(count)]
     for one in made:
         one.bind(("127.0.0.1", 0))
     ports = [one.getsockname()[1] for one in made]

@@ -36,6 +36,15 @@ def declared():
     return [re.search(r"x25_(\w+)", text)[1] for text in PROTOTYPE.findall(support.read("include/x25.h").decode())]
 
 
+def told(answer, near, far):
+    """What two stations are told until nothing is on the line between them."""
+    events = []
+    while answer.frames:
+        near, far, answer = far, near, far.receive_all(answer.frames)
+        events += answer.events
+    return events
+
+
 class Declared(unittest.TestCase):
     def test_each_binding_has_the_functions_of_the_header(self):
         rust = support.read("bindings/rust/src/raw.rs").decode()
@@ -123,13 +132,6 @@ class Python(unittest.TestCase):
         self.assertEqual(doctest.testmod(x25, verbose=False).failed, 0)
 
     def test_causes_and_diagnostics(self):
-        def told(answer, near, far):
-            events = []
-            while answer.frames:
-                near, far, answer = far, near, far.receive_all(answer.frames)
-                events += answer.events
-            return events
-
         with x25.Station(x25.DTE, library=LIBRARY) as dte, x25.Station(x25.DCE, library=LIBRARY) as dce:
             told(dte.connect(), dte, dce)
             answer = dte.restart(200, 5)
@@ -145,12 +147,8 @@ class Python(unittest.TestCase):
     def test_what_is_given(self):
         """Facilities go out with a call, as `decode --wide` reads it, and the other end is told what is given."""
 
-        def told(answer, near, far):
-            events = []
-            while answer.frames:
-                near, far, answer = far, near, far.receive_all(answer.frames)
-                events += [(event.kind, event.facilities, event.user) for event in answer.events]
-            return events
+        def given(*words):
+            return [(event.kind, event.facilities, event.user) for event in told(*words)]
 
         charged, beside = bytes.fromhex("01800312"), x25.Kind.BESIDE
         with x25.Station(x25.DTE, library=LIBRARY, wide=True) as dte, x25.Station(x25.DCE, library=LIBRARY, wide=True) as dce:
@@ -162,9 +160,9 @@ class Python(unittest.TestCase):
                 dte.call("1", "2", facilities=bytes.fromhex("420707"))
             channel, answer = dte.call("1", "2", b"A", facilities=charged, d=True)
             call, = answer.frames
-            self.assertEqual(told(answer, dte, dce), [(x25.Kind.INCOMING, b"", b"A"), (beside, charged, b"")])
-            self.assertEqual(told(dce.accept(channel, user=b"h\0i", d=True), dce, dte)[:2], [(x25.Kind.CONNECTED, b"", b""), (beside, b"", b"h\0i")])
-            self.assertEqual(told(dte.clear(channel, 0, 5, facilities=charged), dte, dce)[:2], [(x25.Kind.CLEARED, b"", b""), (beside, charged, b"")])
+            self.assertEqual(given(answer, dte, dce), [(x25.Kind.INCOMING, b"", b"A"), (beside, charged, b"")])
+            self.assertEqual(given(dce.accept(channel, user=b"h\0i", d=True), dce, dte)[:2], [(x25.Kind.CONNECTED, b"", b""), (beside, b"", b"h\0i")])
+            self.assertEqual(given(dte.clear(channel, 0, 5, facilities=charged), dte, dce)[:2], [(x25.Kind.CLEARED, b"", b""), (beside, charged, b"")])
         if support.PROGRAM:
             lines = support.decode(f"> {call.hex()}\n".encode(), "--wide")
             self.assertEqual(lines[0].partition(" | ")[2], "CALL ch=1 D=1 called=1 calling=2 fac=01800312 data=41 ~ wide")
@@ -176,13 +174,6 @@ class Python(unittest.TestCase):
 
     def test_confirmation(self):
         """D of the last packet asks for it, the other end's user sees it, and one acknowledgement may confirm several messages."""
-
-        def told(answer, near, far):
-            events = []
-            while answer.frames:
-                near, far, answer = far, near, far.receive_all(answer.frames)
-                events += answer.events
-            return events
 
         with x25.Station(x25.DTE, library=LIBRARY, wide=True) as dte, x25.Station(x25.DCE, library=LIBRARY, wide=True) as dce:
             told(dte.connect(), dte, dce)

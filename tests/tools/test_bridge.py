@@ -376,6 +376,23 @@ class Joined(ToolCase):
             user.tell_silence()
             self.assertEqual((told, user.silence()), (["# 'wait dte incoming' holds 2 commands behind it"], None))
 
+    def test_a_wait_that_holds_nothing_is_told(self):
+        user, told = users.User(None, users.Outlet(sys.stderr), 1), []
+        user.commands.add([b"wait dte cleared"])
+        with mock.patch.object(user, "tell", told.append):
+            self.assertIsNotNone(user.awaits() and user.silence())
+            user.tell_silence()
+        self.assertEqual(told, ["# 'wait dte cleared' waits"])
+
+    def test_what_a_vain_wait_has_looked_at_is_there_for_the_next(self):
+        user = users.User(None, users.Outlet(sys.stderr), 1)
+        user.commands.add([b"wait dte call", b"wait dte connected", b"wait dte cleared", b"wait dte call"])
+        for notice in "dte call ch=1", "dte cleared ch=1":
+            user.tell(notice)
+        self.assertEqual(user.awaits()[0], "dte connected")
+        user.end_wait()
+        self.assertEqual(user.awaits()[0], "dte call")
+
     def test_a_signal_that_comes_just_before_a_wait_ends_it(self):
         for number in (signal.SIGINT, signal.SIGTERM):
             self.addCleanup(signal.signal, number, signal.getsignal(number))
@@ -550,7 +567,8 @@ class Joined(ToolCase):
         self.assertEqual(self.end()[1], ["# the other end says 'the line is taken'"])
 
     def test_signals_end_the_link(self):
-        for number, status in ((signal.SIGTERM, 143), (signal.SIGINT, 130)):
+        self.addCleanup(signal.signal, signal.SIGHUP, signal.signal(signal.SIGHUP, signal.SIG_DFL))
+        for number, status in ((signal.SIGTERM, 143), (signal.SIGINT, 130), (signal.SIGHUP, 129)):
             with self.subTest(number):
                 self.begin(f". off busy\n= {UA}\ndte linkup\n. off idle\n= dte disconnect\ndte disconnect\ndte linkdown local\n{DISC}\n. off busy\n= {UA}\n. off busy\n", "--t1", "60", "--stay")
                 self.sends(UA)
@@ -818,6 +836,21 @@ class Other(ToolCase):
     def test_no_file(self):
         for word in ("--commands", "--trace", "--notices"):
             self.assert_refused(support.run("bridge.py", "dte", "--udp", "0:1", word, "/nowhere/file"), "/nowhere/file")
+
+    def test_a_file_that_is_full_is_named(self):
+        program = self.program(f". off busy\n= dte connect\ndte connect\n{SABM}\n. off idle\n")
+        commands = self.file("commands", b"dte connect\n")
+        for word in ("--trace", "--notices"):
+            done = support.run("bridge.py", "dte", "--udp", "0:1", word, "/dev/full", "--commands", commands, "--x25", program)
+            self.assertEqual((done.returncode, done.stderr.splitlines()[-1]), (2, b"bridge.py: /dev/full: No space left on device"))
+
+    def test_a_standard_file_that_is_closed_is_an_empty_one(self):
+        program = self.program(f". off busy\n= dte connect\ndte connect\n{SABM}\n. off idle\n")
+        words = ["dte", "--udp", "0:1", "--x25", program, "--quiet", "0.2", "--commands", self.file("commands", b"dte connect\n")]
+        for number in range(3):
+            command = [sys.executable, os.path.join(support.TOOLS, "bridge.py"), *words]
+            done = subprocess.run(command, stdin=subprocess.DEVNULL, capture_output=True, timeout=60, preexec_fn=lambda: os.close(number))
+            self.assertEqual((done.returncode, done.stdout), (0, b"" if number == 1 else b"dte connect\n"), done.stderr)
 
     def test_it_calls_again_and_again(self):
         program = self.program(f". off busy\n= {UA}\n. off idle\n= {RESTART}\n. off idle\n")

@@ -13,6 +13,7 @@ import unittest
 
 import support
 from support import ToolCase
+from tunnels import free_ports
 
 CALL = "dte call 123 4567 41"
 ANSWER = "wait dce incoming\ndce accept 1\n"
@@ -20,17 +21,6 @@ OPENING = f"dte connect\nwait dte restarted\n{CALL}\nwait dte connected\n"
 SECONDS = 900
 # An I frame of a trace that carries RNR.
 RNR = re.compile(rb"[<>] 0[13].[02468ace]1001[02468ace]5")
-
-
-def free_ports(count):
-    """Numbers of ports for datagrams that nobody has."""
-    sockets = [socket.socket(socket.AF_INET, socket.SOCK_DGRAM) for _ in range(count)]
-    for each in sockets:
-        each.bind(("127.0.0.1", 0))
-    ports = [each.getsockname()[1] for each in sockets]
-    for each in sockets:
-        each.close()
-    return ports
 
 
 def message(end, number):

@@ -4,8 +4,10 @@ import gzip
 import io
 import os
 import signal
+import struct
 import types
 import unittest
+from unittest import mock
 
 import samples
 import support
@@ -141,6 +143,14 @@ class Formats(unittest.TestCase):
         file = samples.pcap([(0, 0, b"\x01" + SABM, 40), (0, 0, b"\x00" + UA)])
         self.assertEqual(lines(file), ("> \n< 01738357\n", {"frame that was captured in part": 1}))
 
+    def test_a_record_shorter_than_its_header_is_a_gap(self):
+        for link_type, head, short in (207, b"\x01", (0, 0, b"", 5)), (196, bytes([0, 0, 0, 0, 1]), (0, 0, b"\0")):
+            with self.subTest(link_type):
+                file = samples.pcap([(0, 0, head + SABM), short, (0, 0, head + SABM)], link_type=link_type)
+                self.assertEqual(lines(file), ("> 013febdf\n> ..\n< ..\n> 013febdf\n", {pcap2x25.SHORT: 1}))
+        file = samples.section() + samples.interface(147) + samples.block(6, struct.pack("<IIIII", 0, 0, 0, 0, 5)) + samples.packet(SABM, flags=2)
+        self.assertEqual(lines(file, lapb=147, sent_by="dce"), ("< \n> 013febdf\n", {"frame that was captured in part": 1}))
+
 
 class XotStreams(unittest.TestCase):
     def setUp(self):
@@ -206,6 +216,23 @@ class XotStreams(unittest.TestCase):
         self.assertEqual(lines(file), ("", {}))
         self.assertEqual(lines(file, port=2000)[0].count("\n"), 1)
 
+    def test_both_ends_have_the_port_of_xot(self):
+        """The one that opens the connection is the DTE, or else the first one that is seen, and both are of one connection."""
+        syn, answer, call, accept = (True, 0, b"", 2), (False, 0, b"", 18), (True, 1, self.call), (False, 1, self.accept)
+        for segments in ([syn, answer, call, accept], [answer, call, accept], [call, accept]):
+            records = []
+            for to_server, sequence, octets, *flags in segments:
+                tcp = samples.tcp(to_server, sequence, octets, *flags)
+                records.append((0, 0, samples.ethernet(samples.ipv4(to_server, struct.pack(">HH", 1998, 1998) + tcp[4:]))))
+            self.assertEqual(lines(samples.pcap(records, link_type=1)), (self.expected, {}))
+
+    def test_a_packet_of_ip_whose_length_the_card_writes(self):
+        both = (True, self.call), (False, self.accept)
+        for kind, make, at in (0x0800, samples.ipv4, 2), (0x86DD, samples.ipv6, 4):
+            packets = [make(to_server, samples.tcp(to_server, 1, octets)) for to_server, octets in both]
+            records = [(0, 0, bytes(12) + struct.pack(">H", kind) + it[:at] + b"\0\0" + it[at + 2 :]) for it in packets]
+            self.assertEqual(lines(samples.pcap(records, link_type=1)), (self.expected, {}))
+
     def test_swap_makes_frames_of_the_other_end(self):
         text, _ = self.read([(True, 1, self.accept)], swap=True)
         frame = x25lines.frame_line(text.strip().encode())
@@ -220,6 +247,14 @@ class XotStreams(unittest.TestCase):
         text, notes = self.read(segments)
         self.assertEqual([line[:4] for line in text.splitlines()], ["< 03", "> ..", "> 01"])
         self.assertEqual(notes, {"gap in a connection, octets that weren't captured": 1})
+
+    def test_a_segment_after_its_acknowledgement_is_told(self):
+        """A capture of two taps may have it so, and one that is missing comes no more."""
+        answer = False, 1, self.accept, 16, 1998, 1 + len(self.call)
+        for late in [], [(True, 1, self.call)]:
+            text, notes = self.read([(True, 0, b"", 2), answer, *late])
+            self.assertEqual([line[:4] for line in text.splitlines()], ["< 03"])
+            self.assertEqual(notes, {"gap in a connection, octets that weren't captured": 1, **({xot.TOO_LATE: 1} if late else {})})
 
     def test_behind_a_gap_the_next_packet_is_looked_for(self):
         """Of the second packet the beginning is missing; what is left of it may look like a header, but for its length or its format."""
@@ -541,7 +576,6 @@ class Hostile(ToolCase):
             "a block after record 0 has a wrong length": whole + b"\x06\x00\x00\x00\xff\xff\xff\xff",
             "record 1 is too short": whole + samples.block(6, bytes(4)),
             "an option of record 1 has a wrong length": whole + samples.block(6, samples.packet(b"\x01" + SABM)[8:-4] + b"\x02\x00\xff\xff"),
-            "record 1 is shorter than its header": samples.pcap([(0, 0, b"\x00")], link_type=196),
         }
         for message, octets in cases.items():
             with self.subTest(message):
@@ -563,6 +597,7 @@ class Hostile(ToolCase):
         for script in ("pcap2x25.py", "x25pcap.py"):
             self.assert_refused(support.run(script, os.path.join(self.folder, "none")), "No such file")
             self.assert_refused(support.run(script, self.folder), "Is a directory")
+        self.assert_refused(support.run("x25pcap.py", "-o", "/nowhere/file", given=SET_UP), "/nowhere/file: No such file")
 
     def test_lines_that_are_none(self):
         for line in (b"x", b"> 0", b"> 013febdf\r\r", b" ", b">013febdf", b"> " + b"00" * 4104, b"1.5 > 013febdf", b"99999999999\t> 013febdf", b"\xff\xfe\x00"):
@@ -572,6 +607,11 @@ class Hostile(ToolCase):
     def test_a_capture_is_no_trace(self):
         for capture in (samples.pcap([]), samples.section()):
             self.assert_refused(support.run("x25pcap.py", given=capture), "this is a capture already; pcap2x25.py makes lines of one")
+
+    def test_a_warning_is_one_write(self):
+        with mock.patch("sys.stderr") as stderr:
+            x25lines.warn("it")
+        self.assertEqual(stderr.write.call_count, 1)
 
     def test_what_was_left_out_makes_status_1(self):
         done = support.run("pcap2x25.py", given=samples.pcap([(0, 0, b"\x01" + SABM, 40)]))

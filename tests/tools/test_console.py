@@ -12,6 +12,7 @@ import unittest
 import support
 from support import ToolCase
 from terminal import Terminal, script
+from tunnels import free_ports
 
 from test_bridge import FAKE, SABM, UA
 from x25tools import console
@@ -297,8 +298,7 @@ class Manual(ToolCase):
 
     def test_it_goes_as_it_stands_there(self):
         text = re.sub("^    ", "", support.read("docs/MANUAL.md").decode(), flags=re.MULTILINE)
-        with socket.create_server(("127.0.0.1", 0)) as free:
-            port = str(free.getsockname()[1])
+        port = str(*free_ports(1, socket.SOCK_STREAM))
         other = re.search(r"^printf .*\\\n.* \| bridge.py dce --listen 7000 .*$", text, re.MULTILINE)[0]
         session = re.search(r"^bridge.py dte --connect localhost:7000\nThis is(?:.+\n)*", text, re.MULTILINE)[0].replace("7000", port)
         command, *lines = session.splitlines()

@@ -1,9 +1,11 @@
 """Tests of x25dump.py: lines as they come, names, channels, connections, messages, numbers, colours."""
 
+import functools
 import gzip
 import os
 import pty
 import re
+import signal
 import subprocess
 import sys
 import unittest
@@ -214,7 +216,7 @@ class Dump(ToolCase):
     @support.needs_program
     def test_text_that_is_no_trace(self):
         """A line of it is answered as any that is none, and at the end it is said once what was looked for."""
-        for given, lines in (b"# Notes\n01 3f eb df\n", 2), (b"# made by hand\n", 1):
+        for given, lines in (b"# Notes\n01 3f eb df\n", 2), (b"# made by hand\n", 1), (b"May 12 10:11:12 TX 01 3f\n", 1):
             done = support.run("x25dump.py", "--x25", support.PROGRAM, given=given)
             self.assertEqual((done.returncode, done.stdout.count(b"\n")), (1, lines))
             self.assertIn(b"nothing was found: the input is no capture, and none of its lines is of a trace", done.stderr)
@@ -245,7 +247,9 @@ class Dump(ToolCase):
         given = b"".join(b"1.5\t> " + data(number, "x" * 9, int(number == 0)).encode() + b"\n" for number in (0, 1))
         rows = "    0000  " + "78 " * 16 + " " + "x" * 16 + "\n    0010  " + "78 78".ljust(48) + " xx\n"
         self.assertEqual(self.dump(given, "--messages"), "1.5 > ch=1 Q=0 message, 18 octets\n" + rows)
-        self.assertEqual(self.dump(given, "--messages", "--channel", "2"), "")
+        for words in ["--messages"], ["--stats"], []:
+            done = support.run("x25dump.py", *words, "--channel", "2", given=given)
+            self.assertEqual((done.returncode, done.stdout, done.stderr), (1, b"", b"x25dump.py: nothing was found on channel 2\n"))
 
     def test_numbers(self):
         given = b"1.5\t> SABM cmd P=1\n2.5\t> " + data(0, "ab").encode() + b"\n3\t> " + data(0, "ab").encode() + b"\n"
@@ -366,6 +370,19 @@ class Dump(ToolCase):
         self.assertEqual(live.end(), (0, b"", b""))
 
     @support.needs_program
+    def test_ctrl_c_ends_it_with_what_was_judged(self):
+        words, pipe = [sys.executable, os.path.join(support.TOOLS, "x25dump.py"), "--judge", "--x25", support.PROGRAM], subprocess.PIPE
+        # Whoever runs the tests in the background has this signal ignored.
+        heed = functools.partial(signal.signal, signal.SIGINT, signal.SIG_DFL)
+        with subprocess.Popen(words, stdin=pipe, stdout=pipe, stderr=pipe, start_new_session=True, preexec_fn=heed) as child:
+            child.stdin.write(b"> 013febdf\n")
+            child.stdin.flush()
+            self.assertEqual(child.stdout.readline(), b"> SABM cmd P=1\n")
+            os.killpg(child.pid, signal.SIGINT)
+            told = b"# dte: 1 frames, 1 judged, 0 not judged\n# dce: 0 frames, 0 judged, 0 not judged\n# told: 0 rules, 0 manners\n"
+            self.assertEqual((child.stdout.read(), child.wait(10)), (told, 130))
+
+    @support.needs_program
     def test_a_capture_is_shown_record_by_record(self):
         live = support.Live("x25dump.py", "--x25", support.PROGRAM)
         live.give(samples.pcap([(5, 0, b"\x01\x01\x3f")]))
@@ -390,7 +407,7 @@ class Dump(ToolCase):
         self.assert_refused(support.run("x25dump.py", os.path.join(self.folder, "none")), "No such file")
         self.assert_refused(support.run("x25dump.py", given=samples.pcap([])[:9]), "the file ends within the file header")
         self.assert_refused(support.run("x25dump.py", self.sparse("trace", b"> SABM cmd P=1\n")), "is longer than")
-        for words in (["--verdict"], ["--messages", "--stats"], ["--stats", "--judge"], ["--judge", "--k", "8"], ["--channel", "x"]):
+        for words in (["--verdict"], ["--messages", "--stats"], ["--stats", "--judge"], ["--judge", "--k", "8"], ["--channel", "4096"], ["--strict"], ["--manners"], ["--stats", "--at", "dte"], ["--port", "70000"], ["--lapb", "-1"]):
             self.assertEqual(support.run("x25dump.py", *words).returncode, 2)
 
 

@@ -11,16 +11,10 @@ import support
 sys.path.append(os.path.join(support.ROOT, "interop"))
 
 import gateway  # noqa: E402
+from tunnels import free_ports  # noqa: E402
 from x25tools import wires  # noqa: E402
 
 CALL, ACCEPT, CLEARED = bytes.fromhex("10050b00"), bytes.fromhex("10050f"), bytes.fromhex("100517")
-
-
-def free_port(kind):
-    """The number of a port that nobody has."""
-    with socket.socket(socket.AF_INET, kind) as opened:
-        opened.bind(("127.0.0.1", 0))
-        return opened.getsockname()[1]
 
 
 class Gateway(unittest.TestCase):
@@ -28,7 +22,7 @@ class Gateway(unittest.TestCase):
         self.device = socket.socket(socket.AF_INET, socket.SOCK_DGRAM)
         self.device.bind(("127.0.0.1", 0))
         self.server = socket.create_server(("127.0.0.1", 0))
-        local, self.port = free_port(socket.SOCK_DGRAM), free_port(socket.SOCK_STREAM)
+        local, self.port = *free_ports(1), *free_ports(1, socket.SOCK_STREAM)
         self.gateway = gateway.Gateway(local, self.device.getsockname()[1], self.port, self.server.getsockname()[1])
         self.device.connect(("127.0.0.1", local))
         for each in (self.device, self.server):

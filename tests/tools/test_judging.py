@@ -245,6 +245,13 @@ class Circuits(ToolCase):
         self.assertTrue(lines[-4].endswith("< RR ch=9 R=3 ! dce: P(R) acknowledges what was never sent (4.4.1.3): at most 1"), lines)
         self.assertEqual(lines[-3:-1], ["# dte channel 1: 2 packets, 1 judged, 1 not judged", "# dce channel 9: 2 packets, 1 judged, 1 not judged"])
 
+    def test_each_line_has_the_number_of_its_end(self):
+        """Also one that ends in it, and a note."""
+        ways = [(True, self.CALL), (False, bytes.fromhex("10090f")), (True, bytes.fromhex("1001130000")), (False, bytes.fromhex("100917"))]
+        self.assertTrue(self.judged(ways, 0)[-4].endswith("< CLEARCONF ch=9"))
+        lines = self.judged([(True, self.DATA), (False, bytes.fromhex("100921")), (True, self.DATA), (False, bytes.fromhex("100941"))], 1, lost=[2])
+        self.assertTrue(lines[-4].endswith("< RR ch=9 R=2 ~ note: not judged before a RESTART, a CLEAR or a CALL is answered (4.1): channel 9"), lines)
+
     def test_one_that_was_captured_from_its_beginning_on_has_no_call_then(self):
         ways = [(True, self.CALL), (False, self.ACCEPTED), (False, self.ACCEPTED)]
         lines = self.judged(ways, 1, is_opened=True)

@@ -13,6 +13,7 @@ import unittest
 
 import support
 from support import ToolCase
+from tunnels import free_ports
 
 DOCUMENTS = ["README.md", "docs/MANUAL.md"]
 EXAMPLE = re.compile(r"^    \$ ((?:.*[|\\]\n    )*.*)\n((?:    (?!\$ ).*\n)*)", re.MULTILINE)
@@ -61,9 +62,7 @@ class Examples(ToolCase):
         """The two commands for two shells, at another port."""
         text = support.read("README.md").decode()
         lines = re.search(r"^    printf 'wait dce incoming(?:.*\n    )*.*localhost:7000\n", text, re.MULTILINE)[0]
-        with socket.socket() as free:
-            free.bind(("127.0.0.1", 0))
-            port = free.getsockname()[1]
+        port, = free_ports(1, socket.SOCK_STREAM)
         listens, calls = re.sub("^    ", "", lines, flags=re.MULTILINE).replace("7000", str(port)).split("\n", 1)
         environment = {**self.environment, "X25": support.PROGRAM}
         how = {"cwd": self.folder, "env": environment, "stdout": subprocess.PIPE, "stderr": subprocess.STDOUT, "text": True}

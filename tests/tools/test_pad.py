@@ -3,6 +3,7 @@
 import contextlib
 import os
 import re
+import signal
 import socket
 import subprocess
 import time
@@ -12,6 +13,7 @@ from unittest import mock
 import support
 from support import ToolCase
 from terminal import Terminal, script
+from tunnels import free_ports
 
 from x25tools import x25pad
 
@@ -389,8 +391,7 @@ class Two(ToolCase):
 
     def test_calls_that_come_to_nothing(self):
         """One end has no PAD, but a user who clears; and a line that isn't there."""
-        with socket.create_server(("127.0.0.1", 0)) as free:
-            port = str(free.getsockname()[1])
+        port = str(*free_ports(1, socket.SOCK_STREAM))
         for words, said, status in (
             (("dce", "--connect", f"127.0.0.1:{port}"), "Connection refused", 2),
             (("dte",), "name one line: --listen", 2),
@@ -413,13 +414,15 @@ class Two(ToolCase):
         self.assertEqual((caller.wait(60), caller.stdout.read()), (1, ""))
         self.assertIn("CLR DTE C:0 D:0\n", caller.stderr.read())
 
-    def test_sigterm_leaves_the_terminal_as_it_was(self):
-        terminal = Terminal([*script("x25pad.py", "dce", "--listen", "0"), "--x25", support.PROGRAM])
-        self.addCleanup(terminal.close)
-        terminal.shows("listening on")
-        self.assertFalse(terminal.echoes())
-        os.kill(terminal.child, 15)
-        self.assertEqual((terminal.end()[0], terminal.echoes()), (143, True))
+    def test_a_signal_leaves_the_terminal_as_it_was(self):
+        self.addCleanup(signal.signal, signal.SIGHUP, signal.signal(signal.SIGHUP, signal.SIG_DFL))
+        for number in (signal.SIGTERM, signal.SIGHUP):
+            terminal = Terminal([*script("x25pad.py", "dce", "--listen", "0"), "--x25", support.PROGRAM])
+            self.addCleanup(terminal.close)
+            terminal.shows("listening on")
+            self.assertFalse(terminal.echoes())
+            os.kill(terminal.child, number)
+            self.assertEqual((terminal.end()[0], terminal.echoes()), (128 + number, True))
 
     def test_x29_at_a_terminal(self):
         host, port = self.host()

@@ -27,7 +27,7 @@ after it until a notice comes that begins so; a carriage return at the end of a 
 transcript; `! N` for a command that is refused, and `? 60` for one that is none; and lines that begin with `#`, the bridge's own words,
 in UTF-8: why that was, and what becomes of the line. They go to standard output or to --notices. With --stdio commands have to come by
 --commands, and notices go to standard error. A `wait` for what can't come any more, as the answer to a call that was cleared, and one
-that has lasted --wait seconds, is refused (61), and those after it go on; one that holds some for 10 seconds says so.
+that has lasted --wait seconds, is refused (61), and those after it go on; one that has lasted 10 seconds says so.
 
 At a terminal the bridge is a console: `help` shows what can be typed there, without this end and with octets as text in quotes, too, and
 `quit`, as the end of the input, ends the bridge as SIGTERM does, but with status 0, or 1.
@@ -43,7 +43,7 @@ back. Where nothing came for --t3 seconds, the other end is asked whether it is 
 of a connection over TCP by the system. Where a call or a reset isn't answered in --t21 or --t22 seconds it is cleared; where a clearing
 isn't in --t23, the station restarts; and where a restart isn't in --t20, the link is set up anew. A reader of notices may be slow: 256 KB are kept for him, then channels
 by which messages come are held (`notready`) until he has read half of it. The bridge ends when the commands have, nothing is left to
-do, and no frame went or came for --quiet seconds; with --stay only when the line does. CTRL-C and SIGTERM end it too: it sends DISC,
+do, and no frame went or came for --quiet seconds; with --stay only when the line does. CTRL-C, SIGTERM and SIGHUP end it too: it sends DISC,
 and waits no longer than T1 for the answer.
 
 --lose and --damage try a line: each frame that goes or comes is lost, or damaged so that its frame check sequence shows it, with
@@ -54,7 +54,8 @@ its trace is whole. The station reads packets in other forms than it writes too 
 with --no-wide it doesn't.
 
 Exit status: 0; 1 where a command was refused or was none, the line ended before all was done, or nobody reads notices any more; 2 for
-bad words, or anything else that stops the bridge, which standard error names; 130 after CTRL-C and 143 after SIGTERM.
+bad words, or anything else that stops the bridge, which standard error names; 130 after CTRL-C, 143 after SIGTERM and
+129 after SIGHUP, as when the terminal is closed.
 """
 
 from __future__ import annotations

@@ -42,8 +42,8 @@ INBOUND, OUTBOUND, DIRECTION = 1, 2, 3
 IS_OUTBOUND = {INBOUND: False, OUTBOUND: True, 0: None, 3: None}
 CRC_ERROR, TOO_SHORT = 1 << 24, 1 << 26
 
-# What a capture begins with; no line begins so, but an empty one with the first octet of pcapng.
-BEGINNINGS = (b"\xa1", b"\xd4", b"\x4d", b"\x0a\x0d")
+# What a capture begins with; no line begins with two octets of these.
+BEGINNINGS = (*PCAP_MAGIC, SECTION_TYPE)
 NO_CAPTURE = "neither a pcap nor a pcapng file"
 # A record: see above.
 Record = tuple[int, int, bytes, bool, Optional[int], Optional[bool], Optional[int], int, int]
@@ -88,7 +88,8 @@ def blocks(file: x25lines.Readable, notes: Counter[str] | None = None) -> Iterat
 
 def is_capture(file: x25lines.Readable) -> bool:
     """Whether a file is a capture, and not lines."""
-    return file.peek(2).startswith(BEGINNINGS)
+    head = file.peek(4)[:4]
+    return len(head) > 1 and any(it.startswith(head) for it in BEGINNINGS)
 
 
 def _reader(magic: bytes) -> _Pcap | _Pcapng:
@@ -125,7 +126,7 @@ class _Pcap:
             at = self._begin(octets)
         while at + 16 <= len(octets):
             whole, part, captured, length = self._header.unpack_from(octets, at)
-            if not 0 < captured <= MOST_CAPTURED:
+            if captured > MOST_CAPTURED or not length:
                 raise _wrong_length(captured, self._number + 1)
             end = at + 16 + captured
             if end > len(octets):
@@ -220,7 +221,7 @@ class _Pcapng:
             index, captured = 0, min(length, end - start)
         else:
             index, high, low, captured, length = fields(octets, head)
-        if not 0 < captured <= MOST_CAPTURED or start + captured > end:
+        if captured > MOST_CAPTURED or not length or start + captured > end:
             raise _wrong_length(captured, number)
         if index >= len(self._interfaces):
             raise BadInput(f"record {number} names the interface {index}, which the file doesn't describe")

@@ -157,7 +157,8 @@ class Decoder:
             raise BadInput(MISSING)
         say_if_unproved(self._program)
         try:
-            child = subprocess.Popen([self._program, self._task, *self._words], stdin=subprocess.PIPE, stdout=subprocess.PIPE)
+            # In a session of its own CTRL-C doesn't end it before the one who asks it.
+            child = subprocess.Popen([self._program, self._task, *self._words], start_new_session=True, stdin=subprocess.PIPE, stdout=subprocess.PIPE)
         except OSError as error:
             raise BadInput(f"{self._program}: {error.strerror}") from error
         # So that a write takes what there is room for.

@@ -39,7 +39,7 @@ class Carried(NamedTuple):
 
 
 def carried(octets: bytes) -> Carried | None:
-    """What a packet of IP carries; None where it is none."""
+    """What a packet of IP carries; None where it is none. One whose length is 0 was captured before the network card wrote that."""
     version = octets[0] >> 4 if octets else 0
     return _of_ipv4(octets) if version == 4 else _of_ipv6(octets) if version == 6 else None
 
@@ -48,6 +48,7 @@ def _of_ipv4(octets: bytes) -> Carried | None:
     if len(octets) < 20:
         return None
     first, total, number, fragment, protocol, source, target = _IPV4(octets)
+    total = total or len(octets)
     header = 4 * (first & 0xF)
     if header < 20 or total < header:
         return None
@@ -58,7 +59,7 @@ def _of_ipv6(octets: bytes) -> Carried | None:
     """The same, after the extension headers."""
     if len(octets) < 40:
         return None
-    protocol, length = octets[6], int.from_bytes(octets[4:6], "big")
+    protocol, length = octets[6], int.from_bytes(octets[4:6], "big") or len(octets) - 40
     source, target, payload = octets[8:24], octets[24:40], octets[40 : 40 + length]
     for _ in range(MOST_EXTENSIONS):
         if protocol not in EXTENSIONS or len(payload) < 8:

@@ -308,8 +308,11 @@ class Circuit(Packets):
         return packet if channel != own else bytes([packet[0] & 0xF0 | judged_by >> 8, judged_by & 0xFF]) + packet[2:]
 
     def _said(self, of: Waiting, text: str) -> str:
-        own, judged_by = self._renamed.get(of[0][0], (-1, -1))
-        return super()._said(of, text).replace(f" ch={judged_by} ", f" ch={own} ", 1)
+        text = super()._said(of, text)
+        if of[0][0] not in self._renamed:
+            return text
+        own, judged_by = self._renamed[of[0][0]]
+        return re.sub(rf"(?<= ch=){judged_by}\b|(?<=: channel ){judged_by}$", str(own), text)
 
     def _shown(self, end: str, channel: int) -> int:
         own, judged_by = self._renamed.get(ENDS[end], (-1, -1))

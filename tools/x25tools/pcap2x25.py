@@ -19,8 +19,8 @@ What was sent by the host that captured is taken as the DTE's (`>`); --swap says
 first frame whose own address tells (all but RR, RNR and REJ) says which station is the DTE. A frame without its frame check
 sequence, as captures hold them, gets one. XOT and LLC carry packets without frames: each is put into an I frame that is made
 up, whose N(S) and N(R) count the packets of its connection both ways. `x25 judge` sees no set-up of a link then, and judges few of
-these packets: x25dump.py --judge has them judged. The end that opened a connection to the port of XOT is the DTE, and of LLC the one
-that is seen first. --dte names the DTE of lapbether and LLC by its address.
+these packets: x25dump.py --judge has them judged. The end that opened a connection to the port of XOT is the DTE; of LLC the one that
+is seen first, and of XOT where both ends have that port. --dte names the DTE of lapbether and LLC by its address.
 
 One connection is written: the first, or the one that --connection names by its number in --list. All frames of LAPB are one
 connection, those of lapbether another; each two ends (addresses and ports) of XOT are one, each two stations of LLC.
@@ -42,7 +42,7 @@ import sys
 from collections import Counter
 from typing import Callable, Iterable, Iterator
 
-from x25tools import captures, ip, lan, x25lines, xot
+from x25tools import captures, ip, lan, places, x25lines, xot
 from x25tools.x25lines import OTHER, BadInput
 
 LAPB_WITH_DIRECTION, SITA = 207, 196
@@ -51,6 +51,7 @@ SITA_HEADER, SITA_RECEIVED, SITA_NO_PROTOCOL, SITA_LAPB = 5, 1, 0, 1
 ADDRESS = {">": 0x01, "<": 0x03}
 # These are the octets of a frame of which nothing is known.
 UNREAD = b""
+SHORT = "record that is shorter than its header"
 # The connections, the times and the lines of some frames.
 Found = tuple[list["Connection"], list[int], list[str]]
 # A list of connections isn't kept without bound.
@@ -160,7 +161,7 @@ class Converter:
                 for self._number, link_type, octets, is_cut, time, is_outbound, fcs_octets, flags, dropped in records:
                     self._now = time or 0
                     if dropped:
-                        self._add_gaps(dropped)
+                        self._add_gaps("frame that the program which captured dropped", dropped)
                     if self._now > x25lines.MOST_TIME:
                         self.notes["time that no line can have: 0 stands for it"] += 1
                         self._now = 0
@@ -200,12 +201,16 @@ class Converter:
 
     def _with_direction(self, _: int, octets: bytes, is_cut: bool, is_outbound: bool | None, has_fcs: bool, *__: object) -> None:
         """LAPB_WITH_DIR: an octet that is 0 where the frame was received, then the frame."""
-        self._add_frame(octets[0] != 0, octets[1:], is_cut, has_fcs)
+        if octets:
+            self._add_frame(octets[0] != 0, octets[1:], is_cut, has_fcs)
+        else:
+            self._add_gaps(SHORT, 1)
 
     def _sita(self, _: int, octets: bytes, is_cut: bool, is_sent: bool | None, has_fcs: bool, flags: int) -> None:
         """SITA: five octets, the last of them the protocol, then the frame."""
         if len(octets) < SITA_HEADER:
-            raise BadInput(f"record {self._number} is shorter than its header")
+            self._add_gaps(SHORT, 1)
+            return
         protocol = octets[4]
         if is_sent is None:
             is_sent = not octets[0] & SITA_RECEIVED
@@ -247,10 +252,9 @@ class Converter:
             for packet in packets:
                 self._add_packet(f"{stream.name} {stream.opened}", stream.name, stream.is_of_dte, packet, stream.opened is not None)
 
-    def _add_gaps(self, dropped: int) -> None:
-        """Frames aren't there that the program which captured has dropped, of whichever connections; the numbers of TCP and LLC show where theirs are
-        missing."""
-        self.notes["frame that the program which captured dropped"] += dropped
+    def _add_gaps(self, note: str, count: int) -> None:
+        """So many frames aren't there, of whichever connections; the numbers of TCP and LLC show where theirs are missing."""
+        self.notes[note] += count
         for key, connection in self._connections.items():
             if not connection.is_made_up:
                 for is_of_dte in True, False:
@@ -328,9 +332,9 @@ def add_capture_words(parser: argparse.ArgumentParser) -> None:
     """Adds the words that say how a capture is read."""
     parser.add_argument("--swap", action="store_true", help="exchange the directions")
     parser.add_argument("--fcs", action=argparse.BooleanOptionalAction, help="the frames have their frame check sequence: add none; or they lack it")
-    parser.add_argument("--lapb", type=int, metavar="N", help="the link type N holds frames of LAPB")
+    parser.add_argument("--lapb", type=places.within(int, 0, 65535), metavar="N", help="the link type N holds frames of LAPB")
     parser.add_argument("--from", dest="sent_by", choices=["dte", "dce"], help="whose frames those without a direction are")
-    parser.add_argument("--port", type=int, default=xot.XOT_PORT, metavar="N", help="the port of XOT (1998)")
+    parser.add_argument("--port", type=places.port, default=xot.XOT_PORT, metavar="N", help="the port of XOT (1998)")
     parser.add_argument("--dte", type=station, metavar="ADDRESS", help="which station of lapbether or LLC is the DTE")
     parser.add_argument("--connection", type=connection_number, metavar="N", help="the connection to write, by its number in --list")
 

@@ -2,7 +2,6 @@
 
 from __future__ import annotations
 
-import contextlib
 import os
 import re
 import select
@@ -15,12 +14,13 @@ from typing import Callable, Container, Iterable, Protocol
 from x25tools import x25lines
 from x25tools.tcp import MOST_READ
 from x25tools.wires import ROOM
+from x25tools.x25lines import BadInput
 
 # How many notices a `wait` may find that came before it, and how much of each.
 MOST_NOTICES, MOST_OF_A_NOTICE = 10_000, 200
 # A reader is slow while so many octets wait for it, and those after so many more are left out.
 SLOW, FULL = 1 << 18, 1 << 25
-# How long a reader is waited for at the end, and how long a `wait` holds commands before that is told, in seconds.
+# How long a reader is waited for at the end, and how long a `wait` lasts before that is told, in seconds.
 PATIENCE, SILENCE = 2, 10
 # A message of a channel; what waits while messages of a channel, or of any, stand aside. So many octets may stand aside.
 MESSAGE = re.compile(rb"d(?:te|ce) send (\d+) ")
@@ -74,8 +74,14 @@ class Outlet:
     def flush(self) -> None:
         """Writes what there is room for, without waiting."""
         while self._left and select.select([], [self.number], [], 0)[1]:
-            with contextlib.suppress(BlockingIOError):
+            try:
                 del self._left[: os.write(self.number, self._left[:ROOM])]
+            except BlockingIOError:
+                pass
+            except BrokenPipeError:
+                raise
+            except OSError as error:
+                raise BadInput(f"{getattr(self._file, 'name', self.number)}: {error.strerror}") from error
 
     def end(self) -> None:
         """Writes what is left, as long as the reader goes on."""
@@ -90,7 +96,7 @@ def kind(notice: str) -> str:
 
 
 class Signals:
-    """CTRL-C and SIGTERM as something to read. The first is `number` once it is read; a second one ends the script at once. 0 is for `leave`.
+    """CTRL-C, SIGTERM and SIGHUP as something to read. The first is `number` once it is read; a second one ends the script at once. 0 is for `leave`.
 
     `at_first` is called when the first one comes, before a second one can.
     """
@@ -105,6 +111,9 @@ class Signals:
         signal.set_wakeup_fd(self._writer.fileno())
         for number in (signal.SIGINT, signal.SIGTERM):
             signal.signal(number, self._come)
+        # `nohup` has it ignored.
+        if signal.getsignal(signal.SIGHUP) != signal.SIG_IGN:
+            signal.signal(signal.SIGHUP, self._come)
         return self
 
     def __exit__(self, *_: object) -> None:
@@ -233,9 +242,10 @@ class User:
         self._file, self.notices, self._is_at_terminal = commands, notices, is_at_terminal
         self.commands = Commands(patience)
         self._open = b""
-        self._heard: deque[str] = deque(maxlen=MOST_NOTICES)
+        # Notices since the one that was waited for last: those that the `wait` which is first has looked at, and those after them.
+        self._passed, self._heard = (deque[str](maxlen=MOST_NOTICES) for _ in range(2))
         self._is_ended = commands is None
-        # Since when the `wait` waits that is first, and whether that was told.
+        # Since when the `wait` waits that is first, and whether it was told that it does.
         self._since: float | None = None
         self._is_told = False
 
@@ -274,22 +284,28 @@ class User:
     def _has_come(self, text: str) -> bool:
         """Whether a notice that begins so has come, after the one that was waited for before; those up to it are forgotten."""
         while self._heard:
-            if self._heard.popleft().startswith(text):
+            notice = self._heard.popleft()
+            if notice.startswith(text):
+                self._passed.clear()
                 return True
+            self._passed.append(notice)
         return False
 
     def end_wait(self) -> None:
-        """The `wait` is over."""
+        """The `wait` is over. The next one looks at what a vain one has looked at, too."""
+        self._heard = deque([*self._passed, *self._heard], MOST_NOTICES)
+        self._passed.clear()
         self.commands.drop_first()
         self._since, self._is_told = None, False
 
     def silence(self) -> float | None:
-        """When it is told that a `wait` holds commands; None where that was told, or none are held."""
-        return self._since + SILENCE if self._since is not None and not self._is_told and len(self.commands) > 1 else None
+        """When it is told that a `wait` waits; None where that was told, or none does."""
+        return self._since + SILENCE if self._since is not None and not self._is_told else None
 
     def tell_silence(self) -> None:
-        """Tells that a `wait` holds commands."""
-        self.note(f"{x25lines.shown(self.commands.first())} holds {self.held()}")
+        """Tells that a `wait` waits, and what it holds."""
+        held = self.held()
+        self.note(f"{x25lines.shown(self.commands.first())} " + (f"holds {held}" if held else "waits"))
         self._is_told = True
 
     def held(self) -> str:

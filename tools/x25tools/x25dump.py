@@ -18,7 +18,7 @@ their packets are.
               order or again
   --judge     says after a frame which end broke which rule or which manners of the link or the packet layer with it, and what
               may be noted (`x25 judge`), of each connection by itself; --k is the window. Of packets without frames (XOT, LLC)
-              the rules of the packet layer alone; not of lines of `x25 decode`. At the end it says how many frames and packets
+              the rules of the packet layer alone; not of lines of `x25 decode`. At the end, or at CTRL-C, it says how many frames and packets
               there were, and how many of them were judged
   --at        says where a capture was made: `dte` or `dce`, in front of that end, so that of the other one's frames those are
               missing that the line lost; or on the `line`, and it has all frames. At `either`, or where nothing is said, a capture
@@ -58,6 +58,7 @@ from x25tools import captures, decoding, judging, pcap2x25, x25lines, x25names
 from x25tools.ahead import ahead
 from x25tools.messages import KEPT, Message, Messages, all_dumped
 from x25tools.pcap2x25 import Connection
+from x25tools.places import within
 from x25tools.x25lines import BadInput
 
 RED, BLUE, GREEN, GREY, PLAIN = "\x1b[31m", "\x1b[34m", "\x1b[32m", "\x1b[90m", "\x1b[0m"
@@ -102,10 +103,15 @@ class Reader:
 
     def shown(self, file: x25lines.Readable) -> Iterator[list[Thing]]:
         """Whatever the file holds."""
+        channel = self._options.channel
+        is_there = channel is None
         for block in self._captured(file) if captures.is_capture(file) else self._lines(file):
+            is_there = is_there or any(channel_of(text) == channel for _, _, text in block)
             if self._options.judge and any(judging.is_faulty(text, self._options) for _, _, text in block):
                 self.status = 1
             yield block
+        if not is_there:
+            self._say(f"nothing was found on channel {channel}")
 
     def _captured(self, file: x25lines.Readable) -> Iterator[list[Thing]]:
         for found in ahead(self._found(file)):
@@ -432,7 +438,7 @@ def words() -> argparse.Namespace:
     """The words after the script's name."""
     parser = argparse.ArgumentParser(description=__doc__, formatter_class=argparse.RawDescriptionHelpFormatter)
     x25lines.add_input(parser, "the capture or the trace")
-    parser.add_argument("--channel", type=int, metavar="N", help="show this logical channel alone")
+    parser.add_argument("--channel", type=within(int, 0, 4095), metavar="N", help="show this logical channel alone")
     which = parser.add_mutually_exclusive_group()
     which.add_argument("--messages", action="store_true", help="show messages, not frames")
     which.add_argument("--stats", action="store_true", help="show numbers at the end, not frames")
@@ -445,7 +451,10 @@ def words() -> argparse.Namespace:
     pcap2x25.add_capture_words(parser)
     judging.add_words(parser)
     decoding.add_program(parser)
-    return parser.parse_args()
+    options = parser.parse_args()
+    if not options.judge and (options.at or options.manners or options.strict):
+        parser.error("--at, --manners and --strict are for --judge")
+    return options
 
 
 def reading(options: argparse.Namespace) -> list[str]:
@@ -478,10 +487,10 @@ def main() -> int:
         view: Lines | Joined | Statistic = Joined(paint, options.channel) if options.messages else Statistic() if options.stats else Lines(paint, options.fold)
         if options.channel is not None and not options.messages:
             blocks = ([it for it in block if channel_of(it[2]) == options.channel] for block in blocks)
-        bad: Exception | None = None
+        bad: BaseException | None = None
         try:
             show(view, blocks, sys.stdout)
-        except (BadInput, EOFError, zlib.error) as error:
+        except (BadInput, EOFError, zlib.error, KeyboardInterrupt) as error:
             bad = error
         counts = list(decoder.counts()) if isinstance(decoder, judging.Judge) else []
     for number, line in counts:

@@ -199,15 +199,18 @@ def add_input(parser: argparse.ArgumentParser, what: str) -> None:
 
 
 def warn(text: object) -> None:
-    """Says something on standard error, after the script's name."""
-    print(f"{os.path.basename(sys.argv[0])}: {text}", file=sys.stderr)
+    """Says something on standard error, after the script's name, by one write: lines of two processes stay apart."""
+    sys.stderr.write(f"{os.path.basename(sys.argv[0])}: {text}\n")
 
 
 def run(main: Callable[[], int]) -> NoReturn:
     """Runs a script's `main` and ends with the status that it answers; bad input is told in a line and ends with 2.
 
-    Each line is written as soon as it is known, also on a pipe.
+    Each line is written as soon as it is known, also on a pipe. A standard file that is closed is an empty one, so that no other file has its number.
     """
+    for name, mode in ("stdin", "r"), ("stdout", "w"), ("stderr", "w"):
+        if getattr(sys, name) is None:
+            setattr(sys, name, open(os.devnull, mode))
     if isinstance(sys.stdout, io.TextIOWrapper):
         sys.stdout.reconfigure(line_buffering=True)
     try:
@@ -228,6 +231,6 @@ def run(main: Callable[[], int]) -> NoReturn:
     except KeyboardInterrupt:
         status = 130
     except OSError as error:
-        warn(error.strerror or error)
+        warn(f"{error.filename}: {error.strerror}" if error.filename else error.strerror or error)
         status = 2
     sys.exit(status)

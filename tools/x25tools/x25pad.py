@@ -16,7 +16,7 @@ Where input or output is no terminal, lines of the input are what would be typed
 wait for a call that comes. The output is what the host sends, with line feeds; all else goes to standard error. At the end of the input the
 call is cleared once nothing has come for --quiet seconds, and the script ends.
 
-Exit status: 0; 1 where a call wasn't taken, a command was none, or the line ended; 2 for bad words; 143 after SIGTERM.
+Exit status: 0; 1 where a call wasn't taken, a command was none, or the line ended; 2 for bad words; 143 after SIGTERM, 129 after SIGHUP.
 """
 
 import argparse
@@ -557,7 +557,9 @@ def main() -> int:
     if options.end == "dte" and not any(word.startswith("--xot") for word in others):
         pad.asks += b"dte connect\n"
     command = [sys.executable, os.path.join(decoding.FOLDER, "bridge.py"), options.end, "--long", *others]
-    signal.signal(signal.SIGTERM, lambda *_: sys.exit(143))
+    for number in (signal.SIGTERM, signal.SIGHUP):
+        if signal.getsignal(number) != signal.SIG_IGN:
+            signal.signal(number, lambda came, _: sys.exit(128 + came))
     # In a session of its own CTRL-C doesn't end it first.
     with subprocess.Popen(command, stdin=subprocess.PIPE, stdout=subprocess.PIPE, stderr=subprocess.STDOUT, start_new_session=True) as child:
         try:

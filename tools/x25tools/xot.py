@@ -19,6 +19,7 @@ TCP = 6
 SYN, ACK = 2, 16
 WITHIN = "segment that begins within a packet, after a gap or where the capture begins within a connection"
 FRAGMENT = "fragment of IP whose packet wasn't captured whole"
+TOO_LATE = "segment that stands after its acknowledgement: the capture isn't in order"
 # How much is held of a connection while a segment is missing, and of how many connections.
 MOST_SEGMENTS, MOST_STREAMS = 256, 4096
 SEQUENCES = 1 << 32
@@ -45,18 +46,20 @@ def segment(carried: ip.Carried) -> tuple[Ends, int, int, int, bytes, int] | Non
 class Stream:
     """One direction of a connection, between two ends: puts segments in order, and cuts what comes into packets.
 
-    The DTE is the end that opened the connection to the port of XOT. Where a capture begins within a connection, and after a gap, the first segment
-    that begins with a packet is the first that is read. `opened` is the number of the SYN that opened the connection, where it was seen.
+    Where a capture begins within a connection, and after a gap, the first segment that begins with a packet is the first that is read. `opened` is the
+    number of the SYN that opened the connection, where it was seen.
     """
 
-    def __init__(self, ends: Ends, port: int, opened: int | None, notes: Counter[str]) -> None:
+    def __init__(self, ends: Ends, is_of_dte: bool, opened: int | None, notes: Counter[str]) -> None:
         source, target = ends[::2], ends[1::2]
-        self.is_of_dte = target[1] == port
+        self.is_of_dte = is_of_dte
         client, server = (source, target) if self.is_of_dte else (target, source)
         self.name = f"XOT {_end(client)} > {_end(server)}"
         self.opened = opened
         self._notes = notes
         self._next: int | None = None
+        # Where the last octets stood that were missing, and how many these were.
+        self._missed = 0, 0
         self._ahead: dict[int, bytes] = {}
         self._held = b""
         self._is_lost = self._is_in_step = False
@@ -70,6 +73,8 @@ class Stream:
             if self._next is None:
                 self._next, self._is_in_step = sequence, True
         if octets:
+            if (sequence - self._missed[0]) % SEQUENCES < self._missed[1]:
+                self._notes[TOO_LATE] += 1
             if self._next is None:
                 self._next = sequence
             if self._next == sequence and not self._ahead:
@@ -126,10 +131,11 @@ class Stream:
 
     def _skip(self, sequence: int) -> list[bytes | None]:
         """Goes on there, and answers None; what was held ends within a packet, and so is dropped."""
+        assert self._next is not None
         self._notes["gap in a connection, octets that weren't captured"] += 1
         self._held = b""
         self._is_lost = self._is_in_step = False
-        self._next = sequence
+        self._missed, self._next = (self._next, (sequence - self._next) % SEQUENCES), sequence
         return [None]
 
     def _packets(self) -> list[bytes | None]:
@@ -209,12 +215,19 @@ class Xot:
         ended = self._reopen(ends, back_ends, opened) if flags & SYN else []
         stream, back, closed = self._streams.get(ends), self._streams.get(back_ends), []
         if stream is None:
-            stream = self._streams[ends] = Stream(ends, self._port, back.opened if back else opened, self._notes)
+            is_of_dte = not back.is_of_dte if back else self._is_of_dte(ends, flags)
+            stream = self._streams[ends] = Stream(ends, is_of_dte, back.opened if back else opened, self._notes)
             if len(self._streams) > MOST_STREAMS:
                 closed = self._close(next(iter(self._streams)))
         # What its sender took of the other way came before this.
         taken = [(back, back.taken(wanted))] if back and flags & ACK else []
         return [*ended, *taken, (stream, stream.take(sequence, flags, octets)), *closed]
+
+    def _is_of_dte(self, ends: Ends, flags: int) -> bool:
+        """Whether the DTE sent the first segment that is seen of a connection. It opened the connection to the port; where both ends have that, and no SYN
+        tells, the first one that is seen is taken for it."""
+        answers = flags & SYN and flags & ACK
+        return ends[3] == self._port and not (ends[2] == self._port and answers)
 
     def _reopen(self, ends: Ends, back_ends: Ends, opened: int | None) -> list[tuple[Stream, list[bytes | None]]]:
         """Ends the connection of these ends where a SYN opens another one; answers what it still holds."""
