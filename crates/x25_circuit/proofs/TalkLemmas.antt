@@ -1,6 +1,6 @@
 -- What a circuit's variables stand for after a small change.
 use Rattle.std.proofs.Props.{props}
-use Rattle.std.proofs.Common.{◌≡◌, ℕ, ◌+◌, ◌≤◌, Bool, true, false, IsTrue, if◌then◌else◌, List, [], ◌++◌, drop, length, refl, sym, ap, subst, ◌∙◌, ◌==◌, ◌%◌}
+use Rattle.std.proofs.Common.{◌≡◌, ℕ, ◌+◌, ◌≤◌, Bool, true, false, IsTrue, not, if◌then◌else◌, List, [], ◌++◌, drop, length, refl, sym, ap, subst, ◌∙◌, ◌==◌, ◌%◌}
 use Rattle.std.proofs.Common.{nat_le, Option, Some, None}
 use Rattle.x25_window.specs.code.Modulo.{resolved}
 use Rattle.x25_window.specs.Receiver.{FitsTaken}
@@ -15,13 +15,14 @@ use Rattle.x25_circuit.specs.Message.{Piece, piece_of, piece_ground, ground_of, 
 use Rattle.x25_circuit.specs.code.PartialMessage.{ShownPartial}
 use Rattle.x25_circuit.specs.code.CallMemory.{has_memory}
 use Rattle.x25_circuit.specs.Queue.{waiting}
-use Rattle.x25_circuit.specs.Hearing.{data_ground, number_ground}
+use Rattle.x25_circuit.specs.Hearing.{data_ground}
+use Rattle.std.proofs.lemmas.Bool.{eqb-true}
 use Rattle.std.proofs.lemmas.List.{length_push}
 use Rattle.x25_circuit.proofs.MessageLemmas.{wholes_all, joining_push}
 use Rattle.x25_circuit.specs.Circuit.{CircuitSettings, Talk, Circuit, outgoing}
 use Rattle.x25_circuit.specs.code.Changes.{with_acked, with_taken, with_rest, with_peer, with_own}
 use Rattle.x25_circuit.specs.code.FitsNumbers.{FitsNumbers}
-use Rattle.x25_circuit.specs.code.Fits.{FitsTalk, first_ground}
+use Rattle.x25_circuit.specs.code.Fits.{FitsTalk}
 use Rattle.x25_circuit.specs.code.FitsCircuit.{FitsCircuit}
 
 pub with_transfer : (c : CircuitSettings) (v : code.Circuit) (x : Circuit) (u : Transfer) (made : has_memory v.state ≡ true → u.partial.made ≡ true) (t : Talk)
@@ -163,24 +164,29 @@ waits_are size v t fits = ap wholes fits.rest ∙ wholes_all size (waiting v.que
 
 -- ---- the grounds of a data packet
 
-pub same_ground : (longest size most least ps : ℕ) (t : Talk) (marks : Marks) (m : Bool) (user : List ℕ) → most ≡ longest → least ≡ size
-    → (if ps == length t.taken % 8 then ground_of most least (joining no_part t.taken) (length user) marks.q else Some 1)
-    ≡ (if ps == length t.taken % 8 then piece_ground longest size (joining no_part t.taken) (piece_of marks m user) else Some 1)
-same_ground longest size most least ps t marks m user f e = rw (f, e, sym (piece_ground_of longest size (joining no_part t.taken) marks m user)) refl
+is_so : (b : Bool) → false ≡ not b → b ≡ true
+is_so true e = refl
+is_so false e = e
 
-first_of_two : (b : Bool) (ground : Option ℕ) (n : ℕ) → ground ≡ Some n → (if b then ground else Some 2) ≡ Some (if b then n else 2)
-first_of_two true ground n e = e
-first_of_two false ground n e = refl
+is_no : (b : Bool) → true ≡ not b → b ≡ false
+is_no true e = e
+is_no false e = refl
 
-pub ground_refused : (longest size : ℕ) (t : Talk) (ps pr : ℕ) (piece : Piece) (n : ℕ)
-    → (if ps == length t.taken % 8 then piece_ground longest size (joining no_part t.taken) piece else Some 1) ≡ Some n
-    → data_ground longest size t ps pr piece ≡ Some (first_ground t pr n)
-ground_refused longest size t ps pr piece n e = first_of_two (nat_le (resolved t.acked pr) (length t.sent)) _ n e
+pub same_number : (m n : ℕ) → false ≡ not (m == n) → m ≡ n
+same_number m n e = eqb-true m n (is_so (m == n) e)
 
-pub ground_passed : (longest size : ℕ) (t : Talk) (ps pr : ℕ) (piece : Piece)
-    → (if ps == length t.taken % 8 then piece_ground longest size (joining no_part t.taken) piece else Some 1) ≡ None
-    → data_ground longest size t ps pr piece ≡ number_ground t pr
-ground_passed longest size t ps pr piece e = ap (λ (g : Option ℕ). if nat_le (resolved t.acked pr) (length t.sent) then g else Some 2) e
+-- where its P(R) is valid, and its P(S) isn't the one wanted
+pub number_refused : (longest size ps pr wanted : ℕ) (t : Talk) (piece : Piece) → nat_le (resolved t.acked pr) (length t.sent) ≡ true
+    → wanted ≡ length t.taken % 8 → true ≡ not (ps == wanted) → data_ground longest size t ps pr piece ≡ Some 1
+number_refused longest size ps pr wanted t piece valid number differs = rw (valid, sym number, is_no (ps == wanted) differs) refl
+
+-- where both are
+pub data_ground_is : (longest size most least ps pr wanted : ℕ) (t : Talk) (marks : Marks) (m : Bool) (user : List ℕ) (j : Partial) (ground : Option ℕ)
+    → most ≡ longest → least ≡ size → nat_le (resolved t.acked pr) (length t.sent) ≡ true → wanted ≡ length t.taken % 8 → false ≡ not (ps == wanted)
+    → j ≡ joining no_part t.taken → ground ≡ ground_of most least j (length user) marks.q → data_ground longest size t ps pr (piece_of marks m user) ≡ ground
+data_ground_is longest size most least ps pr wanted t marks m user j ground f e valid number same part is =
+    let alike : ground_of most least j (length user) marks.q ≡ ground_of longest size (joining no_part t.taken) (length user) marks.q = rw (f, e, part) refl in
+    rw (valid, sym number, is_so (ps == wanted) same) (piece_ground_of longest size (joining no_part t.taken) marks m user ∙ sym alike ∙ sym is)
 
 -- no facilities are a facility field
 pub no_field : IsFacilityField []

@@ -113,11 +113,7 @@ impl Circuit {
         ensures size { (c : CircuitSettings) (x : Channel) → FitsCircuit c self.now x
             → result.size ≡ (outgoing x).size }
     {
-        if self.calls {
-            self.flow.calling()
-        } else {
-            self.flow.called()
-        }
+        self.flow.terms(self.calls)
     }
 
     /// Of the data packets that this end takes.
@@ -127,11 +123,7 @@ impl Circuit {
         ensures size { (c : CircuitSettings) (x : Channel) → FitsCircuit c self.now x
             → result.size ≡ (incoming x).size }
     {
-        if self.calls {
-            self.flow.called()
-        } else {
-            self.flow.calling()
-        }
+        self.flow.terms(!self.calls)
     }
 
     /// Whether it is in p1.

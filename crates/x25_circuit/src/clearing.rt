@@ -1,13 +1,13 @@
 //! Clears and resets: those that errors of procedure cause, and those that are done. ITU-T X.25 (10/96), sections 4.1.7
 //! to
 //! 4.1.9, 4.4.3 and Annex C.
-ghost use Rattle.std.specs.Prelude.{◌≡◌, ◌≢◌, ℕ, suc, ◌^◌, ◌-◌, ◌<◌, true, None, Some, [], ◌∷◌};
+ghost use Rattle.std.specs.Prelude.{◌≡◌, ℕ, suc, ◌^◌, ◌-◌, ◌<◌, true, None, Some, [], ◌∷◌};
 ghost use Rattle.x25_circuit.specs.Circuit.{CircuitSettings};
 ghost use Rattle.x25_circuit.specs.Circuit.{Circuit as Channel};
 ghost use Rattle.x25_circuit.specs.Notice.{reset_done};
 ghost use Rattle.x25_circuit.specs.Hearing.{cause_at, diagnostic_in, clears_for, resets_for, unexpected, clears_to};
 ghost use Rattle.x25_circuit.specs.Hearing.{resets_to, row_clear, row_clear_conf, row_reset, row_reset_conf};
-ghost use Rattle.x25_circuit.specs.Hearing.{row_undecoded, undecoded, cause_of};
+ghost use Rattle.x25_circuit.specs.Hearing.{undecoded, cause_of};
 ghost use Rattle.x25_circuit.specs.code.FitsCircuit.{FitsCircuit, made_of, clears_of, resets_of};
 ghost use Rattle.x25_circuit.specs.code.Replies.{Says, IsSendable, RepliesBy, handed_over, plain_owed};
 
@@ -195,23 +195,15 @@ impl Circuit {
         }
     }
 
-    // Octets that spell no packet.
-    fn hear_undecoded<'a>(&mut self, error: PacketError) -> Reply<'a>
-        ensures { RepliesBy self.old self.new result (λ c x. row_undecoded c x self.old.state error) }
+    /// Takes octets that came for this channel and spell no packet, by the error that they have, 20 to 26. It takes no
+    /// memory.
+    pub fn undecoded<'a>(&mut self, error: PacketError) -> Reply<'a>
+        ensures { RepliesBy self.old self.new result (λ c x. undecoded c x error) }
     {
         match self.state {
             State::Open => self.reset_for(error.diagnostic()),
             State::Resetting | State::Clearing => Reply::nothing(),
             _ => self.clear_for(cause_of(error), error.diagnostic()),
         }
-    }
-
-    /// Takes octets that came for this channel and spell no packet, by the error that they have, 20 to 26. It takes no
-    /// memory.
-    pub fn undecoded<'a>(&mut self, error: PacketError) -> Reply<'a>
-        requires { error ≢ PacketError.NoMemory }
-        ensures { RepliesBy self.old self.new result (λ c x. undecoded c x error) }
-    {
-        self.hear_undecoded(error)
     }
 }

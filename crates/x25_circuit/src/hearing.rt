@@ -1,19 +1,17 @@
 //! Packets that come. ITU-T X.25 (10/96), sections 4.3.7 and 4.4.1, and Annex C.
-ghost use Rattle.std.specs.Prelude.{◌≡◌, ℕ, ◌+◌, ◌-◌, ◌^◌, ◌<◌, ◌≤◌, length, [], ◌∷◌, Some, None, true, false};
+ghost use Rattle.std.specs.Prelude.{◌≡◌, ℕ, ◌-◌, ◌^◌, ◌<◌, length, Some, None, true, false};
 ghost use Rattle.x25_packet.specs.Packet.{plain, user_data};
 ghost use Rattle.x25_packet.specs.Spelling.{HasChannel, IsInRange};
 ghost use Rattle.x25_circuit.specs.Circuit.{CircuitSettings};
 ghost use Rattle.x25_circuit.specs.Circuit.{Circuit as Channel};
-ghost use Rattle.x25_circuit.specs.Message.{piece_of};
-ghost use Rattle.x25_circuit.specs.code.Fits.{first_ground};
-ghost use Rattle.x25_circuit.specs.Hearing.{resets_for, unless, number_ground, hears_status, confirms, takes, row_open};
+ghost use Rattle.x25_circuit.specs.Hearing.{unless, number_ground, hears_status, confirms, row_open};
 ghost use Rattle.x25_circuit.specs.Hearing.{row_data, status, answers};
 ghost use Rattle.x25_circuit.specs.code.FitsCircuit.{FitsCircuit, made_of, clears_of, resets_of};
-ghost use Rattle.x25_circuit.specs.code.Replies.{Says, IsSendable, RepliesBy, RepliesWith, packet_owed, plain_owed};
+ghost use Rattle.x25_circuit.specs.code.Replies.{RepliesBy, RepliesWith, packet_owed};
 ghost use Rattle.x25_circuit.specs.code.PartialMessage.{spares};
 
 use crate::circuit::Circuit;
-use crate::codes::{INVALID_PR, NO_INTERRUPT};
+use crate::codes::{INVALID_PR, INVALID_PS, NO_INTERRUPT};
 use crate::notice::{Notice, Reply};
 use crate::octets::Octets;
 use crate::owed::Owed;
@@ -61,47 +59,6 @@ impl Circuit {
         Reply::tells(Notice::InterruptDone)
     }
 
-    // A data packet that is refused, whatever its P(R): that is the first ground.
-    fn refuse<'a>(&mut self, pr: Seq, diagnostic: u8) -> Reply<'a>
-        requires { made_of self.old ≡ true }
-        ensures { RepliesBy self.old self.new result
-            (λ c x. resets_for c x (first_ground x.talk pr.number diagnostic)) }
-    {
-        if !self.transfer.ack(pr) {
-            return self.reset_for(INVALID_PR);
-        }
-        self.reset_for(diagnostic)
-    }
-
-    // A data packet that isn't refused, but perhaps for its P(R).
-    fn join<'a>(
-        &mut self,
-        marks: Marks,
-        m: bool,
-        ps: Seq,
-        pr: Seq,
-        user: &[u8],
-        spare: &mut Option<Octets>,
-    ) -> Reply<'a>
-        requires made { made_of self.old ≡ true }
-        requires wanted { ps.number ≡ self.old.transfer.receiver.number }
-        requires spare { spares spare.old ≡ 1 }
-        requires short { length self.old.transfer.partial.part.user + length user.now
-            ≤ self.old.transfer.partial.longest }
-        ensures { RepliesWith self.old self.new result (spares spare.new)
-            (λ c x. unless c x (number_ground x.talk pr.number)
-            (takes x x.talk pr.number (piece_of marks m user.now))) }
-    {
-        if !self.transfer.ack(pr) {
-            return self.reset_for(INVALID_PR);
-        }
-        self.transfer.receiver.accept(ps);
-        match self.transfer.partial.join(marks, m, user, spare) {
-            Some(user) => Reply::both(self.status(), Notice::Delivered { marks, user }),
-            None => Reply::owes(self.status()),
-        }
-    }
-
     // DATA.
     fn hear_data<'a>(
         &mut self,
@@ -117,12 +74,20 @@ impl Circuit {
         ensures { RepliesWith self.old self.new result (spares spare.new)
             (λ c x. row_open c x x.talk (user_data 1 marks m ps.number pr.number user.now)) }
     {
-        match self
-            .transfer
-            .ground(self.incoming().size, ps, marks.q, user.len())
-        {
-            Some(diagnostic) => self.refuse(pr, diagnostic),
-            None => self.join(marks, m, ps, pr, user, spare),
+        let size = self.incoming().size;
+        if !self.transfer.ack(pr) {
+            return self.reset_for(INVALID_PR);
+        }
+        if ps != self.transfer.receiver.wanted() {
+            return self.reset_for(INVALID_PS);
+        }
+        if let Some(diagnostic) = self.transfer.partial.ground(size, user.len(), marks.q) {
+            return self.reset_for(diagnostic);
+        }
+        self.transfer.receiver.accept(ps);
+        match self.transfer.partial.join(marks, m, user, spare) {
+            Some(user) => Reply::both(self.status(), Notice::Delivered { marks, user }),
+            None => Reply::owes(self.status()),
         }
     }
 

@@ -1,4 +1,4 @@
-ghost use Rattle.std.specs.Prelude.{◌≡◌, ◌+◌, ◌≤◌, length, true, false, IfNone, OnOk, OnErr};
+ghost use Rattle.std.specs.Prelude.{◌≡◌, ◌+◌, ◌++◌, ◌≤◌, length, true, false, IfNone, OnOk, OnErr};
 
 use crate::codes::{MIXED_QUALIFIERS, PACKET_TOO_LONG};
 use crate::octets::Octets;
@@ -117,18 +117,19 @@ impl PartialMessage {
         let Some(octets) = &mut self.octets else {
             unreachable!();
         };
-        append_octets(octets, user);
         if m {
+            append_octets(octets, user);
             self.begun = Some(marks.q);
             return None;
         }
-        Some(self.finish(spare))
+        Some(self.finish(user, spare))
     }
 
-    // All octets that have come, in the spare memory.
-    fn finish(&mut self, spare: &mut Option<Octets>) -> Octets
-        requires { spares spare.old ≡ 1 }
-        ensures octets { result ≡ self.old.part.user }
+    // All octets that have come, and these behind them, in the spare memory.
+    fn finish(&mut self, last: &[u8], spare: &mut Option<Octets>) -> Octets
+        requires short { length self.old.part.user + length last.now ≤ 65535 }
+        requires spare { spares spare.old ≡ 1 }
+        ensures octets { result ≡ self.old.part.user ++ last.now }
         ensures part { self.new.part ≡ no_part }
         ensures made { self.new.made ≡ self.old.made }
         ensures longest { self.new.longest ≡ self.old.longest }
@@ -138,6 +139,7 @@ impl PartialMessage {
             unreachable!();
         };
         user.set(self.as_slice());
+        user.append(last);
         self.clear();
         user
     }

@@ -1,4 +1,4 @@
-ghost use Rattle.std.specs.Prelude.{◌≡◌, ◌≤◌, [], length, IfOk};
+ghost use Rattle.std.specs.Prelude.{◌≡◌, ◌+◌, ◌++◌, ◌≤◌, [], length, IfOk};
 
 use std::alloc::{AllocError, Global};
 use std::marker::Model;
@@ -48,5 +48,13 @@ impl Octets {
     {
         self.octets.clear();
         append_octets(&mut self.octets, octets);
+    }
+
+    /// These octets, behind those that there are. It takes no memory.
+    pub(crate) fn append(&mut self, more: &[u8])
+        requires { length self.old + length more.now ≤ 65535 }
+        ensures { self.new ≡ self.old ++ more.now }
+    {
+        append_octets(&mut self.octets, more);
     }
 }

@@ -1,5 +1,5 @@
 //! Packet sizes and windows: what is proposed, answered and in force. ITU-T X.25 (10/96), sections 6.12 and 7.2.2.1.
-ghost use Rattle.std.specs.Prelude.{◌≡◌, ◌≤◌, true, false, IfSome, IfNone};
+ghost use Rattle.std.specs.Prelude.{◌≡◌, true, false, IfSome, IfNone, if◌then◌else◌};
 ghost use Rattle.x25_circuit.specs.Params.{default_params, may_propose, may_answer, is_toward, said_in, said_or};
 ghost use Rattle.x25_circuit.specs.Params.{sizes_of, windows_of, params_of, calling_terms, called_terms};
 ghost use Rattle.x25_packet.specs.Facilities.{is_within};
@@ -151,20 +151,23 @@ impl FlowControl {
         }
     }
 
-    /// Of the data packets that the called end sends.
-    pub fn called(self) -> Terms
-        ensures window { result.window ≡ (called_terms self.params).window }
-        ensures size { result.size ≡ (called_terms self.params).size }
+    /// Of the data packets that the calling end sends, or those of the called one.
+    pub fn terms(self, calling: bool) -> Terms
+        ensures window { result.window ≡ (if calling
+            then calling_terms self.params else called_terms self.params).window }
+        ensures size { result.size ≡ (if calling then calling_terms self.params else called_terms self.params).size }
     {
-        Terms::of(self.params.win_called, self.params.size_called)
-    }
-
-    /// Of the data packets that the calling end sends.
-    pub fn calling(self) -> Terms
-        ensures window { result.window ≡ (calling_terms self.params).window }
-        ensures size { result.size ≡ (calling_terms self.params).size }
-    {
-        Terms::of(self.params.win_calling, self.params.size_calling)
+        let params = self.params;
+        if calling {
+            return Terms {
+                window: params.win_calling,
+                size: 1 << params.size_calling,
+            };
+        }
+        Terms {
+            window: params.win_called,
+            size: 1 << params.size_called,
+        }
     }
 }
 

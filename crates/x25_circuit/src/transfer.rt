@@ -1,17 +1,15 @@
-ghost use Rattle.std.specs.Prelude.{◌≡◌, ℕ, ◌+◌, ◌%◌, ◌<◌, ◌≤◌, ◌==◌, nat_le, nat_lt, length, drop, List, ◌∷◌, []};
+ghost use Rattle.std.specs.Prelude.{◌≡◌, ℕ, ◌+◌, ◌%◌, ◌<◌, ◌≤◌, nat_le, length, drop, List, ◌∷◌, []};
 ghost use Rattle.std.specs.Prelude.{◌++◌, true};
-ghost use Rattle.std.specs.Prelude.{false, IfOk, IfErr, OnOk, OnErr, OnSome, IfSome, IfNone, Bool};
+ghost use Rattle.std.specs.Prelude.{false, IfOk, IfErr, OnOk, OnErr, IfSome, IfNone};
 ghost use Rattle.std.specs.Prelude.{Some, None, if◌then◌else◌, max, vec_capacity};
 ghost use Rattle.x25_window.specs.code.Modulo.{resolved};
 ghost use Rattle.x25_circuit.specs.code.FitsNumbers.{FitsNumbers};
-ghost use Rattle.x25_circuit.specs.Message.{Piece, no_part, joining, piece_ground, ground_of, cut};
+ghost use Rattle.x25_circuit.specs.Message.{Piece, cut};
 ghost use Rattle.x25_circuit.specs.Message.{asks as asks_of, asked_in};
 ghost use Rattle.x25_circuit.specs.Circuit.{Talk, silent};
 ghost use Rattle.x25_circuit.specs.Queue.{waiting};
-ghost use Rattle.x25_circuit.specs.code.Changes.{with_acked, with_rest, with_interrupt, with_peer};
-ghost use Rattle.x25_circuit.specs.code.Changes.{with_own, with_sent};
+ghost use Rattle.x25_circuit.specs.code.Changes.{with_acked, with_rest};
 
-use crate::codes::INVALID_PS;
 use crate::error::CircuitError;
 use crate::message::PartialMessage;
 use crate::queue::Queue;
@@ -153,21 +151,6 @@ impl Transfer {
         let asked = acknowledge(&mut self.sender, count);
         self.unconfirmed = self.unconfirmed.saturating_sub(asked);
         true
-    }
-
-    /// The diagnostic for which a data packet is refused, whatever its P(R), if any: 1, 39 or 83.
-    pub fn ground(&self, size: usize, ps: Seq, q: bool, count: usize) -> Option<u8>
-        ensures value { (out : ℕ) (t : Talk) → FitsTalk out self.now t
-            → result ≡ (if ps.number == length t.taken % 8
-            then ground_of self.now.partial.longest size (joining no_part t.taken) count q else Some 1) }
-        ensures wanted { IfNone result (ps.number ≡ self.now.receiver.number) }
-        ensures short { IfNone result (length self.now.partial.part.user + count ≤ self.now.partial.longest) }
-        ensures fits { IfNone result (count ≤ size) }
-    {
-        if ps != self.receiver.wanted() {
-            return Some(INVALID_PS);
-        }
-        self.partial.ground(size, count, q)
     }
 
     /// Lets a copy of a message wait. Err: no memory; all is as it was then.

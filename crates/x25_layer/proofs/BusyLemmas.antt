@@ -1,14 +1,14 @@
--- Channels in rising order.
-use Rattle.std.proofs.Common.{◌≡◌, ◌⊎◌, inl, inr, ℕ, zero, suc, ◌+◌, ◌-◌, ◌<◌, ◌≤◌, List, length, Result, Ok, Err, MatchResult, Bool, true, false}
+-- The busy channels.
+use Rattle.std.proofs.Common.{◌≡◌, inl, inr, ℕ, zero, suc, ◌+◌, ◌-◌, ◌<◌, ◌≤◌, List, length, Bool, true, false}
 use Rattle.std.proofs.Common.{if◌then◌else◌, get_or, refl, sym, ap, subst, ◌∙◌, arith}
-use Rattle.std.specs.Prelude.{IsOk}
-use Rattle.std.specs.Result.{is_ok, is_err}
-use Rattle.std.specs.List.{insert, remove}
-use Rattle.std.specs.List.Sorted.{IsBinarySearchResult}
-use Rattle.std.specs.Ordering.{nat_cmp}
-use Rattle.std.proofs.lemmas.List.Sorted.{searched}
-use Rattle.std.proofs.lemmas.List.Edits.{length-insert, get_or-insert_below, get_or-insert_at, get_or-insert_above, length-remove, get_or-remove_below}
-use Rattle.std.proofs.lemmas.List.Edits.{get_or-remove_above}
+use Rattle.std.specs.Prelude.{◌*◌, ◌/◌, ◌%◌, ◌^◌, set, bit_and, bit_or}
+use Rattle.std.specs.Int.{w64, bit_at, bit_not, trailing_zeros}
+use Rattle.std.proofs.lemmas.Bool.{cases_eq, cases_lt, false_from_ne_true, true_from_ne_false}
+use Rattle.std.proofs.lemmas.Grind.{get_or_default_zero}
+use Rattle.std.proofs.lemmas.List.{get_or-set_same, get_or-set_other, get_or_past}
+use Rattle.std.proofs.lemmas.Nat.{pow_below, and_le_l, and_le_r, shr-shr}
+use Rattle.std.proofs.lemmas.Nat.Bits.{bit_at-zero, bit_at-suc, bit_at-lt, bit_at_or, bit_at_and, bit_at_not, bit_at-pow_same, bit_at-pow_other}
+use Rattle.std.proofs.lemmas.Nat.Bits.{bit_at_mask_below, bit_at_mask_inside, ones_shl, bit_at-trailing_zeros}
 use Rattle.x25_circuit.specs.declared.circuit.Circuit as circuit_code
 use Rattle.x25_circuit.specs.Awaits.{awaited_in, is_any}
 use Rattle.x25_circuit.specs.Circuit.{Circuit, waits}
@@ -17,209 +17,259 @@ use Rattle.x25_circuit.specs.declared.awaits.Awaits.TheVariants.{Nothing, Accept
 use Rattle.x25_layer.specs.declared.layer.Layer as code
 use Rattle.x25_layer.specs.Layer.{LayerSettings, Layer, is_channel}
 use Rattle.x25_layer.specs.code.FitsLayer.{FitsCircuits, FitsLayer, awaited_at, waits_up_to, awaited_up_to}
-use Rattle.x25_layer.specs.code.Idle.{AreRising, IsOutside, IdleBeside}
+use Rattle.x25_layer.specs.code.Idle.{IsOutside, IdleBeside}
 use Rattle.x25_layer.proofs.FitLemmas.{there}
 use Rattle.x25_layer.proofs.CallLemmas.{configured}
 
--- where a place lies beside another
-pub place : (k at : ℕ) → (k < at) ⊎ ((k ≡ at) ⊎ (at < k))
-place zero zero = inr (inl refl)
-place zero (suc at) = inl (omega arith)
-place (suc k) zero = inr (inr (omega arith))
-place (suc k) (suc at) = up (place k at)
+-- ---- a bit for each channel, in words of 64
+
+abbrev bit_of : List ℕ → ℕ → ℕ
+bit_of words k = bit_at (get_or words (k / 64) 0) (k % 64)
+
+abbrev mask : Bool → ℕ → ℕ
+mask b h = if b then 2 ^ (h % 64) else 0
+
+mask_other : (b : Bool) (h i : ℕ) → (i ≡ h % 64 → ⊥) → bit_at (mask b h) i ≡ 0
+mask_other true h i differs = bit_at-pow_other (h % 64) i differs
+mask_other false h i differs = bit_at-zero i
+
+mask_fits : (b : Bool) (h : ℕ) → mask b h < 2 ^ 64
+mask_fits true h = pow_below (h % 64) 64 (omega arith)
+mask_fits false h = omega arith
+
+-- a word is written, in which the bit of a channel may have changed
+module _ (n : ℕ) (words : List ℕ) (h at old : ℕ) (places : length words ≡ n / 64 + 1) (most : h ≤ n) (here : at ≡ h / 64) (is : old ≡ get_or words at old) where
+  low : at < length words
+  low = omega (arith, places, most, here)
+
+  was : (k : ℕ) → k / 64 ≡ at → bit_at old (k % 64) ≡ bit_of words k
+  was k on =
+      ap (λ (w : ℕ). bit_at w (k % 64)) (is ∙ get_or_default_zero words at old low) ∙ ap (λ (m : ℕ). bit_at (get_or words m 0) (k % 64)) (sym on)
+
+  becomes : (word k : ℕ) → k / 64 ≡ at → bit_of (set words at word) k ≡ bit_at word (k % 64)
+  becomes word k on =
+      ap (λ (m : ℕ). bit_at (get_or (set words at word) m 0) (k % 64)) on ∙ ap (λ (w : ℕ). bit_at w (k % 64)) (get_or-set_same words at word 0 low)
+
+  other : (word : ℕ) → ((i : ℕ) → i < 64 → (i ≡ h % 64 → ⊥) → bit_at word i ≡ bit_at old i) → (k : ℕ) → (k ≡ h → ⊥)
+      → bit_of (set words at word) k ≡ bit_of words k
+  other word same k differs = elim (cases_eq (k / 64) at) [
+    | inl on ↦ becomes word k on ∙ same (k % 64) (omega arith) (λ e. differs (omega (arith, here, on, e))) ∙ was k on
+    | inr off ↦ ap (λ (w : ℕ). bit_at w (k % 64)) (get_or-set_other words at (k / 64) word 0 off)
+  ]
+
+  module _ (b : Bool) (m : ℕ) (one : m ≡ mask b h) where
+    bit_of_mask : (d : Bool) (i : ℕ) → b ≡ d → bit_at m i ≡ bit_at (mask d h) i
+    bit_of_mask d i is = ap (λ (w : ℕ). bit_at w i) (one ∙ ap (λ (e : Bool). mask e h) is)
+
+    -- with its bit, or as it was
+    with_other : (k : ℕ) → (k ≡ h → ⊥) → bit_of (set words at (bit_or old m)) k ≡ bit_of words k
+    with_other = other (bit_or old m)
+        (λ i fits differs. let e = bit_at_or old m i in let f = bit_of_mask b i refl ∙ mask_other b h i differs in omega (arith, e, f))
+
+    pub with_within : ((k : ℕ) → n < k → IsOutside words k) → (k : ℕ) → n < k → IsOutside (set words at (bit_or old m)) k
+    with_within within k more = with_other k (λ e. absurd (omega (arith, most, more, e))) ∙ within k more
+
+    pub with_this : IsOutside (set words at (bit_or old m)) h → b ≡ false
+    with_this out = false_from_ne_true b (λ is.
+        let e = becomes (bit_or old m) h (sym here) in
+        let f = bit_at_or old m (h % 64) in
+        let g = bit_of_mask true (h % 64) is ∙ bit_at-pow_same (h % 64) in
+        omega (arith, out, e, f, g))
+
+    pub with_others : (k : ℕ) → IsOutside (set words at (bit_or old m)) k → IsOutside words k
+    with_others k out = elim (cases_eq k h) [
+      | inl same ↦
+          let on : k / 64 ≡ at = omega (arith, here, same) in
+          let e = becomes (bit_or old m) k on in
+          let f = bit_at_or old m (k % 64) in
+          let g = was k on in
+          omega (arith, out, e, f, g)
+      | inr differs ↦ sym (with_other k differs) ∙ out
+    ]
+
+    -- without it, or as it was
+    left : (i : ℕ) → i < 64 → bit_at m i ≡ 0 → bit_at (bit_and old (bit_not w64 m)) i ≡ bit_at old i
+    left i fits none =
+        let e = bit_at_and old (bit_not w64 m) i in
+        let f = bit_at_not w64 m i (subst (λ (w : ℕ). w < 2 ^ 64) (sym one) (mask_fits b h)) fits in
+        let g = bit_at-lt old i in
+        omega (arith, e, f, g, none)
+
+    pub without_other : (k : ℕ) → (k ≡ h → ⊥) → bit_of (set words at (bit_and old (bit_not w64 m))) k ≡ bit_of words k
+    without_other = other (bit_and old (bit_not w64 m)) (λ i fits differs. left i fits (bit_of_mask b i refl ∙ mask_other b h i differs))
+
+    pub without_within : ((k : ℕ) → n < k → IsOutside words k) → (k : ℕ) → n < k → IsOutside (set words at (bit_and old (bit_not w64 m))) k
+    without_within within k more = without_other k (λ e. absurd (omega (arith, most, more, e))) ∙ within k more
+
+    pub without_this : (IsOutside words h → ⊥) → IsOutside (set words at (bit_and old (bit_not w64 m))) h → b ≡ true
+    without_this listed out = true_from_ne_false b (λ is.
+        let e = becomes (bit_and old (bit_not w64 m)) h (sym here) in
+        let f = left (h % 64) (omega arith) (bit_of_mask false (h % 64) is ∙ bit_at-zero (h % 64)) in
+        listed (sym (e ∙ f ∙ was h (sym here)) ∙ out))
+
+pub word_low : (n : ℕ) (words : List ℕ) (h at : ℕ) → length words ≡ n / 64 + 1 → h ≤ n → at ≡ h / 64 → at < length words
+word_low n words h at places most here = omega (arith, places, most, here)
+
+pub no_mask : (b : Bool) (h m : ℕ) → m ≡ mask b h → b ≡ false → m ≡ 0
+no_mask b h m one is = one ∙ ap (λ (d : Bool). mask d h) is
+
+-- what is known of the words that have none
+module _ (words : List ℕ) (used at old word : ℕ) (low : at < length words) (is : old ≡ get_or words at old)
+    (unused : (i : ℕ) → bit_at used i ≡ 0 → get_or words i 0 ≡ 0) where
+  written : (used₂ : ℕ) → ((i : ℕ) → (i ≡ at → ⊥) → bit_at used₂ i ≡ 0 → bit_at used i ≡ 0) → (bit_at used₂ at ≡ 0 → word ≡ 0)
+      → (i : ℕ) → bit_at used₂ i ≡ 0 → get_or (set words at word) i 0 ≡ 0
+  written used₂ others this i none = elim (cases_eq i at) [
+    | inl same ↦
+        ap (λ (n : ℕ). get_or (set words at word) n 0) same ∙ get_or-set_same words at word 0 low
+        ∙ this (ap (λ (n : ℕ). bit_at used₂ n) (sym same) ∙ none)
+    | inr differs ↦ get_or-set_other words at i word 0 differs ∙ unused i (others i differs none)
+  ]
+
+  was_empty : bit_at used at ≡ 0 → old ≡ 0
+  was_empty none = is ∙ get_or_default_zero words at old low ∙ unused at none
+
+  -- one that has a bit more is used
+  pub with_unused : (b : Bool) (m one : ℕ) → one ≡ (if b then 2 ^ at else 0) → (b ≡ false → m ≡ 0) → word ≡ bit_or old m
+      → (i : ℕ) → bit_at (bit_or used one) i ≡ 0 → get_or (set words at word) i 0 ≡ 0
+  with_unused b m one of none_set word_is = written (bit_or used one)
+      (λ i differs none. let e = bit_at_or used one i in omega (arith, e, none))
+      (λ none.
+      let e = bit_at_or used one at in
+      let off = false_from_ne_true b (λ on.
+      let f = ap (λ (w : ℕ). bit_at w at) (of ∙ ap (λ (d : Bool). if d then 2 ^ at else 0) on) ∙ bit_at-pow_same at in omega (arith, e, f, none)) in
+      word_is ∙ ap (λ (w : ℕ). bit_or w m) (was_empty (omega (arith, e, none))) ∙ ap (λ (w : ℕ). bit_or 0 w) (none_set off))
+
+  -- and one that has fewer is used as before
+  pub without_unused : (m : ℕ) → word ≡ bit_and old m → (i : ℕ) → bit_at used i ≡ 0 → get_or (set words at word) i 0 ≡ 0
+  without_unused m word_is = written used (λ i differs none. none)
+      (λ none. let e = was_empty none in let f = and_le_l old m in omega (arith, e, f, word_is))
+
+-- ---- the next of them
+
+-- what is left of a word behind a channel, which those before have none behind
+pub record IsLeft (words : List ℕ) (h at left : ℕ) : Type 0 where
+  pub near : h < 64 * at + 64
+  pub low : (i : ℕ) → 64 * at + i ≤ h → bit_at left i ≡ 0
+  pub bits : (i : ℕ) → i < 64 → h < 64 * at + i → bit_at left i ≡ bit_at (get_or words at 0) i
+  pub past : (k : ℕ) → h < k → k < 64 * at → IsOutside words k
+
+pub begins_fits : (word by : ℕ) → bit_and word ((2 ^ 64 - 1) * 2 ^ by % 2 ^ 64) < 2 ^ 64
+begins_fits word by = let e = and_le_r word ((2 ^ 64 - 1) * 2 ^ by % 2 ^ 64) in omega (arith, e)
+
+pub begins : (words : List ℕ) (h at by word : ℕ) → at ≡ (h + 1) / 64 → by ≡ (h + 1) % 64 → at < length words → word ≡ get_or words at word
+    → IsLeft words h at (bit_and word ((2 ^ 64 - 1) * 2 ^ by % 2 ^ 64))
+begins words h at by word here from low is = record {
+  near = omega (arith, here);
+  low = λ i below.
+      let e = bit_at_and word ((2 ^ 64 - 1) * 2 ^ by % 2 ^ 64) i in
+      let f = ap (λ (n : ℕ). bit_at n i) shifted ∙ bit_at_mask_below by 64 i (omega (arith, here, from, below)) in
+      omega (arith, e, f);
+  bits = λ i fits more.
+      let e = bit_at_and word ((2 ^ 64 - 1) * 2 ^ by % 2 ^ 64) i in
+      let f = ap (λ (n : ℕ). bit_at n i) shifted ∙ bit_at_mask_inside by 64 i (omega (arith, here, from, more)) fits in
+      let g = bit_at-lt word i in
+      let same = ap (λ (w : ℕ). bit_at w i) (is ∙ get_or_default_zero words at word low) in
+      omega (arith, e, f, g, same);
+  past = λ k more less. absurd (omega (arith, here, more, less));
+}
   where
-    up : (k < at) ⊎ ((k ≡ at) ⊎ (at < k)) → (suc k < suc at) ⊎ ((suc k ≡ suc at) ⊎ (suc at < suc k))
-    up (inl less) = inl (omega (arith, less))
-    up (inr (inl same)) = inr (inl (ap suc same))
-    up (inr (inr more)) = inr (inr (omega (arith, more)))
+    shifted : (2 ^ 64 - 1) * 2 ^ by % 2 ^ 64 ≡ 2 ^ 64 - 2 ^ by
+    shifted = ones_shl 64 by (omega (arith, from))
 
-module _ (most : ℕ) (hs : List ℕ) (r : AreRising most hs) where
-  climbs : (i : ℕ) → i < length hs → i + 1 ≤ get_or hs i 0
-  climbs zero low = let e = r.low zero low in omega (arith, e)
-  climbs (suc i) low =
-      let e = climbs i (omega (arith, low)) in
-      let f = r.rise i (suc i) (omega arith) low in
-      omega (arith, e, f)
+-- words to which no bit belongs are 0
+module _ (words : List ℕ) (used at : ℕ) (unused : (i : ℕ) → bit_at used i ≡ 0 → get_or words i 0 ≡ 0) where
+  abbrev further : ℕ
+  further = used / 2 ^ at / 2
 
-  -- there are no more than the highest is
-  are_few : length hs ≤ most
-  are_few = by (length hs) refl
-    where
-      by : (n : ℕ) → length hs ≡ n → n ≤ most
-      by zero is = omega arith
-      by (suc n) is =
-          let low : n < length hs = omega (arith, is) in
-          let e = climbs n low in
-          let f = r.high n low in
-          omega (arith, e, f)
+  bit_behind : (i : ℕ) → bit_at further i ≡ bit_at used (at + suc i)
+  bit_behind i = sym (bit_at-suc (used / 2 ^ at) i) ∙ ap (λ (n : ℕ). n % 2) (shr-shr used at (suc i))
 
-module _ (most : ℕ) (hs : List ℕ) (r : AreRising most hs) where
-  rises : (i j : ℕ) → i ≤ j → j < length hs → get_or hs i 0 ≤ get_or hs j 0
-  rises i j up low = by (place i j)
-    where
-      by : (i < j) ⊎ ((i ≡ j) ⊎ (j < i)) → get_or hs i 0 ≤ get_or hs j 0
-      by (inl less) = let e = r.rise i j less low in omega (arith, e)
-      by (inr (inl same)) = let e = ap (λ (k : ℕ). get_or hs k 0) same in omega (arith, e)
-      by (inr (inr more)) = absurd (omega (arith, up, more))
+  behind : (i : ℕ) → at < i → bit_at further (i - at - 1) ≡ 0 → get_or words i 0 ≡ 0
+  behind i up none =
+      let on : at + suc (i - at - 1) ≡ i = omega (arith, up) in
+      unused i (ap (λ (n : ℕ). bit_at used n) (sym on) ∙ sym (bit_behind (i - at - 1)) ∙ none)
 
-  -- what a search for a channel found
-  pub found : (vs : List ℕ) (h : ℕ) (o : Result ℕ ℕ) → vs ≡ hs → IsBinarySearchResult (λ y. nat_cmp y h) vs o
-      → MatchResult o (λ i. (i < length hs) × (get_or hs i 0 ≡ h))
-      (λ i. (i ≤ length hs) × ((k : ℕ) → k < i → get_or hs k 0 < h) × ((k : ℕ) → i ≤ k → k < length hs → h < get_or hs k 0))
-  found vs h o same at = searched hs h o (subst (λ (xs : List ℕ). IsBinarySearchResult (λ y. nat_cmp y h) xs o) same at) rises
+  pub empty_behind : further ≡ 0 → (i : ℕ) → at < i → get_or words i 0 ≡ 0
+  empty_behind none i up = behind i up (ap (λ (n : ℕ). bit_at n (i - at - 1)) none ∙ bit_at-zero (i - at - 1))
 
-  -- those up to the one that was found are no higher
-  pub up_to : (i h : ℕ) → i < length hs → get_or hs i 0 ≡ h → (k : ℕ) → k < i + 1 → get_or hs k 0 ≤ h
-  up_to i h low is k less = let e = rises k i (omega (arith, less)) low in omega (arith, e, is)
+  pub empty_between : 0 < further → further < 2 ^ 64 → (i : ℕ) → at < i → i < at + (1 + trailing_zeros w64 further) → get_or words i 0 ≡ 0
+  empty_between some fits i up less = behind i up ((bit_at-trailing_zeros w64 further some fits).2 (i - at - 1) (omega (arith, up, less)))
 
-  -- no channel lies between
-  pub between : (at h : ℕ) → ((i : ℕ) → i < at → get_or hs i 0 ≤ h) → at < length hs → (k : ℕ) → h < k → k < get_or hs at 0 → IsOutside hs k
-  between at h below low k more less i within is = by (place i at)
-    where
-      by : (i < at) ⊎ ((i ≡ at) ⊎ (at < i)) → ⊥
-      by (inl before) = let e = below i before in omega (arith, e, more, is)
-      by (inr (inl same)) = let e = ap (λ (n : ℕ). get_or hs n 0) same in omega (arith, e, less, is)
-      by (inr (inr behind)) = let e = r.rise at i behind within in omega (arith, e, less, is)
+  pub empty_to_end : 0 < further → further < 2 ^ 64 → length words ≤ at + (1 + trailing_zeros w64 further) → (i : ℕ) → at < i → get_or words i 0 ≡ 0
+  empty_to_end some fits end i up = elim (cases_lt i (length words)) [
+    | inl low ↦ empty_between some fits i up (omega (arith, low, end))
+    | inr past ↦ get_or_past words i 0 past
+  ]
 
-  module _ (at h : ℕ) (bound : at ≤ length hs) where
-    abbrev hs₂ : List ℕ
-    hs₂ = insert hs at h
+module _ (words : List ℕ) (h at left : ℕ) (l : IsLeft words h at left) where
+  -- those to which no bit of it belongs
+  passed : (k : ℕ) → h < k → k < 64 * at + 64 → (at ≤ k / 64 → bit_at left (k % 64) ≡ 0) → IsOutside words k
+  passed k more high none = elim (cases_lt (k / 64) at) [
+    | inl less ↦ l.past k more (omega (arith, less))
+    | inr up ↦
+        let on : k / 64 ≡ at = omega (arith, up, high) in
+        ap (λ (n : ℕ). bit_at (get_or words n 0) (k % 64)) on ∙ sym (l.bits (k % 64) (omega arith) (omega (arith, more, on))) ∙ none up
+  ]
 
-    before : (k : ℕ) → k < at → get_or hs₂ k 0 ≡ get_or hs k 0
-    before k less = get_or-insert_below hs at h 0 k less bound
+  module _ (none : left ≡ 0) where
+    passed_all : (at₂ : ℕ) → ((i : ℕ) → at < i → i < at₂ → get_or words i 0 ≡ 0) → (k : ℕ) → h < k → k < 64 * at₂ → IsOutside words k
+    passed_all at₂ empty k more high = elim (cases_lt k (64 * at + 64)) [
+      | inl less ↦ passed k more less (λ up. ap (λ (n : ℕ). bit_at n (k % 64)) none ∙ bit_at-zero (k % 64))
+      | inr far ↦ ap (λ (w : ℕ). bit_at w (k % 64)) (empty (k / 64) (omega (arith, far)) (omega (arith, high))) ∙ bit_at-zero (k % 64)
+    ]
 
-    behind : (k : ℕ) → at < k → get_or hs₂ k 0 ≡ get_or hs (k - 1) 0
-    behind k more =
-        let next : k ≡ (k - 1) + 1 = omega (arith, more) in
-        ap (λ (n : ℕ). get_or hs₂ n 0) next ∙ get_or-insert_above hs at h 0 (k - 1) (omega (arith, more)) bound
+    pub goes_on : (at₂ word : ℕ) → at < at₂ → ((i : ℕ) → at < i → i < at₂ → get_or words i 0 ≡ 0) → at₂ < length words
+        → word ≡ get_or words at₂ word → IsLeft words h at₂ word
+    goes_on at₂ word up empty low is =
+        let near = l.near in
+        record {
+          near = omega (arith, near, up);
+          low = λ i below. absurd (omega (arith, near, below, up));
+          bits = λ i fits more. ap (λ (w : ℕ). bit_at w i) (is ∙ get_or_default_zero words at₂ word low);
+          past = λ k more less. passed_all at₂ empty k more less;
+        }
 
-    -- one more
-    pub rising_with : ((k : ℕ) → k < at → get_or hs k 0 < h) → ((k : ℕ) → at ≤ k → k < length hs → h < get_or hs k 0) → 1 ≤ h → h ≤ most → AreRising most hs₂
-    rising_with below above low high = record {
-      rise = λ i j less within. rise i j less within (place i at) (place j at);
-      low = λ i within. at_least i within (place i at);
-      high = λ i within. at_most i within (place i at);
-    }
-      where
-        count : length hs₂ ≡ length hs + 1
-        count = length-insert hs at h bound
+    pub none_behind : ((i : ℕ) → at < i → get_or words i 0 ≡ 0) → (k : ℕ) → h < k → IsOutside words k
+    none_behind empty k more = passed_all (k / 64 + 1) (λ i up less. empty i up) k more (omega arith)
 
-        here : get_or hs₂ at 0 ≡ h
-        here = get_or-insert_at hs at h 0 bound
+  -- its lowest bit
+  module _ (some : 0 < left) (fits : left < 2 ^ 64) where
+    abbrev t : ℕ
+    t = trailing_zeros w64 left
 
-        at_least : (i : ℕ) → i < length hs₂ → (i < at) ⊎ ((i ≡ at) ⊎ (at < i)) → 1 ≤ get_or hs₂ i 0
-        at_least i within (inl less) = let e = before i less in let f = r.low i (omega (arith, less, bound)) in omega (arith, e, f)
-        at_least i within (inr (inl same)) = let e = ap (λ (n : ℕ). get_or hs₂ n 0) same in omega (arith, e, here, low)
-        at_least i within (inr (inr more)) = let e = behind i more in let f = r.low (i - 1) (omega (arith, more, within, count)) in omega (arith, e, f)
+    abbrev next : ℕ
+    next = 64 * at + t
 
-        at_most : (i : ℕ) → i < length hs₂ → (i < at) ⊎ ((i ≡ at) ⊎ (at < i)) → get_or hs₂ i 0 ≤ most
-        at_most i within (inl less) = let e = before i less in let f = r.high i (omega (arith, less, bound)) in omega (arith, e, f)
-        at_most i within (inr (inl same)) = let e = ap (λ (n : ℕ). get_or hs₂ n 0) same in omega (arith, e, here, high)
-        at_most i within (inr (inr more)) = let e = behind i more in let f = r.high (i - 1) (omega (arith, more, within, count)) in omega (arith, e, f)
+    first : (t < 64) × (bit_at left t ≡ 1) × ((i : ℕ) → i < t → bit_at left i ≡ 0)
+    first = bit_at-trailing_zeros w64 left some fits
 
-        rise : (i j : ℕ) → i < j → j < length hs₂ → (i < at) ⊎ ((i ≡ at) ⊎ (at < i)) → (j < at) ⊎ ((j ≡ at) ⊎ (at < j)) → get_or hs₂ i 0 < get_or hs₂ j 0
-        rise i j less within (inl a) (inl b) = let e = before i a in let f = before j b in let g = r.rise i j less (omega (arith, b, bound)) in
-            omega (arith, e, f, g)
-        rise i j less within (inl a) (inr (inl b)) = let e = before i a in let f = ap (λ (n : ℕ). get_or hs₂ n 0) b in let g = below i a in
-            omega (arith, e, f, g, here)
-        rise i j less within (inl a) (inr (inr b)) = let e = before i a in let f = behind j b in
-            let g = r.rise i (j - 1) (omega (arith, a, b)) (omega (arith, b, within, count)) in omega (arith, e, f, g)
-        rise i j less within (inr (inl a)) (inl b) = absurd (omega (arith, less, a, b))
-        rise i j less within (inr (inl a)) (inr (inl b)) = absurd (omega (arith, less, a, b))
-        rise i j less within (inr (inl a)) (inr (inr b)) = let e = ap (λ (n : ℕ). get_or hs₂ n 0) a in let f = behind j b in
-            let g = above (j - 1) (omega (arith, b)) (omega (arith, b, within, count)) in omega (arith, e, f, g, here)
-        rise i j less within (inr (inr a)) (inl b) = absurd (omega (arith, less, a, b))
-        rise i j less within (inr (inr a)) (inr (inl b)) = absurd (omega (arith, less, a, b))
-        rise i j less within (inr (inr a)) (inr (inr b)) = let e = behind i a in let f = behind j b in
-            let g = r.rise (i - 1) (j - 1) (omega (arith, a, less)) (omega (arith, b, within, count)) in omega (arith, e, f, g)
+    pub is_higher : h < next
+    is_higher = elim (cases_lt h next) [
+      | inl less ↦ less
+      | inr below ↦ absurd (let e = l.low t below in let f = first.1 in omega (arith, e, f))
+    ]
 
-    -- and a place for it
-    pub has_place : AreRising most hs₂ → length hs < most
-    has_place more = let e = are_few most hs₂ more in let count = length-insert hs at h bound in omega (arith, e, count)
+    pub is_listed : IsOutside words next → ⊥
+    is_listed out =
+        let small = first.0 in
+        let f = first.1 in
+        let word : next / 64 ≡ at = omega (arith, small) in
+        let place : next % 64 ≡ t = omega (arith, small) in
+        let e = l.bits t small is_higher in
+        let g = ap (λ (i : ℕ). bit_at (get_or words (next / 64) 0) i) place in
+        let j = ap (λ (n : ℕ). bit_at (get_or words n 0) t) word in
+        omega (arith, out, e, f, g, j)
 
-    -- what is outside of these was so before
-    pub outside_with : (k : ℕ) → IsOutside hs₂ k → IsOutside hs k
-    outside_with k out i within is = by (place i at)
-      where
-        count : length hs₂ ≡ length hs + 1
-        count = length-insert hs at h bound
+    pub none_between : (k : ℕ) → h < k → k < next → IsOutside words k
+    none_between k more less =
+        let small = first.0 in
+        passed k more (omega (arith, less, small)) (λ up. first.2 (k % 64) (omega (arith, up, less)))
 
-        next : get_or hs₂ (i + 1) 0 ≡ get_or hs i 0 → ⊥
-        next same = out (i + 1) (omega (arith, within, count)) (same ∙ is)
-
-        by : (i < at) ⊎ ((i ≡ at) ⊎ (at < i)) → ⊥
-        by (inl less) = out i (omega (arith, within, count)) (before i less ∙ is)
-        by (inr (inl same)) = next (get_or-insert_above hs at h 0 i (omega (arith, same)) bound)
-        by (inr (inr more)) = next (get_or-insert_above hs at h 0 i (omega (arith, more)) bound)
-
-    pub inside_with : IsOutside hs₂ h → ⊥
-    inside_with out = out at (let count = length-insert hs at h bound in omega (arith, count, bound)) (get_or-insert_at hs at h 0 bound)
-
-  module _ (at : ℕ) (bound : at < length hs) where
-    abbrev hs₃ : List ℕ
-    hs₃ = remove hs at
-
-    -- where each stood before
-    stood : (k : ℕ) → (k < at) ⊎ ((k ≡ at) ⊎ (at < k)) → (i : ℕ) × (get_or hs₃ k 0 ≡ get_or hs i 0) × (((k < at) × (i ≡ k)) ⊎ ((at ≤ k) × (i ≡ k + 1)))
-    stood k (inl less) = (k, get_or-remove_below hs at 0 k less bound, inl (less, refl))
-    stood k (inr (inl same)) = let up : at ≤ k = omega (arith, same) in (k + 1, get_or-remove_above hs at 0 k up bound, inr (up, refl))
-    stood k (inr (inr more)) = let up : at ≤ k = omega (arith, more) in (k + 1, get_or-remove_above hs at 0 k up bound, inr (up, refl))
-
-    count₃ : length hs₃ + 1 ≡ length hs
-    count₃ = length-remove hs at bound
-
-    -- one fewer
-    pub rising_without : AreRising most hs₃
-    rising_without = record {
-      rise = λ i j less within. rise i j less within (stood i (place i at)) (stood j (place j at));
-      low = λ i within. at_least i within (stood i (place i at));
-      high = λ i within. at_most i within (stood i (place i at));
-    }
-      where
-        at_least : (i : ℕ) → i < length hs₃ → ((k : ℕ) × (get_or hs₃ i 0 ≡ get_or hs k 0) × (((i < at) × (k ≡ i)) ⊎ ((at ≤ i) × (k ≡ i + 1)))) → 1
-            ≤ get_or hs₃ i 0
-        at_least i within (k, same, inl (less, is)) = let e = r.low k (omega (arith, within, count₃, is)) in omega (arith, e, same)
-        at_least i within (k, same, inr (more, is)) = let e = r.low k (omega (arith, within, count₃, is)) in omega (arith, e, same)
-
-        at_most : (i : ℕ) → i < length hs₃ → ((k : ℕ) × (get_or hs₃ i 0 ≡ get_or hs k 0) × (((i < at) × (k ≡ i)) ⊎ ((at ≤ i) × (k ≡ i + 1)))) → get_or hs₃ i 0
-            ≤ most
-        at_most i within (k, same, inl (less, is)) = let e = r.high k (omega (arith, within, count₃, is)) in omega (arith, e, same)
-        at_most i within (k, same, inr (more, is)) = let e = r.high k (omega (arith, within, count₃, is)) in omega (arith, e, same)
-
-        rise : (i j : ℕ) → i < j → j < length hs₃ → ((k : ℕ) × (get_or hs₃ i 0 ≡ get_or hs k 0) × (((i < at) × (k ≡ i)) ⊎ ((at ≤ i) × (k ≡ i + 1))))
-            → ((k : ℕ) × (get_or hs₃ j 0 ≡ get_or hs k 0) × (((j < at) × (k ≡ j)) ⊎ ((at ≤ j) × (k ≡ j + 1)))) → get_or hs₃ i 0 < get_or hs₃ j 0
-        rise i j less within (k, same, inl (a, is)) (n, same₂, inl (b, is₂)) =
-            let e = r.rise k n (omega (arith, less, is, is₂)) (omega (arith, within, count₃, is₂)) in omega (arith, e, same, same₂)
-        rise i j less within (k, same, inl (a, is)) (n, same₂, inr (b, is₂)) =
-            let e = r.rise k n (omega (arith, less, is, is₂)) (omega (arith, within, count₃, is₂)) in omega (arith, e, same, same₂)
-        rise i j less within (k, same, inr (a, is)) (n, same₂, inl (b, is₂)) = absurd (omega (arith, less, a, b))
-        rise i j less within (k, same, inr (a, is)) (n, same₂, inr (b, is₂)) =
-            let e = r.rise k n (omega (arith, less, is, is₂)) (omega (arith, within, count₃, is₂)) in omega (arith, e, same, same₂)
-
-    -- any other that is outside of these was so before
-    pub outside_without : (k : ℕ) → (k ≡ get_or hs at 0 → ⊥) → IsOutside hs₃ k → IsOutside hs k
-    outside_without k differs out i within is = by (place i at)
-      where
-        by : (i < at) ⊎ ((i ≡ at) ⊎ (at < i)) → ⊥
-        by (inl less) = out i (omega (arith, less, bound, count₃)) (get_or-remove_below hs at 0 i less bound ∙ is)
-        by (inr (inl same)) = differs (sym is ∙ ap (λ (n : ℕ). get_or hs n 0) same)
-        by (inr (inr more)) =
-            let back : (i - 1) + 1 ≡ i = omega (arith, more) in
-            out (i - 1) (omega (arith, more, within, count₃))
-            (get_or-remove_above hs at 0 (i - 1) (omega (arith, more)) bound ∙ ap (λ (n : ℕ). get_or hs n 0) back ∙ is)
-
--- all are up to a channel
-pub none_behind : (hs : List ℕ) (at h : ℕ) → ((i : ℕ) → i < at → get_or hs i 0 ≤ h) → at ≡ length hs → (k : ℕ) → h < k → IsOutside hs k
-none_behind hs at h below all k more i within is = let e = below i (omega (arith, within, all)) in omega (arith, e, more, is)
-
--- what was placed
-pub never : {T E : Type 0} (r : Result T E) → IsOk r → is_err r ≡ true → ⊥
-never (Ok x) ok is = absurd (cc)
-never (Err e) ok is = absurd (cc)
-
-pub placed : {T E X : Type 0} (r : Result T E) (a b : X) → IsOk r → (if is_ok r then a else b) ≡ a
-placed (Ok x) a b ok = refl
-placed (Err e) a b ok = absurd (cc)
+    pub is_within : (most : ℕ) → ((k : ℕ) → most < k → IsOutside words k) → next ≤ most
+    is_within most within = elim (cases_lt most next) [
+      | inl less ↦ absurd (is_listed (within next less))
+      | inr high ↦ high
+    ]
 
 -- ---- sums over the channels, to which those that are idle add nothing
 
@@ -232,15 +282,16 @@ past up one next (suc m) n none =
     let last = none (suc (m + n)) (omega arith) (omega arith) in
     ap up more ∙ (let e : up (suc (m + n)) ≡ up n = omega (arith, below, here, last) in e)
 
-module _ (c : LayerSettings) (vs : List circuit_code.Circuit) (hs : List ℕ) (f : ℕ → Circuit) (fits : FitsCircuits c vs f) (still : IdleBeside hs vs) where
-  idle_on : (k : ℕ) → 1 ≤ k → k ≤ length vs → IsOutside hs k → (waits (f k) ≡ 0) × (is_any (awaited_in (f k).state) ≡ false)
+module _ (c : LayerSettings) (vs : List circuit_code.Circuit) (words : List ℕ) (f : ℕ → Circuit) (fits : FitsCircuits c vs f)
+    (still : IdleBeside words vs) where
+  idle_on : (k : ℕ) → 1 ≤ k → k ≤ length vs → IsOutside words k → (waits (f k) ≡ 0) × (is_any (awaited_in (f k).state) ≡ false)
   idle_on zero low high out = absurd (omega (arith, low))
   idle_on (suc k) low high out =
       let found = there vs k (let e : k < length vs = omega (arith, high) in e) in
       let idle = still k found.0 found.1 out in
       (idle.waits c.circuit (f (suc k)) (fits k found.0 found.1), idle.awaits c.circuit (f (suc k)) (fits k found.0 found.1))
 
-  module _ (n i : ℕ) (up : n ≤ i) (high : i ≤ length vs) (out : (k : ℕ) → n < k → k ≤ i → IsOutside hs k) where
+  module _ (n i : ℕ) (up : n ≤ i) (high : i ≤ length vs) (out : (k : ℕ) → n < k → k ≤ i → IsOutside words k) where
     behind_is : i ≡ (i - n) + n
     behind_is = omega (arith, up)
 
@@ -258,7 +309,7 @@ module _ (c : LayerSettings) (vs : List circuit_code.Circuit) (hs : List ℕ) (f
         (idle_on k (omega (arith, more)) (omega (arith, less, up, high)) (out k more (omega (arith, less, up)))).1)
 
 -- no answer is awaited on a channel that isn't one of the busy ones
-pub none_awaited : (c : LayerSettings) (v : code.Layer) (l : Layer) → FitsLayer c v l → (k : ℕ) → IsOutside v.busy.channels.items k → awaited_at c l k ≡ Nothing
+pub none_awaited : (c : LayerSettings) (v : code.Layer) (l : Layer) → FitsLayer c v l → (k : ℕ) → IsOutside v.busy.words.items k → awaited_at c l k ≡ Nothing
 none_awaited c v l fits k out = by (is_channel c.channels k) refl
   where
     not_any : (a : Awaits) → is_any a ≡ false → a ≡ Nothing
@@ -273,5 +324,5 @@ none_awaited c v l fits k out = by (is_channel c.channels k) refl
         let within = configured c.channels.count k is in
         let channels = fits.channels in
         not_any (awaited_in (l.circuits k).state)
-        (idle_on c v.circuits.items v.busy.channels.items l.circuits fits.circuits v.still k within.0
+        (idle_on c v.circuits.items v.busy.words.items l.circuits fits.circuits v.still k within.0
         (let high = within.1 in omega (arith, high, channels)) out).1

@@ -10,11 +10,11 @@ use Rattle.x25_packet.specs.Reading.{channel_in}
 use Rattle.x25_packet.specs.Spelling.{HasChannel, channel_of}
 use Rattle.x25_packet.specs.Grammar.{Gives, read_of}
 use Rattle.x25_packet.specs.Taking.{read_in}
-use Rattle.x25_packet.specs.laws.TakingLaw.{TakesOnItsChannel, TakesWithoutMemory}
+use Rattle.x25_packet.specs.laws.TakingLaw.{TakesOnItsChannel}
 use Rattle.x25_layer.specs.Ranges.{is_number}
 use Rattle.x25_layer.specs.Layer.{LayerSettings, Layer, LayerAnswer, answers_in, undecoded_in, is_channel, put_at, drops}
 use Rattle.x25_layer.specs.Asking.{with_circuit}
-use Rattle.x25_layer.specs.Receiving.{plain_read, IsOfChannel, circuit_hears, channel_hears, hears_on, answer_to, undecoded_at}
+use Rattle.x25_layer.specs.Receiving.{plain_read, circuit_hears, channel_hears, hears_on, answer_to, undecoded_at}
 use Rattle.x25_layer.specs.declared.layer.Layer as code
 use Rattle.x25_layer.specs.declared.report.Report.{Report}
 use Rattle.x25_layer.specs.code.FitsLayer.{FitsLayer}
@@ -24,13 +24,6 @@ use Rattle.x25_layer.proofs.CallLemmas.{configured}
 use Rattle.x25_circuit.specs.declared.circuit.Circuit as circuit_code
 
 -- ---- what was read, by the laws of reading
-
--- it is of a channel, where it isn't RESTART or its confirmation
-pub of_channel : TakesWithoutMemory → (wide : Bool) (most : ℕ) (octets : List ℕ) (read : Result Packet PacketError) → All (λ octet. octet < 256) octets
-    → Gives plain read (read_in wide most octets) → IfOk read (λ v. HasChannel (plain v))
-    → IsOfChannel (plain_read read)
-of_channel never wide most octets (Ok packet) bytes exact has = has
-of_channel never wide most octets (Err e) bytes exact has = λ same. never wide most octets bytes (exact ∙ ap (λ (x : PacketError). Err x) same)
 
 -- ---- the answer of the layer, by the channel
 
@@ -78,7 +71,7 @@ hears_packet c l octets h v has named at =
 -- what a channel hears, by what was read
 pub hears_read : TakesOnItsChannel → (wide : Bool) (most : ℕ) (c : LayerSettings) (l : Layer) (octets : List ℕ) (h : ℕ) (read : Result Packet PacketError)
     → All (λ octet. octet < 256) octets → Gives plain read (read_in wide most octets)
-    → IsOfChannel (plain_read read) → channel_in octets ≡ Some h → answer_to c l octets (read_in wide most octets)
+    → IfOk read (λ v. HasChannel (plain v)) → channel_in octets ≡ Some h → answer_to c l octets (read_in wide most octets)
     ≡ hears_on c l l.restarting h (plain_read read)
 hears_read law wide most c l octets h (Ok packet) bytes exact has at =
     ap (λ (r : Result PlainPacket PacketError). answer_to c l octets r) exact

@@ -1,6 +1,7 @@
 -- The next data packet, one circuit after another.
-use Rattle.std.proofs.Common.{◌≡◌, ℕ, zero, suc, ◌+◌, ◌<◌, ◌≤◌, List, length, Option, Some, None, Bool, true, false, slice_get, refl, sym, ap, subst, ◌∙◌, ◌⊎◌}
+use Rattle.std.proofs.Common.{◌≡◌, ℕ, zero, suc, ◌+◌, ◌<◌, ◌≤◌, List, length, Option, Some, None, Bool, true, false, slice_get, refl, sym, ap, subst, ◌∙◌}
 use Rattle.std.proofs.Common.{inl, inr, arith, IfSome, MatchOption}
+use Rattle.std.proofs.lemmas.Bool.{cases_lt}
 use Rattle.std.proofs.lemmas.Option.{none-some}
 use Rattle.x25_packet.specs.Packet.{PlainPacket}
 use Rattle.x25_packet.specs.Spelling.{moved_to}
@@ -17,7 +18,6 @@ use Rattle.x25_layer.specs.code.Pulling.{IsPut, next_packet, GoesTo, GoesNowhere
 use Rattle.x25_layer.specs.code.Answering.{GivesNext, GivesNone}
 use Rattle.x25_layer.proofs.FitLemmas.{there}
 use Rattle.x25_layer.proofs.CallLemmas.{IsLike}
-use Rattle.x25_layer.proofs.BusyLemmas.{place}
 use Rattle.x25_layer.proofs.PullLemmas.{none_kept}
 
 -- ---- what no circuit has
@@ -41,35 +41,31 @@ some_put true sheet o is put = put
 some_put false sheet o is put = absurd (cc)
 
 -- nor one that is idle
-pub quiet : PullsWhatWaits → (c : LayerSettings) (vs : List circuit_code.Circuit) (hs : List ℕ) (f : ℕ → Circuit) → FitsCircuits c vs f → IdleBeside hs vs
-    → (k : ℕ) → 1 ≤ k → k ≤ length vs → IsOutside hs k → next_packet c f k ≡ None
-quiet pulls c vs hs f fits still zero low high out = absurd (omega (arith, low))
-quiet pulls c vs hs f fits still (suc k) low high out =
+pub quiet : PullsWhatWaits → (c : LayerSettings) (vs : List circuit_code.Circuit) (words : List ℕ) (f : ℕ → Circuit) → FitsCircuits c vs f → IdleBeside words vs
+    → (k : ℕ) → 1 ≤ k → k ≤ length vs → IsOutside words k → next_packet c f k ≡ None
+quiet pulls c vs words f fits still zero low high out = absurd (omega (arith, low))
+quiet pulls c vs words f fits still (suc k) low high out =
     let found = there vs k (let e : k < length vs = omega (arith, high) in e) in
     let idle = still k found.0 found.1 out in
     ap (λ (p : Pulled). packet_on (suc k) p.packet) (pulls c.circuit found.0 (f (suc k)) (fits k found.0 found.1) idle.none)
 
 -- those up to a channel have none, and those between it and another are idle
-pub none_before : PullsWhatWaits → (c : LayerSettings) (vs : List circuit_code.Circuit) (hs : List ℕ) (f : ℕ → Circuit) → FitsCircuits c vs f
-    → IdleBeside hs vs → (behind n h : ℕ) → h ≤ length vs + 1
-    → ((k : ℕ) → behind < k → k ≤ n → next_packet c f k ≡ None) → ((k : ℕ) → n < k → k < h → IsOutside hs k) → (k : ℕ) → behind < k → k < h → next_packet c f k
-    ≡ None
-none_before pulls c vs hs f fits still behind n h high none out k more less = by (place k n)
-  where
-    by : (k < n) ⊎ ((k ≡ n) ⊎ (n < k)) → next_packet c f k ≡ None
-    by (inl low) = none k more (omega (arith, low))
-    by (inr (inl same)) = none k more (omega (arith, same))
-    by (inr (inr far)) = quiet pulls c vs hs f fits still k (omega (arith, far)) (omega (arith, less, high)) (out k far less)
+pub none_before : PullsWhatWaits → (c : LayerSettings) (vs : List circuit_code.Circuit) (words : List ℕ) (f : ℕ → Circuit) → FitsCircuits c vs f
+    → IdleBeside words vs → (behind n h : ℕ) → h ≤ length vs + 1
+    → ((k : ℕ) → behind < k → k ≤ n → next_packet c f k ≡ None) → ((k : ℕ) → n < k → k < h → IsOutside words k)
+    → (k : ℕ) → behind < k → k < h → next_packet c f k ≡ None
+none_before pulls c vs words f fits still behind n h high none out k more less = elim (cases_lt n k) [
+  | inl far ↦ quiet pulls c vs words f fits still k (omega (arith, far)) (omega (arith, less, high)) (out k far less)
+  | inr low ↦ none k more low
+]
 
 -- and so has that one
 pub none_to : (c : LayerSettings) (f : ℕ → Circuit) (behind h : ℕ) → ((k : ℕ) → behind < k → k < h → next_packet c f k ≡ None) → next_packet c f h ≡ None
     → (k : ℕ) → behind < k → k ≤ h → next_packet c f k ≡ None
-none_to c f behind h below here k more low = by (place k h)
-  where
-    by : (k < h) ⊎ ((k ≡ h) ⊎ (h < k)) → next_packet c f k ≡ None
-    by (inl less) = below k more less
-    by (inr (inl same)) = subst (λ (n : ℕ). next_packet c f n ≡ None) (sym same) here
-    by (inr (inr far)) = absurd (omega (arith, far, low))
+none_to c f behind h below here k more low = elim (cases_lt k h) [
+  | inl less ↦ below k more less
+  | inr up ↦ subst (λ (n : ℕ). next_packet c f n ≡ None) (let same : h ≡ k = omega (arith, up, low) in same) here
+]
 
 -- ---- what a layer pulls, by its circuits
 

@@ -1,11 +1,10 @@
 -- What a layer makes of octets that its link handed up, whatever they are.
-use Rattle.std.specs.Prelude.{◌≢◌, ℕ, List, Option, Some, None, Bool, true, false, Result, Ok, Err, if◌then◌else◌}
+use Rattle.std.specs.Prelude.{ℕ, List, Option, Some, None, Bool, true, false, Result, Ok, Err, if◌then◌else◌}
 use Rattle.x25_packet.specs.declared.packet.Packet.{Packet}
 use Rattle.x25_packet.specs.declared.error.PacketError.{PacketError}
-use Rattle.x25_packet.specs.declared.error.PacketError.TheVariants as error
 use Rattle.x25_packet.specs.Packet.{PlainPacket, plain}
 use Rattle.x25_packet.specs.Reading.{channel_in}
-use Rattle.x25_packet.specs.Spelling.{HasChannel, longest_user}
+use Rattle.x25_packet.specs.Spelling.{longest_user}
 use Rattle.x25_packet.specs.Taking.{read_in}
 use Rattle.x25_circuit.specs.Circuit.{CircuitSettings, Circuit}
 use Rattle.x25_circuit.specs.Hearing.{Answer, answers, undecoded}
@@ -29,11 +28,6 @@ layer_hears c wide l octets = answer_to c l octets (read_in wide (longest_user c
 abbrev pub plain_read : Result Packet PacketError → Result PlainPacket PacketError
 plain_read (Ok packet) = Ok (plain packet)
 plain_read (Err e) = Err e
-
--- a packet of a channel, or an error of octets
-abbrev pub IsOfChannel : Result PlainPacket PacketError → Type 0
-IsOfChannel (Ok packet) = HasChannel packet
-IsOfChannel (Err e) = e ≢ error.NoMemory
 
 abbrev pub circuit_hears : CircuitSettings → Circuit → Result PlainPacket PacketError → Answer
 circuit_hears c x (Ok packet) = answers c x packet

@@ -1,8 +1,9 @@
 //! The channels in which something is under way, so that no step asks the circuits of the others.
-ghost use Rattle.std.specs.Prelude.{◌≡◌, ℕ, ◌<◌, ◌≤◌, length, slice_index, vec_capacity, true, IfOk, IfErr, IfSome};
-ghost use Rattle.std.specs.Prelude.{◌-◌, IfNone};
+ghost use Rattle.std.specs.Prelude.{◌≡◌, ℕ, ◌+◌, ◌/◌, ◌%◌, ◌^◌, ◌<◌, ◌≤◌, length, slice_index, true, false, IfOk};
+ghost use Rattle.std.specs.Prelude.{IfErr, IfSome, IfNone, if◌then◌else◌};
+ghost use Rattle.std.specs.Int.{bit_at};
 ghost use Rattle.x25_layer.specs.Ranges.{is_number};
-ghost use Rattle.x25_layer.specs.code.Idle.{AreRising, IsOutside, IsIdle, IdleBeside};
+ghost use Rattle.x25_layer.specs.code.Idle.{IsOutside, IsIdle, IdleBeside};
 
 use crate::error::LayerError;
 use std::alloc::Global;
@@ -17,137 +18,125 @@ fn is_idle(circuit: &Circuit) -> bool
     waits == 0 && !awaits.is_any()
 }
 
+// The bit of a place in a word, or none.
+fn bit(place: u16, is_set: bool) -> u64
+    requires { place < 64 }
+    ensures { result ≡ (if is_set then 2 ^ place else 0) }
+{
+    u64::from(is_set) << u32::from(place)
+}
+
 /// Some of the channels of a layer, among which are all whose circuits aren't idle.
 #[derive(Drop)]
 pub(crate) struct Busy {
-    /// In rising order, with places for all.
-    channels: Vec<u16>,
-    ghost rising: { AreRising (vec_capacity channels) channels.items },
+    /// A bit for each channel, and one for 0.
+    words: Vec<u64>,
+    /// A bit for each word that ever had one.
+    used: u64,
+    /// How many channels have a place.
+    count: u16,
+    ghost few: { count ≤ 4095 },
+    ghost places: { length words.items ≡ count / 64 + 1 },
+    ghost within: { (k : ℕ) → count < k → IsOutside words.items k },
+    ghost unused: { (i : ℕ) → bit_at used i ≡ 0 → slice_index words.items i ≡ 0 },
 }
 
 impl Busy {
-    /// None, with places for so many channels.
-    pub(crate) fn with(alloc: Global, count: usize) -> Result<Busy, LayerError>
-        ensures places { IfOk result (λ v. vec_capacity v.channels ≡ count) }
+    /// None of so many channels.
+    pub(crate) fn with(alloc: Global, count: u16) -> Result<Busy, LayerError>
+        requires { count ≤ 4095 }
+        ensures places { IfOk result (λ v. v.count ≡ count) }
         ensures err { IfErr result (λ e. e ≡ LayerError.NoMemory) }
     {
-        match Vec::with_capacity(alloc, count) {
-            Ok(channels) => Ok(Busy { channels }),
+        match vec![in alloc; 0u64; usize::from(count / 64) + 1] {
+            Ok(words) => Ok(Busy {
+                words,
+                used: 0,
+                count,
+            }),
             Err(_) => Err(LayerError::NoMemory),
-        }
-    }
-
-    // Whether a channel and all below are of them, for which the list isn't searched.
-    fn has_all_to(&self, channel: u16) -> bool
-        requires { 1 ≤ channel }
-        ensures within { result ≡ true → channel ≤ length self.now.channels.items }
-        ensures place { result ≡ true → slice_index self.now.channels.items (channel - 1) ≡ channel }
-    {
-        let count = usize::from(channel);
-        count <= self.channels.len() && self.channels[count - 1] == channel
-    }
-
-    // How many of them are up to a channel.
-    fn count_to(&self, channel: u16) -> usize
-        ensures bound { result ≤ length self.now.channels.items }
-        ensures below { (i : ℕ) → i < result → slice_index self.now.channels.items i ≤ channel }
-        ensures above { (i : ℕ) → result ≤ i → i < length self.now.channels.items
-            → channel < slice_index self.now.channels.items i }
-    {
-        if channel == 0 {
-            return 0;
-        }
-        if self.has_all_to(channel) {
-            return usize::from(channel);
-        }
-        match self.channels.binary_search(&channel) {
-            Ok(at) => at + 1,
-            Err(at) => at,
         }
     }
 
     /// The next one after a channel.
     pub(crate) fn after(&self, channel: u16) -> Option<u16>
-        ensures listed { IfSome result (λ next. IsOutside self.now.channels.items next → ⊥) }
+        ensures listed { IfSome result (λ next. IsOutside self.now.words.items next → ⊥) }
         ensures higher { IfSome result (λ next. channel < next) }
-        ensures within { IfSome result (λ next. next ≤ vec_capacity self.now.channels) }
+        ensures within { IfSome result (λ next. next ≤ self.now.count) }
         ensures between { IfSome result (λ next. (k : ℕ) → channel < k → k < next
-            → IsOutside self.now.channels.items k) }
-        ensures none { IfNone result ((k : ℕ) → channel < k → IsOutside self.now.channels.items k) }
+            → IsOutside self.now.words.items k) }
+        ensures none { IfNone result ((k : ℕ) → channel < k → IsOutside self.now.words.items k) }
     {
-        let at = self.count_to(channel);
-        if at == self.channels.len() {
+        if channel >= self.count {
             return None;
         }
-        Some(self.channels[at])
+        let next = channel + 1;
+        let mut at = usize::from(next / 64);
+        let mut left = self.words[at] & (u64::MAX << u32::from(next % 64));
+        while left == 0 {
+            let further = self.used >> at as u32 >> 1;
+            if further == 0 {
+                return None;
+            }
+            at += 1 + further.trailing_zeros() as usize;
+            if at >= self.words.len() {
+                return None;
+            }
+            left = self.words[at];
+        }
+        Some((64 * at + left.trailing_zeros() as usize) as u16)
+    }
+
+    // With this channel, where it is so.
+    fn insert_if(&mut self, channel: u16, is_busy: bool)
+        requires { is_number self.old.count channel ≡ true }
+        ensures others { (k : ℕ) → IsOutside self.new.words.items k → IsOutside self.old.words.items k }
+        ensures this { IsOutside self.new.words.items channel → is_busy ≡ false }
+        ensures places { self.new.count ≡ self.old.count }
+    {
+        self.words[usize::from(channel / 64)] |= bit(channel % 64, is_busy);
+        self.used |= bit(channel / 64, is_busy);
     }
 
     /// With this channel.
     pub(crate) fn insert(&mut self, channel: u16)
-        requires { is_number (vec_capacity self.old.channels) channel ≡ true }
-        ensures others { (k : ℕ) → IsOutside self.new.channels.items k → IsOutside self.old.channels.items k }
-        ensures this { IsOutside self.new.channels.items channel → ⊥ }
-        ensures places { vec_capacity self.new.channels ≡ vec_capacity self.old.channels }
+        requires { is_number self.old.count channel ≡ true }
+        ensures others { (k : ℕ) → IsOutside self.new.words.items k → IsOutside self.old.words.items k }
+        ensures this { IsOutside self.new.words.items channel → ⊥ }
+        ensures places { self.new.count ≡ self.old.count }
     {
-        if self.has_all_to(channel) {
-            return;
-        }
-        let Err(at) = self.channels.binary_search(&channel) else {
-            return;
-        };
-        let placed = self.channels.insert(at, channel);
-        if placed.is_err() {
-            unreachable!();
-        }
-    }
-
-    /// Without this channel.
-    pub(crate) fn remove(&mut self, channel: u16)
-        ensures others { (k : ℕ) → (k ≡ channel → ⊥) → IsOutside self.new.channels.items k
-            → IsOutside self.old.channels.items k }
-        ensures places { vec_capacity self.new.channels ≡ vec_capacity self.old.channels }
-    {
-        let Ok(at) = self.channels.binary_search(&channel) else {
-            return;
-        };
-        self.channels.remove(at);
+        self.insert_if(channel, true);
     }
 
     /// With this channel, where its circuit isn't idle.
     pub(crate) fn note(&mut self, channel: u16, circuit: &Circuit)
-        requires { is_number (vec_capacity self.old.channels) channel ≡ true }
-        ensures others { (k : ℕ) → (k ≡ channel → ⊥) → IsOutside self.new.channels.items k
-            → IsOutside self.old.channels.items k }
-        ensures this { IsOutside self.new.channels.items channel → IsIdle circuit.now }
-        ensures places { vec_capacity self.new.channels ≡ vec_capacity self.old.channels }
+        requires { is_number self.old.count channel ≡ true }
+        ensures others { (k : ℕ) → (k ≡ channel → ⊥) → IsOutside self.new.words.items k
+            → IsOutside self.old.words.items k }
+        ensures this { IsOutside self.new.words.items channel → IsIdle circuit.now }
+        ensures places { self.new.count ≡ self.old.count }
     {
-        if !is_idle(circuit) {
-            self.insert(channel);
-        }
+        self.insert_if(channel, !is_idle(circuit));
     }
 
-    /// Without this channel, which is one of them, where its circuit is idle; but one that is alone stays, as it is
-    /// sooner asked than taken out and put in.
-    #[inline(always)]
+    /// Without this channel, which is one of them, where its circuit is idle.
     pub(crate) fn leave_idle(&mut self, channel: u16, circuit: &Circuit)
-        requires listed { IsOutside self.old.channels.items channel → ⊥ }
-        ensures others { (k : ℕ) → (k ≡ channel → ⊥) → IsOutside self.new.channels.items k
-            → IsOutside self.old.channels.items k }
-        ensures this { IsOutside self.new.channels.items channel → IsIdle circuit.now }
-        ensures places { vec_capacity self.new.channels ≡ vec_capacity self.old.channels }
+        requires within { channel ≤ self.old.count }
+        requires listed { IsOutside self.old.words.items channel → ⊥ }
+        ensures others { (k : ℕ) → (k ≡ channel → ⊥) → IsOutside self.new.words.items k
+            → IsOutside self.old.words.items k }
+        ensures this { IsOutside self.new.words.items channel → IsIdle circuit.now }
+        ensures places { self.new.count ≡ self.old.count }
     {
-        if self.channels.len() == 1 || !is_idle(circuit) {
-            return;
-        }
-        self.remove(channel);
+        self.words[usize::from(channel / 64)] &= !bit(channel % 64, is_idle(circuit));
     }
 
     /// With all of these whose circuits aren't idle; the first is on channel 1.
     pub(crate) fn note_all(&mut self, circuits: &[Circuit])
         requires few { length circuits.now ≤ 4095 }
-        requires places { vec_capacity self.old.channels ≡ length circuits.now }
-        ensures idle { IdleBeside self.new.channels.items circuits.now }
-        ensures places { vec_capacity self.new.channels ≡ vec_capacity self.old.channels }
+        requires places { self.old.count ≡ length circuits.now }
+        ensures idle { IdleBeside self.new.words.items circuits.now }
+        ensures places { self.new.count ≡ self.old.count }
     {
         let mut channel = 0;
         for circuit in circuits {

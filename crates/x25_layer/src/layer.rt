@@ -1,6 +1,5 @@
 ghost use Rattle.std.specs.Prelude.{◌≡◌, ℕ, ◌-◌, ◌^◌, ◌<◌, ◌≤◌, ◌↔◌, length, if◌then◌else◌, true, false, Some, IfOk};
-ghost use Rattle.std.specs.Prelude.{IfErr, vec_capacity};
-ghost use Rattle.std.specs.Prelude.{IfSome, IfNone, IsErrOf, slice_get};
+ghost use Rattle.std.specs.Prelude.{IfErr, IfSome, IfNone, IsErrOf, slice_get};
 ghost use Rattle.x25_layer.specs.code.Counts.{HaveCountsLeft};
 ghost use Rattle.x25_layer.specs.code.Idle.{IdleBeside};
 
@@ -41,8 +40,8 @@ pub struct Layer {
     ghost few: { length circuits.items ≤ 4095 },
     /// The circuits of all other channels are idle.
     pub(crate) busy: Busy,
-    ghost places: { vec_capacity busy.channels ≡ length circuits.items },
-    ghost still: { IdleBeside busy.channels.items circuits.items },
+    ghost places: { busy.count ≡ length circuits.items },
+    ghost still: { IdleBeside busy.words.items circuits.items },
     /// It is known that no count is at 2^64 - 1.
     pub(crate) counts_left: bool,
     ghost restarts_left: { counts_left ≡ true → restarts < 2 ^ 64 - 1 },
@@ -90,7 +89,7 @@ impl Layer {
             return Err(LayerError::BadConfig);
         }
         let count = usize::from(channels.count);
-        let mut busy = Busy::with(alloc, count)?;
+        let mut busy = Busy::with(alloc, channels.count)?;
         let circuits = begun_circuits(alloc, role, count, long_data, channels.message)?;
         busy.note_all(&circuits);
         let Ok(sheet) = Sheet::new(alloc) else {

@@ -1,5 +1,5 @@
 //! The data packets that wait, one at a time, of channels in rising order.
-ghost use Rattle.std.specs.Prelude.{◌≡◌, ◌<◌, ◌≤◌, length, vec_capacity, true, false, IfSome};
+ghost use Rattle.std.specs.Prelude.{◌≡◌, ◌<◌, ◌≤◌, length, true, false, IfSome};
 ghost use Rattle.x25_packet.specs.Spelling.{IsChannel};
 ghost use Rattle.x25_layer.specs.code.Answering.{PullsNext};
 ghost use Rattle.x25_layer.specs.code.Pulling.{PullsOne, GoesOn};
@@ -47,8 +47,8 @@ fn pull_next(
     behind: u16,
 ) -> Option<u16>
     requires few { length circuits.old.items ≤ 4095 }
-    requires places { vec_capacity busy.old.channels ≡ length circuits.old.items }
-    requires still { IdleBeside busy.old.channels.items circuits.old.items }
+    requires places { busy.old.count ≡ length circuits.old.items }
+    requires still { IdleBeside busy.old.words.items circuits.old.items }
     ensures { GoesOn circuits.old.items circuits.new.items sheet.new behind result busy.new }
 {
     what_waits_is_pulled();

@@ -1,13 +1,14 @@
 //! Octets that the link handed up. ITU-T X.25 (10/96), sections 3.3 and 4, and Annex C.
-ghost use Rattle.std.specs.Prelude.{◌≡◌, [], true};
-ghost use Rattle.x25_packet.specs.Spelling.{longest_user};
+ghost use Rattle.std.specs.Prelude.{◌≡◌, [], true, IfOk};
+ghost use Rattle.x25_packet.specs.Packet.{plain};
+ghost use Rattle.x25_packet.specs.Spelling.{HasChannel, longest_user};
 ghost use Rattle.x25_circuit.specs.code.PartialMessage.{spares};
 ghost use Rattle.x25_circuit.specs.code.Replies.{RepliesWith, handed_over, notices_of};
 ghost use Rattle.x25_layer.specs.Layer.{notices_on};
 ghost use Rattle.x25_layer.specs.code.Answering.{Hears};
 ghost use Rattle.x25_layer.specs.Full.{HasCountsLeft, HaveCountsLeft, IsNotFull};
 ghost use Rattle.x25_layer.specs.Report.{plain_report, handed_over_in};
-ghost use Rattle.x25_layer.specs.Receiving.{plain_read, IsOfChannel, circuit_hears, hears_on, layer_hears};
+ghost use Rattle.x25_layer.specs.Receiving.{plain_read, circuit_hears, hears_on, layer_hears};
 
 use crate::full::is_full;
 use crate::layer::Layer;
@@ -21,7 +22,7 @@ fn hear_circuit<'a>(
     read: &Result<Packet<'a>, PacketError>,
     spare: &mut Option<Octets>,
 ) -> Reply<'a>
-    requires kind { IsOfChannel (plain_read read.now) }
+    requires kind { IfOk read.now (λ packet. HasChannel (plain packet)) }
     requires left { HasCountsLeft circuit.old }
     requires spare { spares spare.old ≡ 1 }
     ensures { RepliesWith circuit.old circuit.new result (spares spare.new)
@@ -63,7 +64,7 @@ impl Layer {
         read: &Result<Packet<'a>, PacketError>,
         spare: &mut Option<Octets>,
     ) -> Report<'a>
-        requires kind { IsOfChannel (plain_read read.now) }
+        requires kind { IfOk read.now (λ packet. HasChannel (plain packet)) }
         requires left { HaveCountsLeft self.old.circuits.items }
         requires spare { spares spare.old ≡ 1 }
         requires none { self.old.sheet ≡ [] }

@@ -445,6 +445,53 @@ fn a_call_takes_the_channel_of_its_end(rt: HostRuntime) {
     );
 }
 
+// The first channel on which an answer is awaited, on how many it is, the first one behind channel 62, and those from
+// the last channel on.
+type UnderWay = (Option<u16>, usize, Option<u16>, Option<u16>, Option<u16>);
+
+// At an end with so many channels, which called 66 times.
+fn under_way(alloc: Global, role: Role, channels: u16) -> Option<UnderWay> {
+    let mut layer = layer(alloc, role, channels).ok()?;
+    for _ in 0..66 {
+        let _ = call(&mut layer, UP, ("1", "2"), &[]);
+    }
+    Some((
+        layer.busy_after(0),
+        layer.awaited(),
+        layer.busy_after(62),
+        layer.busy_after(channels.saturating_sub(1)),
+        layer.busy_after(channels),
+    ))
+}
+
+#[test]
+fn channels_under_way_are_found(rt: HostRuntime) {
+    assert_eq!(rt;
+        under_way(rt.alloc(), Role::Dte, 1),
+        Some((Some(1), 1, None, Some(1), None))
+    );
+    assert_eq!(rt;
+        under_way(rt.alloc(), Role::Dte, 63),
+        Some((Some(1), 63, Some(63), Some(63), None))
+    );
+    assert_eq!(rt;
+        under_way(rt.alloc(), Role::Dte, 64),
+        Some((Some(1), 64, Some(63), Some(64), None))
+    );
+    assert_eq!(rt;
+        under_way(rt.alloc(), Role::Dte, 65),
+        Some((Some(1), 65, Some(63), Some(65), None))
+    );
+    assert_eq!(rt;
+        under_way(rt.alloc(), Role::Dte, 4095),
+        Some((Some(4030), 66, Some(4030), Some(4095), None))
+    );
+    assert_eq!(rt;
+        under_way(rt.alloc(), Role::Dce, 4095),
+        Some((Some(1), 66, Some(63), None, None))
+    );
+}
+
 // The answers to four calls.
 type FourCalls = [Result<u16, LayerError>; 4];
 

@@ -43,30 +43,17 @@ with_outgoing c v s b o fits outgoing = record {
 pub may_send_is : (k : ℕ) (s : LinkStation) → s.recovery ≡ false → s.peer_busy ≡ false → is_up s.phase ≡ true → may_send k s ≡ is_open k s.outgoing
 may_send_is k s recovery peer_busy up = rw (up, recovery, peer_busy) refl
 
--- the sending rule, once, where neither recovery nor a busy peer holds it up, of a station that has these packets
+-- the sending rule, once, of a station that has these packets
 pub sends_fits : (c : LinkSettings) (v : StationCode) (b : OutgoingCode) (before old made : List (List ℕ)) (s : LinkStation) (o : Outgoing)
     (out : List PlainFrame) (nr : ℕ) (sent : Bool) → FitsStation c v s
-    → Made c before old out → v.recovery ≡ false → v.peer_busy ≡ false → is_up v.phase ≡ true → nr ≡ wanted s → sent ≡ is_open c.window o
+    → Made c before old out → nr ≡ wanted s → sent ≡ may_send c.window (record s { outgoing = o })
     → FitsOutgoing c.window b (if sent then moved_on o else o)
     → made ≡ (if sent then old ++ spelling_of v.role (info (o.place % 8) nr false (next_packet o)) ∷ [] else old)
     → FitsSide c (record v { outgoing = b }) before made (pumped_once c.window (record { near = record s { outgoing = o }; out = out }))
-sends_fits c v b before old made s o out nr true near h recovery peer_busy up number opened outgoing e =
-    let may = may_send_is c.window (record s { outgoing = o }) (sym near.recovery ∙ recovery) (sym near.peer_busy ∙ peer_busy) (sym (ap is_up near.phase) ∙ up)
-    in
-    rw (may, sym opened) (record { near = with_outgoing c v s b _ near outgoing; out = made_more c v.role before old made out _ near.role h (rw number at e) })
-sends_fits c v b before old made s o out nr false near h recovery peer_busy up number opened outgoing e =
-    let may = may_send_is c.window (record s { outgoing = o }) (sym near.recovery ∙ recovery) (sym near.peer_busy ∙ peer_busy) (sym (ap is_up near.phase) ∙ up)
-    in
-    rw (may, sym opened) (record { near = with_outgoing c v s b _ near outgoing; out = e ∙ h })
-
-pub pump_fits : (c : LinkSettings) (v : StationCode) (b : OutgoingCode) (before old made : List (List ℕ)) (t : Side) (nr : ℕ) (sent : Bool)
-    → FitsSide c v before old t
-    → v.recovery ≡ false → v.peer_busy ≡ false → is_up v.phase ≡ true → nr ≡ wanted t.near → sent ≡ is_open c.window t.near.outgoing
-    → FitsOutgoing c.window b (if sent then moved_on t.near.outgoing else t.near.outgoing)
-    → made ≡ (if sent then old ++ spelling_of v.role (info (t.near.outgoing.place % 8) nr false (next_packet t.near.outgoing)) ∷ [] else old)
-    → FitsSide c (record v { outgoing = b }) before made (pumped_once c.window t)
-pump_fits c v b before old made t nr sent fits recovery peer_busy up number opened outgoing e =
-    sends_fits c v b before old made t.near t.near.outgoing t.out nr sent fits.near fits.out recovery peer_busy up number opened outgoing e
+sends_fits c v b before old made s o out nr true near h number may outgoing e =
+    rw (sym may) (record { near = with_outgoing c v s b _ near outgoing; out = made_more c v.role before old made out _ near.role h (rw number at e) })
+sends_fits c v b before old made s o out nr false near h number may outgoing e =
+    rw (sym may) (record { near = with_outgoing c v s b _ near outgoing; out = e ∙ h })
 
 pub pumped_more : (n k : ℕ) (t : Side) → pumped (n + 1) k t ≡ pumped_once k (pumped n k t)
 unfolding pumped

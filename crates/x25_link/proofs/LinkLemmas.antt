@@ -1,17 +1,24 @@
 -- A link between its calls.
-use Rattle.std.proofs.Common.{length, arith, ◌≤◌, ◌≡◌, ℕ, ◌+◌, List, [], Bool, true, false, refl, sym, ap, ◌∙◌, subst}
+use Rattle.std.proofs.Common.{length, arith, ◌≤◌, ◌≡◌, ℕ, ◌+◌, ◌%◌, List, [], ◌∷◌, ◌++◌, append-nil, Bool, true, false, not, if◌then◌else◌, refl, sym, ap, ◌∙◌, subst}
 use Rattle.std.proofs.lemmas.Bool.{and_left, and_right}
 use Rattle.std.proofs.lemmas.List.{length-drop}
-use Rattle.std.specs.Prelude.{nat_lt}
+use Rattle.std.specs.Prelude.{nat_lt, ◌&&◌, ◌||◌}
+use Rattle.x25_frame.specs.Frame.{info}
+use Rattle.x25_frame.specs.Spelling.{spelling_of}
+use Rattle.x25_link.specs.declared.outgoing.Outgoing.{Outgoing as OutgoingCode}
+use Rattle.x25_link.specs.declared.station.LinkStation.{LinkStation as StationCode}
+use Rattle.x25_link.specs.Outgoing.{Outgoing, added, is_open, moved_on, next_packet}
+use Rattle.x25_link.specs.code.OutgoingHeld.{FitsOutgoing}
+use Rattle.x25_link.proofs.FitsLemmas.{sends_fits}
 use Rattle.x25_link.specs.declared.phase.Phase.{Phase}
 use Rattle.x25_link.specs.declared.phase.Phase.TheVariants.{Up}
-use Rattle.x25_link.specs.Station.{LinkSettings, LinkStation, Side, is_up, is_busy, with_near, ready, may_send, owes_ready, ended}
-use Rattle.x25_link.specs.Link.{alone, asks_again, fires}
+use Rattle.x25_link.specs.Station.{LinkSettings, LinkStation, Side, is_up, is_busy, wanted, with_near, ready, may_send, owes_ready, ended}
+use Rattle.x25_link.specs.Link.{alone, asks_again, closed_by, fires, puts}
 use Rattle.x25_link.specs.code.Fits.{FitsStation, FitsSide, Made}
 use Rattle.x25_link.proofs.OutgoingLemmas.{sent_length}
 use Rattle.x25_link.specs.code.Bounds.{FewWait, FewStand, WindowIsSmall}
 use Rattle.x25_link.specs.code.FitsLink.{ShownLink, FitsLink}
-use Rattle.x25_link.proofs.EndLemmas.{ready_sends, ended_stays}
+use Rattle.x25_link.proofs.EndLemmas.{put_once, ready_sends, ended_stays}
 
 -- ---- a call begins: no frame is made yet
 
@@ -21,6 +28,35 @@ begins c old inside made s same fits none = record {
   near = (subst (λ (v : ShownLink). FitsLink c v s) (sym same) fits).near;
   out = none;
 }
+
+-- ---- a packet that is handed down where nothing may be sent
+
+-- what holds frames up is a test of two
+held_is : (r q : Bool) (may : Bool) → (not r && (not q && may)) ≡ (not (r || q) && may)
+held_is true q may = refl
+held_is false q may = refl
+
+pub may_put : (c : LinkSettings) (v : StationCode) (s : LinkStation) (o : Outgoing) → FitsStation c v s → is_up v.phase ≡ true
+    → may_send c.window (record s { outgoing = o }) ≡ (not (v.recovery || v.peer_busy) && is_open c.window o)
+may_put c v s o near up = rw (sym near.phase, up, sym near.recovery, sym near.peer_busy) (held_is v.recovery v.peer_busy (is_open c.window o))
+
+pub put_fits : (c : LinkSettings) (v : StationCode) (b : OutgoingCode) (before made : List (List ℕ)) (s : LinkStation) (packet : List ℕ) (nr : ℕ) (sent : Bool)
+    → FitsStation c v s → is_up v.phase ≡ true → nr ≡ wanted s → may_send c.window s ≡ false → owes_ready s ≡ false
+    → (let o : Outgoing = added packet s.outgoing in
+    let shuts : Type 0 = (v.recovery || v.peer_busy) ≡ false → is_open c.window s.outgoing ≡ false in
+    (shuts → sent ≡ (not (v.recovery || v.peer_busy) && is_open c.window o))
+    → (shuts → FitsOutgoing c.window b (if sent then moved_on o else o))
+    → (shuts → made ≡ (if sent then before ++ spelling_of v.role (info (s.outgoing.place % 8) nr false (next_packet o)) ∷ [] else before))
+    → FitsSide c (record v { outgoing = b }) before made (closed_by c.window (puts packet (alone s))).side)
+put_fits c v b before made s packet nr sent near up number settled calm goes outgoing frames =
+    let o = added packet s.outgoing in
+    let shuts = λ (free : (v.recovery || v.peer_busy) ≡ false).
+    sym (ap (λ (h : Bool). not h && is_open c.window s.outgoing) free) ∙ sym (may_put c v s s.outgoing near up) ∙ settled in
+    let high = near.outgoing.sender.sound.place_high in
+    let low : s.outgoing.place ≤ s.outgoing.sent = omega (arith, sent_length _ _ _ near.outgoing, high) in
+    subst (λ (u : Side). FitsSide c (record v { outgoing = b }) before made u) (sym (put_once c.window s packet low settled calm))
+    (sends_fits c v b before before made s o [] nr sent near (sym (append-nil before)) number (goes shuts ∙ sym (may_put c v s o near up)) (outgoing shuts)
+    (frames shuts))
 
 -- ---- a step after which nothing may be sent
 

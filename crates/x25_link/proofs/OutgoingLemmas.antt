@@ -1,11 +1,12 @@
 -- The two lists of a outgoing, the packets sent and those that wait, as one.
-use Rattle.std.proofs.Common.{◌≡◌, ℕ, ◌+◌, ◌%◌, ◌<◌, ◌≤◌, ◌&&◌, List, [], ◌∷◌, ◌++◌, length, length-append, take, drop, slice_index_or, max, Bool, true, false}
+use Rattle.std.proofs.Common.{◌≡◌, ℕ, ◌+◌, ◌%◌, ◌<◌, ◌≤◌, ◌&&◌, List, [], ◌∷◌, ◌++◌, length, length-append, take, drop, slice_index_or, max, Bool, true, false, not, if◌then◌else◌}
 use Rattle.std.proofs.Common.{refl, sym, ap, ◌∙◌, arith}
-use Rattle.std.specs.Prelude.{nat_lt}
+use Rattle.std.specs.Prelude.{nat_lt, slice_get, Some}
+use Rattle.std.proofs.lemmas.Option.{get_or_from_slice_get}
 use Rattle.std.proofs.lemmas.List.{length-take-le, take-append-le, drop-append-le, take_more, drop_more, length-drop, get_or-take}
 use Rattle.std.proofs.lemmas.Bool.{lt-ltb, ltb-true, ltb-false, eq-eqb}
-use Rattle.x25_window.specs.code.Held.{Held, Fits}
-use Rattle.x25_window.specs.Sender.{Sending, acknowledged, offered, moved_on}
+use Rattle.x25_window.specs.code.Held.{Held, Fits, advanced}
+use Rattle.x25_window.specs.Sender.{Sending, acknowledged, offered}
 use Rattle.x25_frame.specs.Frame.{info}
 use Rattle.x25_link.specs.declared.outgoing.Outgoing.{Outgoing as OutgoingCode}
 use Rattle.x25_link.specs.Outgoing.{moved_on as sent_on}
@@ -33,46 +34,21 @@ part_length k h q o fits = length-take-le o.sent o.given fits.sent
 
 -- ---- a packet that was sent before
 
-pub record Again (k : ℕ) (o : Outgoing) : Type 0 where
-  pub below : o.place < o.sent
-  pub open_is : is_open k o ≡ true
-  pub packet : slice_index_or (take o.sent o.given) o.place [] ≡ next_packet o
-
-pub again_is : (k : ℕ) (h : Held (List ℕ)) (q : List (List ℕ)) (o : Outgoing) → Parts k h q o → true ≡ nat_lt o.place (length (take o.sent o.given)) → Again k o
-again_is k h q o fits test =
+pub again_frame : (k : ℕ) (h : Held (List ℕ)) (q : List (List ℕ)) (o : Outgoing) (n nr : ℕ) (x y : List ℕ) → Parts k h q o
+    → (o.place < length (take o.sent o.given)) × (n ≡ o.place % 8) × (slice_get (take o.sent o.given) o.place ≡ Some x)
+    → y ≡ x → info n nr false y ≡ info (o.place % 8) nr false (next_packet o)
+again_frame k h q o n nr x y fits at same =
     let l = part_length k h q o fits in
-    let below : o.place < length (take o.sent o.given) = ltb-true _ _ (sym test) in
-    let room = fits.sender.sound.room in
-    let sent = fits.sent in
-    record {
-      below = omega arith;
-      open_is = rw (lt-ltb o.place (o.acked + k) (omega arith), lt-ltb o.place (length o.given) (omega arith)) refl;
-      packet = get_or-take o.sent o.given o.place [] (omega arith);
-    }
+    let packet = sym (get_or_from_slice_get (take o.sent o.given) o.place x [] at.2) ∙ get_or-take o.sent o.given o.place [] (omega (arith, l, at.0)) in
+    rw (at.1, same, packet) refl
 
-pub again_fits : (k : ℕ) (h g : Held (List ℕ)) (q : List (List ℕ)) (o : Outgoing) → Parts k h q o → o.place < o.sent → Fits g (moved_on (sending_of k o))
-    → Parts k g q (sent_on o)
-again_fits k h g q o fits below sender =
-    let same : max o.sent (o.place + 1) ≡ o.sent = omega arith in
-    record { sender = rw same sender; queue = rw same (fits.queue); sent = rw same (fits.sent); few = fits.few }
-
--- ---- all was sent: the place to send from is the number of the first packet that waits
-
-pub all_sent : (k : ℕ) (h : Held (List ℕ)) (q : List (List ℕ)) (o : Outgoing) → Parts k h q o → false ≡ nat_lt o.place (length (take o.sent o.given)) → o.place
-    ≡ o.sent
-all_sent k h q o fits test =
-    let l = part_length k h q o fits in
-    let above = ltb-false _ _ (sym test) in
-    let high = fits.sender.sound.place_high in
-    omega arith
-
-pub same_fits : (k : ℕ) (h g : Held (List ℕ)) (q : List (List ℕ)) (o : Outgoing) → Parts k h q o → Fits g (sending_of k o) → Parts k g q o
-same_fits k h g q o fits sender = record { sender = sender; queue = fits.queue; sent = fits.sent; few = fits.few }
-
-pub empty_waits : (k : ℕ) (h : Held (List ℕ)) (q : List (List ℕ)) (o : Outgoing) → Parts k h q o → q ≡ [] → length o.given ≤ o.sent
-empty_waits k h q o fits empty =
-    let rest = ap length (sym fits.queue ∙ empty) in
-    omega (arith, length-drop o.sent o.given)
+-- its packets stay
+pub advanced_items : (h : Held (List ℕ)) → (advanced h).items ≡ h.items
+advanced_items h = by_test (nat_lt h.before (length h.items))
+  where
+    by_test : (b : Bool) → (if b then record h { before = h.before + 1 } else h).items ≡ h.items
+    by_test true = refl
+    by_test false = refl
 
 -- ---- a packet that waited
 
@@ -179,3 +155,8 @@ full_shut k h q o fits shut full = by_test (nat_lt o.place (o.acked + k)) refl
     by_test true e =
         let all = ltb-false o.place (length o.given) (sym (ap (λ (t : Bool). t && nat_lt o.place (length o.given)) e) ∙ shut) in
         omega (arith, part_length k h q o fits, full, all, fits.sent)
+
+-- where it is held up, or may not be sent
+pub shut_by : (held may : Bool) → (held ≡ false → may ≡ false) → (not held && may) ≡ false
+shut_by true may e = refl
+shut_by false may e = e refl

@@ -1,11 +1,9 @@
 //! What a station does at the calls of its user and of its timer.
 ghost use Rattle.std.specs.Prelude.{◌≡◌, ℕ, ◌+◌, ◌<◌, ◌≤◌, List, length, false, true};
-ghost use Rattle.x25_link.specs.Station.{LinkSettings, LinkStation as StationState, Side, may_send, owes_ready};
+ghost use Rattle.x25_link.specs.Station.{LinkSettings, Side};
 ghost use Rattle.x25_link.specs.code.Fits.{FitsSide, Leads, Hears};
-ghost use Rattle.x25_link.specs.code.Places.{left_for};
 ghost use Rattle.x25_link.specs.Hearing.{quiet};
-ghost use Rattle.x25_link.specs.Link.{alone, puts, connects, disconnects, fires, asks_again};
-ghost use Rattle.x25_link.specs.Link.{closed_by, relinks};
+ghost use Rattle.x25_link.specs.Link.{connects, disconnects, fires, asks_again, relinks};
 
 use crate::frames::Frames;
 use crate::heard::Heard;
@@ -14,28 +12,6 @@ use crate::station::LinkStation;
 use x25_frame::Frame;
 
 impl LinkStation {
-    /// Lets a packet wait, and sends it where it may go.
-    pub fn put(&mut self, packet: &[u8], out: &mut Frames)
-        requires free { length self.old.outgoing.queue < 256 }
-        requires fits { length packet.now ≤ 4099 }
-        requires standing { 0 < left_for self.old.outgoing.places.short self.old.outgoing.places.long
-            (length packet.now) }
-        requires place { length out.old < 25 }
-        ensures step { (c : LinkSettings) (before : List (List ℕ)) (s : StationState)
-            → FitsSide c self.old before out.old (alone s) → may_send c.window s ≡ false → owes_ready s ≡ false →
-            FitsSide c self.new before out.new (closed_by c.window (puts packet.now (alone s))).side }
-        ensures kept { self.new ≡ record self.old { outgoing = self.new.outgoing } }
-        ensures queue { length self.new.outgoing.queue ≤ length self.old.outgoing.queue + 1 }
-        ensures one { length out.new ≤ length out.old + 1 }
-    {
-        if !self.phase.is_up() || self.recovery || self.peer_busy {
-            self.outgoing.add(packet);
-            return;
-        }
-        let nr = self.receiver.wanted();
-        self.outgoing.send_at_once(packet, self.role, nr, out);
-    }
-
     /// Begins to set the link up.
     pub fn connect(&mut self, out: &mut Frames)
         requires { length out.old < 25 }

@@ -261,10 +261,15 @@ impl Link {
         if self.frames.len() == MOST_FRAMES {
             return Err(LinkError::NoMemory);
         }
-        if !self.station.outgoing.has_place(packet.len()) {
+        let station = &mut self.station;
+        if station.outgoing.places.left_for(packet.len()) == 0 {
             return Err(LinkError::NoMemory);
         }
-        self.station.put(packet, &mut self.frames);
+        let held = station.recovery | station.peer_busy;
+        let nr = station.receiver.wanted();
+        station
+            .outgoing
+            .put(packet, held, station.role, nr, &mut self.frames);
         Ok(())
     }
 }

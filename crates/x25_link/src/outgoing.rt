@@ -1,7 +1,7 @@
 ghost use Rattle.std.specs.Prelude.{◌≡◌, ℕ, ◌+◌, ◌-◌, ◌%◌, ◌<◌, ◌≤◌, nat_lt, List, [], ◌∷◌, ◌++◌, length};
 ghost use Rattle.std.specs.Prelude.{slice_index_or, IfOk, IfErr, MatchOption};
-ghost use Rattle.std.specs.Prelude.{true, false, if◌then◌else◌};
-ghost use Rattle.x25_window.specs.Sender.{Sending, acknowledged, moved_on, offered};
+ghost use Rattle.std.specs.Prelude.{true, false, not, ◌&&◌, if◌then◌else◌};
+ghost use Rattle.x25_window.specs.Sender.{Sending, acknowledged, offered};
 ghost use Rattle.x25_window.specs.code.Held.{Fits, with_item};
 ghost use Rattle.x25_frame.specs.Frame.{info};
 ghost use Rattle.x25_frame.specs.Spelling.{spelling_of};
@@ -66,29 +66,6 @@ impl Outgoing {
         self.sender.top()
     }
 
-    /// Whether a place is left for a packet of so many octets.
-    pub fn has_place(&self, count: usize) -> bool
-        ensures value { result ≡ nat_lt 0 (left_for self.now.places.short self.now.places.long count) }
-        ensures short { count ≤ 260 → length self.now.queue < 256 → result ≡ true }
-        ensures long { length self.now.queue < 8 → result ≡ true }
-    {
-        self.places.left_for(count) > 0
-    }
-
-    /// Lets a packet wait.
-    pub fn add(&mut self, packet: &[u8])
-        requires room { length self.old.queue < 256 }
-        requires fits { length packet.now ≤ 4099 }
-        requires place { 0 < left_for self.old.places.short self.old.places.long (length packet.now) }
-        ensures queue { self.new.queue ≡ self.old.queue ++ packet.now ∷ [] }
-        ensures sender { self.new.sender ≡ self.old.sender }
-        ensures state { (k : ℕ) (o : OutgoingState) → FitsOutgoing k self.old o
-            → FitsOutgoing k self.new (added packet.now o) }
-    {
-        let packet = self.places.take(packet);
-        self.queue.push(packet);
-    }
-
     /// Takes the first packets as acknowledged, and their places back.
     pub fn release(&mut self, count: u8)
         requires { count ≤ length self.old.sender.items }
@@ -127,18 +104,18 @@ impl Outgoing {
         self.sender.clear();
     }
 
-    /// As `add` and then `send_next`, where before it nothing may be sent: so where the window is open no packet waits,
-    /// and this one goes at once. It says whether it did.
-    pub fn send_at_once(&mut self, packet: &[u8], from: Role, nr: Seq, out: &mut Frames) -> bool
+    /// Takes a packet, which waits where frames are held up. Else nothing may be sent before it: so it goes at once if
+    /// the window is open, for then none waits. It says whether it went.
+    pub fn put(&mut self, packet: &[u8], held: bool, from: Role, nr: Seq, out: &mut Frames) -> bool
         requires few { length self.old.queue < 256 }
         requires fits { length packet.now ≤ 4099 }
         requires standing { 0 < left_for self.old.places.short self.old.places.long (length packet.now) }
         requires place { length out.old < 25 }
-        ensures sent { (k : ℕ) (o : OutgoingState) → FitsOutgoing k self.old o → is_open k o ≡ false
-            → result ≡ is_open k (added packet.now o) }
-        ensures step { (k : ℕ) (o : OutgoingState) → FitsOutgoing k self.old o → is_open k o ≡ false
+        ensures sent { (k : ℕ) (o : OutgoingState) → FitsOutgoing k self.old o → (held ≡ false → is_open k o ≡ false)
+            → result ≡ (not held && is_open k (added packet.now o)) }
+        ensures step { (k : ℕ) (o : OutgoingState) → FitsOutgoing k self.old o → (held ≡ false → is_open k o ≡ false)
             → FitsOutgoing k self.new (if result then sent_on (added packet.now o) else added packet.now o) }
-        ensures made { (k : ℕ) (o : OutgoingState) → FitsOutgoing k self.old o → is_open k o ≡ false →
+        ensures made { (k : ℕ) (o : OutgoingState) → FitsOutgoing k self.old o → (held ≡ false → is_open k o ≡ false) →
             out.new ≡ (if result
             then out.old
             ++ spelling_of from (info (o.place % 8) nr.number false (next_packet (added packet.now o))) ∷ []
@@ -147,7 +124,7 @@ impl Outgoing {
         ensures one { length out.new ≤ length out.old + 1 }
     {
         let packet = self.places.take(packet);
-        if self.sender.is_full() {
+        if held | self.sender.is_full() {
             self.queue.push(packet);
             return false;
         }
@@ -171,7 +148,8 @@ impl Outgoing {
         ensures none { result ≡ false → out.new ≡ out.old }
     {
         let is_closed = self.sender.is_full();
-        if send_again(&mut self.sender, from, nr, out) {
+        if let Some((ns, packet)) = self.sender.next() {
+            out.push_packet(from, ns, nr, packet.as_slice());
             return true;
         }
         if is_closed {
@@ -183,28 +161,6 @@ impl Outgoing {
         send_new(&mut self.sender, packet, from, nr, out);
         true
     }
-}
-
-// Sends the packet at the place to send from again, where it was sent before. It says whether it did.
-fn send_again(sender: &mut Sender<Packet>, from: Role, nr: Seq, out: &mut Frames) -> bool
-    requires { length out.old < 25 }
-    ensures sent { (w : Sending (List ℕ)) → Fits sender.old w → result ≡ nat_lt w.place (length w.given) }
-    ensures step { (w : Sending (List ℕ)) → Fits sender.old w → Fits sender.new (if result then moved_on w else w) }
-    ensures made { (w : Sending (List ℕ)) → Fits sender.old w →
-        out.new ≡ (if result
-        then out.old
-        ++ spelling_of from (info (w.place % 8) nr.number false (slice_index_or w.given w.place [])) ∷ []
-        else out.old) }
-    ensures held { sender.new ≡ (if result then record sender.old { before = sender.old.before + 1 } else sender.old) }
-    ensures last { result ≡ false → sender.old.before ≡ length sender.old.items }
-    ensures one { length out.new ≤ length out.old + 1 }
-    ensures none { result ≡ false → out.new ≡ out.old }
-{
-    let Some((ns, packet)) = sender.next() else {
-        return false;
-    };
-    out.push_packet(from, ns, nr, packet.as_slice());
-    true
 }
 
 // Sends a packet for the first time.

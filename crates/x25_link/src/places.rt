@@ -30,20 +30,6 @@ impl Model for Packet {
 }
 
 impl Packet {
-    /// How many octets it has.
-    fn len(&self) -> usize
-        ensures { result ≡ length self.now }
-    {
-        self.octets.len()
-    }
-
-    // The place that it stands in.
-    fn into_place(self) -> Vec<u8>
-        ensures { vec_capacity result ≡ room_for (length self) }
-    {
-        self.octets
-    }
-
     /// Lends the octets.
     pub fn as_slice(&self) -> &[u8]
         ensures items { result.now ≡ self.now }
@@ -194,10 +180,10 @@ impl Places {
         ensures long { self.new.long.left ≡ self.old.long.left + long_of packet }
         ensures long_ones { self.new.long.all ≡ self.old.long.all }
     {
-        if packet.len() <= SHORT {
-            self.short.give(packet.into_place());
+        if packet.octets.len() <= SHORT {
+            self.short.give(packet.octets);
         } else {
-            self.long.give(packet.into_place());
+            self.long.give(packet.octets);
         }
     }
 }

@@ -16,7 +16,10 @@ use Rattle.x25_packet.specs.Classes.{are_facilities, asks_fast_select}
 use Rattle.x25_packet.specs.Form.{registration, registration_conf, PlainKind, PlainForm, call, accept, extended_clear, clear_conf, rr, rnr, rej, interrupt_conf}
 use Rattle.x25_packet.specs.Form.{reset, reset_conf, restart, restart_conf}
 use Rattle.x25_packet.specs.Form.Spelling.{type_of, body_of, reason_octets, may_have, HasFacilities, HasPlace, IsAnswer, IsShort, IsKind, MayLack, Spells}
-use Rattle.x25_packet.specs.Grammar.{when, mapped, is_over, field_read, fields_of, with_addresses, addressed, block_of, optional_block, bare, is_short, called}
+use Rattle.x25_packet.specs.declared.form.Form.{Form}
+use Rattle.x25_packet.specs.Form.{plain}
+use Rattle.x25_packet.specs.Made.{Reads}
+use Rattle.x25_packet.specs.Grammar.{Gives, when, mapped, is_over, field_read, fields_of, with_addresses, addressed, block_of, optional_block, bare, is_short, called}
 use Rattle.x25_packet.specs.Grammar.{call_of, written_answer, accept_of, reason_of, caused, clear_of, clear_conf_of, interrupt_of, data_of, diagnostic_of}
 use Rattle.x25_packet.specs.Grammar.{registered, rej_of, others, unchannelled, named, channelled, kind_of, has_format, with_head, read_of}
 use Rattle.x25_packet.proofs.FacilityLaws.{chosen, ok_err, ok_same, facilities_found}
@@ -458,3 +461,9 @@ found_spells forms most (first ∷ second ∷ kind ∷ body) w small e =
       spelling = front _ _ _ _ (rw (q, d) (omega (arith, few, less, modulo)))
           (front _ _ _ _ (omega (arith, few, less)) (front _ _ _ _ (sym found.type_is) found.body_is));
     })
+
+-- octets are read to the packet as it is
+pub read_form : (r : Result Form PacketError) (x : Result PlainForm PacketError)
+    → Reads (λ (s : Result Form PacketError) (w : PlainForm). Gives plain s (Ok w)) r x → Gives plain r x
+read_form r (Ok w) gives = gives
+read_form r (Err e) is = subst (λ (s : Result Form PacketError). Gives plain s (Err e)) (sym is) refl

@@ -12,4 +12,3 @@ pub mod NarrowLaws
 pub mod FaultLaws
 pub mod NarrowRange
 pub mod TakingLaws
-mod WantLaws

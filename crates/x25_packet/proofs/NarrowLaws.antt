@@ -17,7 +17,9 @@ use Rattle.x25_packet.specs.Narrowing.{narrow_of, narrowed, taken_of}
 use Rattle.x25_packet.specs.Form.{PlainKind, PlainForm, call, accept, clear, extended_clear, clear_conf, user_data, rr, rnr, rej, interrupt, interrupt_conf}
 use Rattle.x25_packet.specs.Form.{reset, reset_conf, restart, restart_conf, diagnostic, registration, registration_conf}
 use Rattle.x25_packet.specs.Form.Spelling.{spelling_of, type_of, may_have, HasFacilities, HasPlace, IsAnswer, IsKind, IsPacket, Spells}
-use Rattle.x25_packet.specs.Grammar.{read_of, form_in}
+use Rattle.x25_packet.specs.Grammar.{Gives, read_of, form_in}
+use Rattle.x25_packet.specs.Made.{Reads}
+use Rattle.x25_packet.specs.declared.packet.Packet.{Packet}
 use Rattle.x25_packet.proofs.AddressLaws.{drop_first, address_at, block_packed, block_when, called_again, calling_again, length-halves_at, length-pairs}
 use Rattle.x25_packet.proofs.AddressLaws.{packed_holds}
 use Rattle.x25_packet.proofs.AgainLaws.{read_again}
@@ -387,3 +389,9 @@ module _ (most : ℕ) (octets : List ℕ) (small : AreSmall octets) where
       by : (r : Result PlainForm PacketError) → read_of Written most octets ≡ r → taken_of r ≡ Err e → r ≡ Err e
       by (Err x) is h = cc
       by (Ok w) is h = absurd (ok_err (sym h ∙ (narrowed_of w (found_spells Written most octets w small is)).taken))
+
+-- a packet is read to what a station takes it for
+pub read_taken : (r : Result Packet PacketError) (x : Result PlainForm PacketError)
+    → Reads (λ (s : Result Packet PacketError) (w : PlainForm). Gives strict.plain s (narrow_of w)) r x → Gives strict.plain r (taken_of x)
+read_taken r (Ok w) gives = gives
+read_taken r (Err e) is = subst (λ (s : Result Packet PacketError). Gives strict.plain s (Err e)) (sym is) refl

@@ -2,7 +2,7 @@
 use Rattle.std.specs.Prelude.{ℕ}
 use Rattle.x25_packet.specs.declared.error.PacketError.{PacketError}
 use Rattle.x25_packet.specs.declared.error.PacketError.TheVariants.{TooShort, BadFormat, Unidentified, TooLong}
-use Rattle.x25_packet.specs.declared.error.PacketError.TheVariants.{BadDigit, BadFacility, BadParameter, NoMemory}
+use Rattle.x25_packet.specs.declared.error.PacketError.TheVariants.{BadDigit, BadFacility, BadParameter}
 
 abbrev pub number_of : PacketError → ℕ
 number_of TooShort = 20
@@ -12,7 +12,6 @@ number_of TooLong = 23
 number_of BadDigit = 24
 number_of BadFacility = 25
 number_of BadParameter = 26
-number_of NoMemory = 70
 
 -- the diagnostic code that reports the error (profile)
 abbrev pub diagnostic_of : PacketError → ℕ
@@ -23,4 +22,3 @@ diagnostic_of TooLong = 39
 diagnostic_of BadDigit = 0
 diagnostic_of BadFacility = 65
 diagnostic_of BadParameter = 66
-diagnostic_of NoMemory = 0

@@ -29,9 +29,6 @@ pub enum PacketError {
     /// 26, diagnostic 66: a facility's octets are missing or out of range.
     #[error("a facility parameter that is not allowed")]
     BadParameter,
-    /// 70, no diagnostic (0): memory was refused. Reading takes none, and never answers this.
-    #[error("no memory")]
-    NoMemory,
 }
 
 impl PacketError {
@@ -47,7 +44,6 @@ impl PacketError {
             PacketError::BadDigit => 24,
             PacketError::BadFacility => 25,
             PacketError::BadParameter => 26,
-            PacketError::NoMemory => 70,
         }
     }
 
@@ -62,7 +58,7 @@ impl PacketError {
             PacketError::TooLong => 39,
             PacketError::BadFacility => 65,
             PacketError::BadParameter => 66,
-            PacketError::BadDigit | PacketError::NoMemory => 0,
+            PacketError::BadDigit => 0,
         }
     }
 }

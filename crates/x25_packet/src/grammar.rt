@@ -409,12 +409,6 @@ pub(crate) fn read<'a, M: Made<'a>>(
     kind(head, forms, most, *kind_octet, body)
 }
 
-fn read_any<'a>(most: usize, octets: &'a [u8]) -> Result<Form<'a>, PacketError>
-    ensures { Gives plain result (form_in most octets.now) }
-{
-    read(Forms::Any, most, octets)
-}
-
 /// The packet that the octets spell, with at most `most` octets of user data in a CALL without fast select.
 ///
 /// ITU-T X.25 (10/96), section 5. Errors 20 to 24 and 26, the first that applies: fewer than three octets (20), the
@@ -428,5 +422,5 @@ pub fn decode<'a>(most: usize, octets: &'a [u8]) -> Result<Form<'a>, PacketError
     // What is spelled so is read.
     ensures only { (v : PlainForm) → Spells Any most v octets.now → IsOkAnd result (λ w. plain w ≡ v) }
 {
-    read_any(most, octets)
+    read(Forms::Any, most, octets)
 }

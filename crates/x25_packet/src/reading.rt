@@ -1,11 +1,10 @@
 //! Packets read from their octets.
 ghost use Rattle.std.specs.Prelude.{◌≡◌, ◌≤◌, IfErr, IfOk, IsOkAnd};
-ghost use Rattle.x25_packet.specs.Narrowing.{taken_of};
 ghost use Rattle.x25_packet.specs.Packet.{PlainPacket, plain};
 ghost use Rattle.x25_packet.specs.Reading.{channel_in, packet_of};
 ghost use Rattle.x25_packet.specs.Reading.FirstError.{IsFirstError};
 ghost use Rattle.x25_packet.specs.Spelling.{Spells, longest_user};
-ghost use Rattle.x25_packet.specs.Grammar.{Gives, read_of};
+ghost use Rattle.x25_packet.specs.Grammar.{Gives};
 
 use crate::error::PacketError;
 use crate::form::Forms;
@@ -45,17 +44,6 @@ pub fn longest_user(long_data: bool) -> usize
     }
 }
 
-/// What a station takes octets for, as a packet of these forms.
-pub(crate) fn read_forms<'a>(
-    forms: Forms,
-    most: usize,
-    octets: &'a [u8],
-) -> Result<Packet<'a>, PacketError>
-    ensures { Gives plain result (taken_of (read_of forms most octets.now)) }
-{
-    read(forms, most, octets)
-}
-
 /// The packet that the octets spell, with at most `most` octets of user data in a CALL.
 ///
 /// ITU-T X.25 (10/96), section 5. Errors 20 to 26, the first that applies: fewer than three octets (20), the general
@@ -70,5 +58,5 @@ pub fn decode_within<'a>(most: usize, octets: &'a [u8]) -> Result<Packet<'a>, Pa
     // What is spelled so is read.
     ensures only { (v : PlainPacket) → Spells most v octets.now → IsOkAnd result (λ w. plain w ≡ v) }
 {
-    read_forms(Forms::Written, most, octets)
+    read(Forms::Written, most, octets)
 }

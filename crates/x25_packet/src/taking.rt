@@ -8,7 +8,7 @@ ghost use Rattle.x25_packet.specs.Taking.{taken_in, read_in};
 use crate::error::PacketError;
 use crate::form::Forms;
 use crate::packet::Packet;
-use crate::reading::{decode_within, read_forms};
+use crate::reading::decode_within;
 
 /// The packet that a station takes octets for, which borrows these. A CALL has at most `most` octets of user data
 /// without fast select.
@@ -20,7 +20,7 @@ pub fn take<'a>(most: usize, octets: &'a [u8]) -> Result<Packet<'a>, PacketError
     // Its fields are in their ranges, so that it can be spelled.
     ensures range { most ≤ 128 → IfOk result (λ p. IsInRange 128 (plain p)) }
 {
-    read_forms(Forms::Any, most, octets)
+    crate::grammar::read(Forms::Any, most, octets)
 }
 
 /// The packet that a station reads octets as: with `wide` as `take` does, and else in the form that it writes itself

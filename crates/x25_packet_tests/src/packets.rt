@@ -238,7 +238,7 @@ fn acceptances(rt: HostRuntime) {
 }
 
 /// Each error, its number, its diagnostic code and its message.
-static ERRORS: [(PacketError, u8, u8, &str); 8] = [
+static ERRORS: [(PacketError, u8, u8, &str); 7] = [
     (PacketError::TooShort, 20, 38, "too few octets"),
     (
         PacketError::BadFormat,
@@ -266,7 +266,6 @@ static ERRORS: [(PacketError, u8, u8, &str); 8] = [
         66,
         "a facility parameter that is not allowed",
     ),
-    (PacketError::NoMemory, 70, 0, "no memory"),
 ];
 
 fn says(alloc: Global, error: PacketError, message: &str) -> bool {

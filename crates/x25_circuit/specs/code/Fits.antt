@@ -1,8 +1,7 @@
 -- Which states of the definition a circuit's variables stand for.
-use Rattle.std.specs.Prelude.{◌≡◌, ℕ, ◌+◌, ◌≤◌, ◌%◌, ◌⊎◌, List, [], ◌∷◌, ◌++◌, drop, length, nat_lt, nat_le}
-use Rattle.std.specs.Prelude.{if◌then◌else◌, ◌&&◌}
+use Rattle.std.specs.Prelude.{◌≡◌, ℕ, ◌+◌, ◌≤◌, ◌%◌, ◌⊎◌, List, [], ◌∷◌, ◌++◌, drop, length, nat_lt}
+use Rattle.std.specs.Prelude.{◌&&◌}
 use Rattle.std.specs.Prelude.{true, false}
-use Rattle.x25_window.specs.code.Modulo.{resolved}
 use Rattle.x25_window.specs.Receiver.{FitsTaken}
 use Rattle.x25_circuit.specs.declared.transfer.Transfer.{Transfer}
 use Rattle.x25_circuit.specs.declared.transfer.Header.{Header}
@@ -36,7 +35,3 @@ pub record IsSent (window size : ℕ) (t : Talk) (v : Transfer) (header : Header
   pub fits : FitsTalk size v (with_sent (piece_of header.marks header.m v.queue.cutter.lent) others t)
   pub ps : header.ps.number ≡ length t.sent % 8
   pub pr : header.pr.number ≡ length t.taken % 8
-
--- 2 where the P(R) is invalid, and else the other ground
-abbrev pub first_ground : Talk → ℕ → ℕ → ℕ
-first_ground t pr diagnostic = if nat_le (resolved t.acked pr) (length t.sent) then diagnostic else 2

@@ -1,19 +1,14 @@
 -- In which circuits nothing is under way.
-use Rattle.std.specs.Prelude.{◌≡◌, ℕ, suc, ◌<◌, ◌≤◌, List, length, Some, false, slice_get, slice_index}
+use Rattle.std.specs.Prelude.{◌≡◌, ℕ, suc, ◌/◌, ◌%◌, List, Some, false, slice_get, slice_index}
+use Rattle.std.specs.Int.{bit_at}
 use Rattle.x25_circuit.specs.declared.circuit.Circuit as circuit_code
 use Rattle.x25_circuit.specs.Awaits.{awaited_in, is_any}
 use Rattle.x25_circuit.specs.Circuit.{CircuitSettings, Circuit, waits}
 use Rattle.x25_circuit.specs.code.FitsCircuit.{FitsCircuit, waits_of}
 
--- channels in rising order, of those from 1 up to a number
-pub record AreRising (most : ℕ) (hs : List ℕ) : Type 0 where
-  pub rise : (i j : ℕ) → i < j → j < length hs → slice_index hs i < slice_index hs j
-  pub low : (i : ℕ) → i < length hs → 1 ≤ slice_index hs i
-  pub high : (i : ℕ) → i < length hs → slice_index hs i ≤ most
-
--- a channel is none of these
+-- a channel is none of these, for each of which a bit is set, in words of 64
 abbrev pub IsOutside : List ℕ → ℕ → Type 0
-IsOutside hs h = (i : ℕ) → i < length hs → slice_index hs i ≡ h → ⊥
+IsOutside words h = bit_at (slice_index words (h / 64)) (h % 64) ≡ 0
 
 -- no message waits in a circuit, and no answer is awaited
 pub record IsIdle (v : circuit_code.Circuit) : Type 0 where
@@ -23,4 +18,4 @@ pub record IsIdle (v : circuit_code.Circuit) : Type 0 where
 
 -- the circuits of the other channels are idle
 abbrev pub IdleBeside : List ℕ → List circuit_code.Circuit → Type 0
-IdleBeside hs vs = (k : ℕ) (v : circuit_code.Circuit) → slice_get vs k ≡ Some v → IsOutside hs (suc k) → IsIdle v
+IdleBeside words vs = (k : ℕ) (v : circuit_code.Circuit) → slice_get vs k ≡ Some v → IsOutside words (suc k) → IsIdle v

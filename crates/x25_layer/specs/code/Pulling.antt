@@ -1,5 +1,5 @@
 -- A step in the search for the next data packet.
-use Rattle.std.specs.Prelude.{◌≡◌, ℕ, ◌<◌, ◌≤◌, List, length, vec_capacity, Option, Some, None, Bool, true, false}
+use Rattle.std.specs.Prelude.{◌≡◌, ℕ, ◌<◌, ◌≤◌, List, length, Option, Some, None, Bool, true, false}
 use Rattle.std.specs.Prelude.{IfSome, MatchOption}
 use Rattle.x25_packet.specs.Packet.{PlainPacket}
 use Rattle.x25_packet.specs.Spelling.{spelling_of}
@@ -56,5 +56,5 @@ pub record GoesOn (old new : List circuit_code.Circuit) (sheet : List ℕ) (behi
   pub long : IfSome result (λ _. length sheet ≤ 4099)
   pub count : length new ≡ length old
   pub left : HaveCountsLeft old → HaveCountsLeft new
-  pub places : vec_capacity busy.channels ≡ length new
-  pub still : IdleBeside busy.channels.items new
+  pub places : busy.count ≡ length new
+  pub still : IdleBeside busy.words.items new

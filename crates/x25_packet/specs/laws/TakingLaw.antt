@@ -1,8 +1,7 @@
 -- What a station reads octets as, in the form that it writes alone or in any: what they are in the form that it
 -- writes, where they are a packet then. It is on the channel that they name, its data are all that lies behind the
 -- first three octets, and its fields are in their ranges.
-use Rattle.std.specs.Prelude.{◌≡◌, ◌≢◌, ◌+◌, ◌<◌, ◌≤◌, ℕ, Bool, List, ◌++◌, length, take, All, Some, Ok, Err, true}
-use Rattle.x25_packet.specs.declared.error.PacketError.TheVariants.{NoMemory}
+use Rattle.std.specs.Prelude.{◌≡◌, ◌+◌, ◌<◌, ◌≤◌, ℕ, Bool, List, ◌++◌, length, take, All, Some, Ok, true}
 use Rattle.x25_packet.specs.declared.marks.Marks.{Marks}
 use Rattle.x25_packet.specs.Packet.{PlainPacket, user_data}
 use Rattle.x25_packet.specs.Reading.{packet_of, channel_in}
@@ -35,8 +34,3 @@ TakesAllBehindThree = (wide : Bool) (most channel : ℕ) (marks : Marks) (m : Bo
 abbrev pub TakesInRange : Type 0
 TakesInRange = (wide : Bool) (most : ℕ) (v : PlainPacket) (octets : List ℕ) → most ≤ 128
     → All (λ octet. octet < 256) octets → read_in wide most octets ≡ Ok v → IsInRange 128 v
-
--- want of memory is no error of octets
-abbrev pub TakesWithoutMemory : Type 0
-TakesWithoutMemory = (wide : Bool) (most : ℕ) (octets : List ℕ) → All (λ octet. octet < 256) octets
-    → read_in wide most octets ≢ Err NoMemory

@@ -34,7 +34,7 @@ loop-next-preserved c =
           let stands = c.loop-next.invariant.stands s f before in
           let here = none_put c.pull_one-is_put.result c.pull_one-is_put.new.sheet _ not_put (p.put s.circuit (f (suc i)) (stands i _ read)) in
           none_to s f c.args.behind c.in-Some.next
-          (none_before c.what_waits_is_pulled.ensures s c.loop-next.circuits.items c.loop-next.busy.channels.items f stands c.loop-next.invariant.still
+          (none_before c.what_waits_is_pulled.ensures s c.loop-next.circuits.items c.loop-next.busy.words.items f stands c.loop-next.invariant.still
           c.args.behind c.loop-next.channel c.in-Some.next (omega (arith, low, up))
           (c.loop-next.invariant.none s f before) c.in-Some.ensures.between)
           (subst (λ (h : ℕ). packet_on c.in-Some.next (pulled s.circuit (f h)).packet ≡ None) up here);
@@ -42,11 +42,11 @@ loop-next-preserved c =
           (c.loop-next.invariant.left all)
           (counts_left _ c.pull_one-is_put.new.circuit p.clears p.resets (c.loop-next.invariant.left all i _ read));
       places = c.leave_idle.ensures.places ∙ c.loop-next.invariant.places ∙ sym (length-set c.loop-next.circuits.items i c.pull_one-is_put.new.circuit);
-      still = rest_changed (λ (k : ℕ) (v : circuit_code.Circuit). IsOutside c.leave_idle.new.self.channels.items (suc k) → IsIdle v) c.loop-next.circuits.items
+      still = rest_changed (λ (k : ℕ) (v : circuit_code.Circuit). IsOutside c.leave_idle.new.self.words.items (suc k) → IsIdle v) c.loop-next.circuits.items
           i c.pull_one-is_put.new.circuit
           (λ k v differs at out. c.loop-next.invariant.still k v at
           (c.leave_idle.ensures.others (suc k) (λ on. differs (let e : k ≡ i = omega (arith, on, up) in e)) out))
-          (λ out. c.leave_idle.ensures.this (subst (λ (h : ℕ). IsOutside c.leave_idle.new.self.channels.items h) up out));
+          (λ out. c.leave_idle.ensures.this (subst (λ (h : ℕ). IsOutside c.leave_idle.new.self.words.items h) up out));
       low = (let low = c.loop-next.invariant.low in omega (arith, low, higher));
     }
 
@@ -67,7 +67,7 @@ returns-then-is_put c =
           let stands = c.loop-next.invariant.stands s f before in
           let found = stands i _ read in
           record {
-            between = none_before c.what_waits_is_pulled.ensures s c.loop-next.circuits.items c.loop-next.busy.channels.items f stands
+            between = none_before c.what_waits_is_pulled.ensures s c.loop-next.circuits.items c.loop-next.busy.words.items f stands
                 c.loop-next.invariant.still c.args.behind c.loop-next.channel c.in-Some.next (omega (arith, low, up))
                 (c.loop-next.invariant.none s f before) c.in-Some.ensures.between;
             circuits = subst (λ (h : ℕ). FitsCircuits s (set c.loop-next.circuits.items i c.pull_one-is_put.new.circuit)
@@ -86,18 +86,18 @@ returns-then-is_put c =
           (c.loop-next.invariant.left all)
           (counts_left _ c.pull_one-is_put.new.circuit p.clears p.resets (c.loop-next.invariant.left all i _ read));
       places = c.leave_idle.ensures.places ∙ c.loop-next.invariant.places ∙ sym count;
-      still = rest_changed (λ (k : ℕ) (v : circuit_code.Circuit). IsOutside c.leave_idle.new.self.channels.items (suc k) → IsIdle v) c.loop-next.circuits.items
+      still = rest_changed (λ (k : ℕ) (v : circuit_code.Circuit). IsOutside c.leave_idle.new.self.words.items (suc k) → IsIdle v) c.loop-next.circuits.items
           i c.pull_one-is_put.new.circuit
           (λ k v differs at out. c.loop-next.invariant.still k v at
           (c.leave_idle.ensures.others (suc k) (λ on. differs (let e : k ≡ i = omega (arith, on, up) in e)) out))
-          (λ out. c.leave_idle.ensures.this (subst (λ (h : ℕ). IsOutside c.leave_idle.new.self.channels.items h) up out));
+          (λ out. c.leave_idle.ensures.this (subst (λ (h : ℕ). IsOutside c.leave_idle.new.self.words.items h) up out));
     }
 
 pub returns : goal.returns
 returns c = record {
   next = λ s f before.
       let stands = c.loop-next.invariant.stands s f before in
-      let none = none_before c.what_waits_is_pulled.ensures s c.loop-next.circuits.items c.loop-next.busy.channels.items f stands c.loop-next.invariant.still
+      let none = none_before c.what_waits_is_pulled.ensures s c.loop-next.circuits.items c.loop-next.busy.words.items f stands c.loop-next.invariant.still
       c.args.behind c.loop-next.channel (length c.loop-next.circuits.items + 1) (omega arith)
       (c.loop-next.invariant.none s f before) (λ k more less. c.in_default.ensures.none k more) in
       record { between = λ k more high. none k more (omega (arith, high)); circuits = stands };

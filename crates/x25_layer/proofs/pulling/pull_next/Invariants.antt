@@ -1,4 +1,4 @@
-use Rattle.std.proofs.Common.{◌≡◌, ℕ, ◌-◌, ◌<◌, ◌≤◌, None, length, vec_capacity}
+use Rattle.std.proofs.Common.{◌≡◌, ℕ, ◌-◌, ◌<◌, ◌≤◌, None, length}
 use Rattle.x25_circuit.specs.Circuit.{Circuit}
 use Rattle.x25_layer.specs.Layer.{LayerSettings}
 use Rattle.x25_layer.specs.code.FitsLayer.{FitsCircuits}
@@ -14,8 +14,8 @@ invariant-loop-next l = record {
   stands : (c : LayerSettings) (f : ℕ → Circuit) → FitsCircuits c l.initial.circuits.items f → FitsCircuits c l.circuits.items f;
   none : (c : LayerSettings) (f : ℕ → Circuit) → FitsCircuits c l.initial.circuits.items f → (k : ℕ) → l.behind < k → k ≤ l.channel → next_packet c f k ≡ None;
   left : HaveCountsLeft l.initial.circuits.items → HaveCountsLeft l.circuits.items;
-  places : vec_capacity l.busy.channels ≡ length l.circuits.items;
-  still : IdleBeside l.busy.channels.items l.circuits.items;
+  places : l.busy.count ≡ length l.circuits.items;
+  still : IdleBeside l.busy.words.items l.circuits.items;
   low : l.behind ≤ l.channel;
 }
 

@@ -7,11 +7,14 @@ use Rattle.x25_packet.specs.declared.form.Form.{Form}
 use Rattle.x25_packet.specs.declared.form.Forms.TheVariants.{Any}
 use Rattle.x25_packet.proofs.AgainLaws.{only_found}
 use Rattle.x25_packet.proofs.FacilityLaws.{ok_err, ok_same}
-use Rattle.x25_packet.proofs.FoundLaws.{found_spells}
+use Rattle.x25_packet.proofs.FoundLaws.{found_spells, read_form}
 use Rattle.x25_packet.proofs.grammar.decode.Goals as goal
 
+pub returns-clause-exact : goal.returns-clause-exact
+returns-clause-exact c = read_form c.read.result _ c.read.ensures
+
 pub returns-clause-found : goal.returns-clause-found
-returns-clause-found c = go c.read_any.result c.read_any.ensures
+returns-clause-found c = go c.read.result (read_form c.read.result _ c.read.ensures)
   where
     go : (r : Result Form PacketError) → Gives plain r (form_in c.args.most c.args.octets.now)
         → IfOk r (λ w. Spells Any c.args.most (plain w) c.args.octets.now)
@@ -19,7 +22,7 @@ returns-clause-found c = go c.read_any.result c.read_any.ensures
     go (Err f) e = tt
 
 pub returns-clause-only : goal.returns-clause-only
-returns-clause-only c = λ v spells. go c.read_any.result c.read_any.ensures v (only_found Any c.args.most c.args.octets.now v spells)
+returns-clause-only c = λ v spells. go c.read.result (read_form c.read.result _ c.read.ensures) v (only_found Any c.args.most c.args.octets.now v spells)
   where
     go : (r : Result Form PacketError) → Gives plain r (form_in c.args.most c.args.octets.now) → (v : PlainForm)
         → form_in c.args.most c.args.octets.now ≡ Ok v → IsOkAnd r (λ w. plain w ≡ v)

@@ -8,11 +8,14 @@ use Rattle.x25_packet.specs.Reading.{packet_of}
 use Rattle.x25_packet.proofs.FacilityLaws.{ok_err, ok_same}
 use Rattle.x25_packet.specs.Reading.FirstError.{IsFirstError}
 use Rattle.x25_packet.proofs.FaultLaws.{fault_first}
-use Rattle.x25_packet.proofs.NarrowLaws.{found_written, only_written}
+use Rattle.x25_packet.proofs.NarrowLaws.{found_written, only_written, read_taken}
 use Rattle.x25_packet.proofs.reading.decode_within.Goals as goal
 
+pub returns-clause-exact : goal.returns-clause-exact
+returns-clause-exact c = read_taken c.read.result _ c.read.ensures
+
 pub returns-clause-found : goal.returns-clause-found
-returns-clause-found c = go c.read_forms.result c.read_forms.ensures
+returns-clause-found c = go c.read.result (read_taken c.read.result _ c.read.ensures)
   where
     go : (r : Result Packet PacketError) → Gives plain r (packet_of c.args.most c.args.octets.now)
         → IfOk r (λ v. Spells c.args.most (plain v) c.args.octets.now)
@@ -20,7 +23,7 @@ returns-clause-found c = go c.read_forms.result c.read_forms.ensures
     go (Err f) e = tt
 
 pub returns-clause-only : goal.returns-clause-only
-returns-clause-only c = λ v spells. go c.read_forms.result c.read_forms.ensures v (only_written c.args.most c.args.octets.now v spells)
+returns-clause-only c = λ v spells. go c.read.result (read_taken c.read.result _ c.read.ensures) v (only_written c.args.most c.args.octets.now v spells)
   where
     go : (r : Result Packet PacketError) → Gives plain r (packet_of c.args.most c.args.octets.now) → (v : PlainPacket)
         → packet_of c.args.most c.args.octets.now ≡ Ok v → IsOkAnd r (λ w. plain w ≡ v)
@@ -28,7 +31,7 @@ returns-clause-only c = λ v spells. go c.read_forms.result c.read_forms.ensures
     go (Err f) e v h = absurd (ok_err (sym e ∙ h))
 
 pub returns-clause-fault : goal.returns-clause-fault
-returns-clause-fault c = go c.read_forms.result c.read_forms.ensures
+returns-clause-fault c = go c.read.result (read_taken c.read.result _ c.read.ensures)
   where
     go : (r : Result Packet PacketError) → Gives plain r (packet_of c.args.most c.args.octets.now) → IfErr r (IsFirstError c.args.most c.args.octets.now)
     go (Ok v) e = tt

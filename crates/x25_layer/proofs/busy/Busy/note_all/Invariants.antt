@@ -1,4 +1,4 @@
-use Rattle.std.proofs.Common.{◌≡◌, ℕ, suc, ◌<◌, Some, slice_get, vec_capacity}
+use Rattle.std.proofs.Common.{◌≡◌, ℕ, suc, ◌<◌, Some, slice_get}
 use Rattle.x25_circuit.specs.declared.circuit.Circuit as circuit_code
 use Rattle.x25_layer.specs.code.Idle.{IsOutside, IsIdle}
 use Rattle.x25_layer.proofs.busy.Busy.note_all.Given as goal
@@ -6,6 +6,6 @@ use Rattle.x25_layer.proofs.busy.Busy.note_all.Given as goal
 abbrev pub invariant-loop-circuit : goal.invariant-loop-circuit
 invariant-loop-circuit l = record {
   channel : l.channel ≡ l.circuit-index;
-  places : vec_capacity l.self.channels ≡ vec_capacity l.initial.self.channels;
-  idle : (k : ℕ) (v : circuit_code.Circuit) → k < l.circuit-index → slice_get l.circuits k ≡ Some v → IsOutside l.self.channels.items (suc k) → IsIdle v;
+  places : l.self.count ≡ l.initial.self.count;
+  idle : (k : ℕ) (v : circuit_code.Circuit) → k < l.circuit-index → slice_get l.circuits k ≡ Some v → IsOutside l.self.words.items (suc k) → IsIdle v;
 }

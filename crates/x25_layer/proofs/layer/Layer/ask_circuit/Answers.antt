@@ -53,11 +53,11 @@ invariant_of-self-clause-circuits_left c = λ is.
 
 pub invariant_of-self-clause-still : goal.invariant_of-self-clause-still
 invariant_of-self-clause-still c =
-    all_changed (λ (k : ℕ) (v : circuit_code.Circuit). IsOutside c.insert.new.self.channels.items (suc k) → IsIdle v) c.args.self.now.circuits.items
+    all_changed (λ (k : ℕ) (v : circuit_code.Circuit). IsOutside c.insert.new.self.words.items (suc k) → IsIdle v) c.args.self.now.circuits.items
     (c.from-place.result - 1) c.ask.new.self
     (λ k v at out. c.args.self.now.still k v at (c.insert.ensures.others (suc k) out))
     (λ out. absurd (c.insert.ensures.this
-    (subst (λ (h : ℕ). IsOutside c.insert.new.self.channels.items h) (place_of _ c.args.channel c.from-place.result c.requires c.from-place.ensures) out)))
+    (subst (λ (h : ℕ). IsOutside c.insert.new.self.words.items h) (place_of _ c.args.channel c.from-place.result c.requires c.from-place.ensures) out)))
 
 pub invariant_of-self-clause-places : goal.invariant_of-self-clause-places
 invariant_of-self-clause-places c = c.insert.ensures.places ∙ c.args.self.now.places

@@ -18,7 +18,7 @@ returns c = record {
 }
 
 pub invariant_of-self-clause-still : goal.invariant_of-self-clause-still
-invariant_of-self-clause-still c = subst (λ (vs : List circuit_code.Circuit). IdleBeside c.note_all.new.self.channels.items vs) c.deref.ensures.value
+invariant_of-self-clause-still c = subst (λ (vs : List circuit_code.Circuit). IdleBeside c.note_all.new.self.words.items vs) c.deref.ensures.value
     c.note_all.ensures.idle
 
 pub invariant_of-self-clause-places : goal.invariant_of-self-clause-places

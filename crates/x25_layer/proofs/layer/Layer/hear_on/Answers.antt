@@ -56,11 +56,11 @@ pub invariant_of-self-clause-still : goal.invariant_of-self-clause-still
 invariant_of-self-clause-still c =
     let within : is_number (length c.args.self.now.circuits.items) c.args.channel ≡ true = search rules in
     let on = place_of (length c.args.self.now.circuits.items) c.args.channel c.from-place.result within c.from-place.ensures in
-    rest_changed (λ (k : ℕ) (v : circuit_code.Circuit). IsOutside c.note.new.self.channels.items (suc k) → IsIdle v) c.args.self.now.circuits.items
+    rest_changed (λ (k : ℕ) (v : circuit_code.Circuit). IsOutside c.note.new.self.words.items (suc k) → IsIdle v) c.args.self.now.circuits.items
     (c.from-place.result - 1) c.hear_circuit-packet.new.circuit
     (λ k v differs at out. c.args.self.now.still k v at
     (c.note.ensures.others (suc k) (λ same. differs (let e : k ≡ c.from-place.result - 1 = omega (arith, on, same) in e)) out))
-    (λ out. c.note.ensures.this (subst (λ (h : ℕ). IsOutside c.note.new.self.channels.items h) on out))
+    (λ out. c.note.ensures.this (subst (λ (h : ℕ). IsOutside c.note.new.self.words.items h) on out))
 
 pub invariant_of-self-clause-circuits_left : goal.invariant_of-self-clause-circuits_left
 invariant_of-self-clause-circuits_left c = λ is.

@@ -6,9 +6,9 @@ use Rattle.x25_packet.specs.Taking.{read_in}
 use Rattle.x25_layer.specs.Layer.{LayerSettings, Layer, LayerAnswer}
 use Rattle.x25_layer.specs.code.FitsLayer.{FitsLayer}
 use Rattle.x25_layer.specs.code.Answering.{spelled}
-use Rattle.x25_layer.specs.Receiving.{answer_to, layer_hears, plain_read, hears_on, IsOfChannel}
+use Rattle.x25_layer.specs.Receiving.{answer_to, layer_hears, plain_read, hears_on}
 use Rattle.x25_layer.proofs.CallLemmas.{layer_same}
-use Rattle.x25_layer.proofs.HearLemmas.{fits_as, of_channel, hears_none, hears_read, heard_from}
+use Rattle.x25_layer.proofs.HearLemmas.{fits_as, hears_none, hears_read, heard_from}
 use Rattle.x25_layer.proofs.layer.Layer.packet.Goals as goal
 use Rattle.x25_layer.proofs.layer.Layer.packet.Goals.{in_default-read-via-in-Ok+in_default, in_default-read-via-in_default}
 
@@ -34,22 +34,17 @@ bytes : (c : goal.After-hear_on) → All (λ octet. octet < 256) c.args.octets.n
 bytes c = All-from_get_or (λ octet. octet < 256) c.args.octets.now 0 (λ i low. omega (arith, c.type_inv.octets i))
 
 -- what was read is of a channel
-of : (c : goal.After-hear_on) → IsOfChannel (plain_read c.read-read.result)
-of c =
-    let has : IfOk c.read-read.result (λ packet. HasChannel (plain packet)) = elim c.in_default-read.branch [
-      | in_default-read-via-in-Ok+in_default w ↦ search rules
-      | in_default-read-via-in_default w ↦ search rules
-    ] in
-    of_channel c.taking_keeps_octets.ensures.memory c.args.wide c.longest_user.result c.args.octets.now c.read-read.result (bytes c) c.read-read.ensures has
+of : (c : goal.After-hear_on) → IfOk c.read-read.result (λ packet. HasChannel (plain packet))
+of c = elim c.in_default-read.branch [
+  | in_default-read-via-in-Ok+in_default w ↦ search rules
+  | in_default-read-via-in_default w ↦ search rules
+]
 
 pub hear_on-requires-clause-kind : goal.hear_on-requires-clause-kind
-hear_on-requires-clause-kind c =
-    let has : IfOk c.read-read.result (λ packet. HasChannel (plain packet)) = elim c.in_default-read.branch [
-      | in_default-read-via-in-Ok+in_default w ↦ search rules
-      | in_default-read-via-in_default w ↦ search rules
-    ] in
-    of_channel c.taking_keeps_octets.ensures.memory c.args.wide c.longest_user.result c.args.octets.now c.read-read.result
-    (All-from_get_or (λ octet. octet < 256) c.args.octets.now 0 (λ i low. omega (arith, c.type_inv.octets i))) c.read-read.ensures has
+hear_on-requires-clause-kind c = elim c.in_default-read.branch [
+  | in_default-read-via-in-Ok+in_default w ↦ search rules
+  | in_default-read-via-in_default w ↦ search rules
+]
 
 same : (c : goal.After-hear_on) (s : LayerSettings) (l : Layer) → FitsLayer s c.args.self.now l
     → hears_on s l l.restarting c.in-Some.channel (plain_read c.read-read.result) ≡ layer_hears s c.args.wide l c.args.octets.now

@@ -28,7 +28,7 @@ pub returns-clause-short : goal.returns-clause-short
 returns-clause-short c = subst (λ (octets : List ℕ). length octets ≤ 260) (sym c.spell.ensures.put) (omega arith)
 
 pub invariant_of-self-clause-still : goal.invariant_of-self-clause-still
-invariant_of-self-clause-still c = subst (λ (vs : List circuit_code.Circuit). IdleBeside c.note_all.new.self.channels.items vs) c.deref.ensures.value
+invariant_of-self-clause-still c = subst (λ (vs : List circuit_code.Circuit). IdleBeside c.note_all.new.self.words.items vs) c.deref.ensures.value
     c.note_all.ensures.idle
 
 pub invariant_of-self-clause-places : goal.invariant_of-self-clause-places

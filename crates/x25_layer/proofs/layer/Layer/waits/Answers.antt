@@ -15,7 +15,7 @@ loop-next-preserved c =
     record {
       sum = λ s l fits.
           let read = read_at c.args.self.now.circuits.items i c.index.result.now low c.index.ensures in
-          let skipped = waits_past s c.args.self.now.circuits.items c.args.self.now.busy.channels.items l.circuits fits.circuits c.args.self.now.still
+          let skipped = waits_past s c.args.self.now.circuits.items c.args.self.now.busy.words.items l.circuits fits.circuits c.args.self.now.still
           c.loop-next.channel i (omega (arith, next, higher)) (omega (arith, low))
           (λ k more less. c.in-Some.ensures.between k more (omega (arith, next, less))) in
           waits_more s l.circuits i _ _ (c.loop-next.invariant.sum s l fits ∙ sym skipped)
@@ -30,6 +30,6 @@ returns c = λ s l fits.
     let channels = fits.channels in
     let high = c.loop-next.invariant.high in
     c.loop-next.invariant.sum s l fits
-    ∙ sym (waits_past s c.args.self.now.circuits.items c.args.self.now.busy.channels.items l.circuits fits.circuits c.args.self.now.still c.loop-next.channel
+    ∙ sym (waits_past s c.args.self.now.circuits.items c.args.self.now.busy.words.items l.circuits fits.circuits c.args.self.now.still c.loop-next.channel
     s.channels.count (omega (arith, channels, high)) (omega (arith, channels))
     (λ k more less. c.in_default.ensures.none k more))

@@ -4,8 +4,8 @@ use Rattle.x25_layer.specs.code.Idle.{IdleBeside}
 use Rattle.x25_layer.proofs.layer.Layer.with.Goals as goal
 
 pub invariant_of-result-clause-still : goal.invariant_of-result-clause-still
-invariant_of-result-clause-still c = subst (λ (vs : List circuit_code.Circuit). IdleBeside c.note_all.new.self.channels.items vs) c.deref.ensures.value
+invariant_of-result-clause-still c = subst (λ (vs : List circuit_code.Circuit). IdleBeside c.note_all.new.self.words.items vs) c.deref.ensures.value
     c.note_all.ensures.idle
 
 pub invariant_of-result-clause-places : goal.invariant_of-result-clause-places
-invariant_of-result-clause-places c = c.note_all.ensures.places ∙ c.in_ok-busy.ensures.places ∙ sym c.in_ok-circuits.ensures.count
+invariant_of-result-clause-places c = c.note_all.ensures.places ∙ c.in_ok-busy.ensures.places ∙ sym c.from-count.ensures ∙ sym c.in_ok-circuits.ensures.count

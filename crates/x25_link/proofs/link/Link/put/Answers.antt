@@ -1,8 +1,10 @@
-use Rattle.std.proofs.Common.{ℕ, List, ◌++◌, map, sym, ap, subst, ◌∙◌, append-nil}
+use Rattle.std.proofs.Common.{ℕ, List, ◌<◌, ◌++◌, length, map, arith, sym, ap, subst, ◌∙◌}
 use Rattle.x25_frame.specs.Spelling.{spelling_of}
 use Rattle.x25_link.specs.Link.{put_step}
 use Rattle.x25_link.specs.code.FitsLink.{ShownLink, FitsWhole}
 use Rattle.x25_link.proofs.EndLemmas.{with_packet, ended_settled, ended_calm}
+use Rattle.x25_link.proofs.LinkLemmas.{put_fits}
+use Rattle.x25_link.proofs.PlaceLemmas.{some_left}
 use Rattle.x25_link.proofs.link.Link.put.Goals as goal
 
 pub returns-clause-state : goal.returns-clause-state
@@ -10,8 +12,11 @@ returns-clause-state c = λ x whole.
     let d = x.settings in
     let s = x.station in
     let inside = subst (λ (v : ShownLink). FitsWhole v x) (sym c.self.view_is) whole in
-    let side = c.put.ensures.step d _ s (record { near = inside.link.near; out = sym (append-nil _) }) inside.link.settled inside.link.calm in
-    let sound = inside.link.near.outgoing.sender.sound in
+    let near = inside.link.near in
+    let side = put_fits d _ _ _ _ s c.args.packet.now _ _ near (sym c.if-not-is_up.ensures) (c.wanted-nr.ensures.state _ near.taken)
+    inside.link.settled inside.link.calm (c.put.ensures.sent d.window s.outgoing near.outgoing) (c.put.ensures.step d.window s.outgoing near.outgoing)
+    (c.put.ensures.made d.window s.outgoing near.outgoing) in
+    let sound = near.outgoing.sender.sound in
     record {
       link = record {
         near = side.near;
@@ -20,3 +25,12 @@ returns-clause-state c = λ x whole.
       };
       kept = side.out ∙ ap (λ (frames : List (List ℕ)). frames ++ map (spelling_of d.role) (put_step d c.args.packet.now s).side.out) inside.kept;
     }
+
+pub returns-then-left_for-eq0-clause-long : goal.returns-then-left_for-eq0-clause-long
+returns-then-left_for-eq0-clause-long c = λ up few places.
+    let o = c.self.inside.station.outgoing in
+    let wait = subst (λ (v : ShownLink). length v.station.outgoing.queue < 8) (sym c.self.view_is) few in
+    let some = some_left o.places.short o.places.long (length c.args.packet.now) o.sender.window o.sender.items o.queue o.sent o.window wait o.short o.long
+    o.long_ones in
+    let left = subst (λ (n : ℕ). 0 < n) (sym c.left_for.ensures) some in
+    absurd (omega (arith, left, c.if-left_for-eq0.true))

@@ -1,6 +1,6 @@
 use Rattle.std.proofs.Common.{sym, ap, ◌∙◌}
 use Rattle.x25_link.specs.Station.{is_up}
-use Rattle.x25_link.proofs.FitsLemmas.{pump_fits, may_send_is}
+use Rattle.x25_link.proofs.FitsLemmas.{sends_fits, may_send_is}
 use Rattle.x25_link.proofs.station.LinkStation.pump_once.Goals as goal
 
 pub returns-clause-step : goal.returns-clause-step
@@ -8,9 +8,11 @@ returns-clause-step c = λ d before t fits.
     let k = d.window in
     let o = t.near.outgoing in
     let outgoing = fits.near.outgoing in
-    pump_fits d _ _ before _ _ t _ c.send_next.result fits c.if-self.false c.if-self-2.false (sym c.if-not-is_up.ensures)
-    (c.wanted-nr.ensures.state _ fits.near.taken) (c.send_next.ensures.sent k o outgoing) (c.send_next.ensures.step k o outgoing)
-    (c.send_next.ensures.made k o outgoing)
+    let sent = c.send_next.ensures.sent k o outgoing
+    ∙ sym (may_send_is k t.near (sym fits.near.recovery ∙ c.if-self.false) (sym fits.near.peer_busy ∙ c.if-self-2.false)
+    (sym (ap is_up fits.near.phase) ∙ sym c.if-not-is_up.ensures)) in
+    sends_fits d _ _ before _ _ t.near o t.out _ c.send_next.result fits.near fits.out (c.wanted-nr.ensures.state _ fits.near.taken) sent
+    (c.send_next.ensures.step k o outgoing) (c.send_next.ensures.made k o outgoing)
 
 pub returns-clause-sent : goal.returns-clause-sent
 returns-clause-sent c = λ d s fits.

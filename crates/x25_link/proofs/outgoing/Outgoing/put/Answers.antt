@@ -1,21 +1,23 @@
-use Rattle.std.proofs.Common.{◌≤◌, length, subst, ℕ, List, [], ◌∷◌, ◌++◌, sym, ap, ◌∙◌, arith}
+use Rattle.std.specs.Prelude.{◌||◌}
+use Rattle.std.proofs.Common.{◌≡◌, ◌≤◌, Bool, false, length, subst, ℕ, List, [], ◌∷◌, ◌++◌, sym, ap, ◌∙◌, arith}
 use Rattle.x25_frame.specs.Frame.{PlainFrame}
 use Rattle.x25_frame.specs.Spelling.{spelling_of}
 use Rattle.x25_link.specs.Outgoing.{added}
 use Rattle.x25_link.specs.code.OutgoingHeld.{sending_of}
-use Rattle.x25_link.proofs.OutgoingLemmas.{parts, part_length, added_fits, full_shut, rests, next_is, new_fits, sent_length, new_frame, next_open, below_of}
+use Rattle.x25_link.proofs.OutgoingLemmas.{parts, part_length, added_fits, full_shut, rests, next_is, new_fits, sent_length, new_frame, next_open, below_of, shut_by}
 use Rattle.x25_window.specs.code.Held.{Held}
 use Rattle.x25_link.proofs.PlaceLemmas.{more_short, more_long, sent_short, sent_long}
-use Rattle.x25_link.proofs.EndLemmas.{full_closed}
-use Rattle.x25_link.proofs.outgoing.Outgoing.send_at_once.Goals as goal
+use Rattle.x25_link.proofs.EndLemmas.{full_closed, true_false}
+use Rattle.std.proofs.lemmas.Bool.{or_parts}
+use Rattle.x25_link.proofs.outgoing.Outgoing.put.Goals as goal
 
-pub returns-then-is_full-clause-sent : goal.returns-then-is_full-clause-sent
-returns-then-is_full-clause-sent c = λ k o fits shut.
-    let full = (c.is_full.ensures.state (sending_of k o) fits.sender).0 c.if-is_full.true in
-    sym (full_closed k (added c.args.packet.now o) (full_shut k _ _ o (parts k _ o fits) shut full))
+pub returns-then-held-is_full-clause-sent : goal.returns-then-held-is_full-clause-sent
+returns-then-held-is_full-clause-sent c = λ k o fits shuts.
+    let full = λ (free : c.args.held ≡ false). (c.is_full.ensures.state (sending_of k o) fits.sender).0 (sym (ap (λ (b : Bool). b || c.is_full.result) free) ∙ c.if-held-is_full.true) in
+    sym (shut_by c.args.held _ (λ free. full_closed k (added c.args.packet.now o) (full_shut k _ _ o (parts k _ o fits) (shuts free) (full free))))
 
-pub returns-then-is_full-clause-step : goal.returns-then-is_full-clause-step
-returns-then-is_full-clause-step c = λ k o fits shut.
+pub returns-then-held-is_full-clause-step : goal.returns-then-held-is_full-clause-step
+returns-then-held-is_full-clause-step c = λ k o fits shuts.
     let more = added_fits k _ _ o c.args.packet.now _ c.take-packet.ensures.packet (parts k _ o fits) c.requires.few in
     record {
       sender = more.sender;
@@ -24,17 +26,26 @@ returns-then-is_full-clause-step c = λ k o fits shut.
       few = subst (λ (m : List (List ℕ)). length m ≤ 256) (sym c.push.ensures) more.few;
     }
 
+pub send_new-requires-clause-open : goal.send_new-requires-clause-open
+send_new-requires-clause-open c = λ e.
+    let test = or_parts c.args.held _ c.if-held-is_full.false in
+    true_false (sym (c.is_full.ensures.held.1 e) ∙ test.1)
+
 pub returns-clause-sent : goal.returns-clause-sent
-returns-clause-sent c = λ k o fits shut.
-    let free = below_of _ _ fits.sender.sound.room (λ e. sym c.if-is_full.false ∙ (c.is_full.ensures.state (sending_of k o) fits.sender).1 e) in
+returns-clause-sent c = λ k o fits shuts.
+    let test = or_parts c.args.held _ c.if-held-is_full.false in
+    let shut = shuts test.0 in
+    let free = below_of _ _ fits.sender.sound.room (λ e. sym test.1 ∙ (c.is_full.ensures.state (sending_of k o) fits.sender).1 e) in
     let left = rests k _ _ o (parts k _ o fits) shut free in
     let more = added_fits k _ _ o c.args.packet.now _ c.take-packet.ensures.packet (parts k _ o fits) c.requires.few in
     let next = next_is k _ _ (added c.args.packet.now o) c.take-packet.result [] more (ap (λ (m : List (List ℕ)). m ++ c.take-packet.result ∷ []) left.none) in
-    sym (next_open k _ _ (added c.args.packet.now o) _ _ more left.place next left.room)
+    rw (test.0) (sym (next_open k _ _ (added c.args.packet.now o) _ _ more left.place next left.room))
 
 pub returns-clause-step : goal.returns-clause-step
-returns-clause-step c = λ k o fits shut.
-    let free = below_of _ _ fits.sender.sound.room (λ e. sym c.if-is_full.false ∙ (c.is_full.ensures.state (sending_of k o) fits.sender).1 e) in
+returns-clause-step c = λ k o fits shuts.
+    let test = or_parts c.args.held _ c.if-held-is_full.false in
+    let shut = shuts test.0 in
+    let free = below_of _ _ fits.sender.sound.room (λ e. sym test.1 ∙ (c.is_full.ensures.state (sending_of k o) fits.sender).1 e) in
     let left = rests k _ _ o (parts k _ o fits) shut free in
     let more = added_fits k _ _ o c.args.packet.now _ c.take-packet.ensures.packet (parts k _ o fits) c.requires.few in
     let next = next_is k _ _ (added c.args.packet.now o) c.take-packet.result [] more (ap (λ (m : List (List ℕ)). m ++ c.take-packet.result ∷ []) left.none) in
@@ -45,8 +56,10 @@ returns-clause-step c = λ k o fits shut.
     record { sender = all.sender; queue = left.none ∙ all.queue; sent = all.sent; few = fits.few }
 
 pub returns-clause-made : goal.returns-clause-made
-returns-clause-made c = λ k o fits shut.
-    let free = below_of _ _ fits.sender.sound.room (λ e. sym c.if-is_full.false ∙ (c.is_full.ensures.state (sending_of k o) fits.sender).1 e) in
+returns-clause-made c = λ k o fits shuts.
+    let test = or_parts c.args.held _ c.if-held-is_full.false in
+    let shut = shuts test.0 in
+    let free = below_of _ _ fits.sender.sound.room (λ e. sym test.1 ∙ (c.is_full.ensures.state (sending_of k o) fits.sender).1 e) in
     let left = rests k _ _ o (parts k _ o fits) shut free in
     let more = added_fits k _ _ o c.args.packet.now _ c.take-packet.ensures.packet (parts k _ o fits) c.requires.few in
     let next = next_is k _ _ (added c.args.packet.now o) c.take-packet.result [] more (ap (λ (m : List (List ℕ)). m ++ c.take-packet.result ∷ []) left.none) in
