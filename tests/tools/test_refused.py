@@ -12,7 +12,7 @@ import refused
 
 PLAYER = refused.find_player()
 # The commands that ask for memory.
-ASKING = ("Call)", "Call) with sizes", "Accept)", "Accept) with sizes", "With)", "Send)")
+ASKING = ("(Call)", "(Call) with sizes", "(Accept)", "(Accept) with sizes", " with something given", "(Send)")
 needs_compiler = unittest.skipUnless(shutil.which("cc"), "there is no C compiler")
 
 
@@ -39,7 +39,7 @@ class Played(unittest.TestCase):
     MET = {
         "Station::new",
         *(f"World::{call}" for call in ("start", "establish", "step(Connect)", "step(Deliver)", "step(Damage)", "heal")),
-        *(f"{call}({asked}" for call in ("Station::command", "World::step") for asked in ASKING),
+        *(f"{call}{asked}" for call in ("Station::command", "World::step") for asked in ASKING),
     }
     PROMISED = {
         *(f"Station::{call}" for call in ("receive", "t1")),

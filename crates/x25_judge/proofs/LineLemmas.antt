@@ -1,5 +1,5 @@
 -- The answers to lines, one after another.
-use Rattle.std.proofs.Common.{◌≡◌, ◌∙◌, ◌<◌, ◌||◌, ℕ, Bool, false, List, [], ◌∷◌, ◌++◌, Option, None, Result, length, append_assoc, ap, sym, subst, refl}
+use Rattle.std.proofs.Common.{◌≡◌, ◌∙◌, ◌<◌, ◌||◌, ℕ, Bool, List, [], ◌∷◌, ◌++◌, Option, None, Result, length, append_assoc, ap, sym, subst, refl}
 use Rattle.std.specs.Prelude.{MatchResult}
 use Rattle.x25_decode.specs.Decoding.{gap_in, sent_in}
 use Rattle.x25_io.specs.{HeldLine.{most_line}, Loose.{asked, carried}}
@@ -46,11 +46,6 @@ module _ (loose : Bool) (j : Judge) where
   unfolding reply answer_to
   long_reply line long none gap =
       rw (long_asked loose line long, long_carried loose line long) (ap (sent_of j (gap_in line)) none ∙ ap (gap_of j) gap)
-
--- with nothing beside what a line asks
-pub plain_reply : (loose : Bool) (j : Judge) (line : List ℕ) → loose ≡ false → reply loose j line ≡ answer_to j line
-unfolding reply carried asked
-plain_reply loose j line e = subst (λ b. reply b j line ≡ answer_to j line) (sym e) refl
 
 -- the second part behind the first
 pub told_behind : {T E : Type 0} (r : Result T E) (old next : Option (List ℕ)) (waits told head more all : List ℕ) → all ≡ head ++ more

@@ -28,9 +28,6 @@ abbrev pub counted : ℕ → Bool → List Count → List Count
 counted channel is_judged counts = slice_set counts (channel % 4096)
     (more channel is_judged (slice_index_or counts (channel % 4096) none))
 
-abbrev pub no_tally : Tally
-no_tally = record { rules = 0; manners = 0; doubts = 0 }
-
 -- one more of each that is broken, or one more that is in doubt
 abbrev pub tallied : Bool → Bool → Bool → Tally → Tally
 tallied in_doubt is_rule is_manners t = if in_doubt then record t { doubts = grown t.doubts } else record {

@@ -9,7 +9,7 @@ use Rattle.x25_frame.specs.{Frame.{PlainFrame, info}, Reading.{frame_of}}
 use Rattle.x25_frame.specs.declared.{error.FrameError.{FrameError}, error.FrameError.TheVariants.{TooLong}}
 use Rattle.x25_frame.specs.declared.error.FrameError.TheVariants.{Short, BadFcs, BadAddress, Undefined, NoInfoAllowed}
 use Rattle.x25_packet_judge.specs.Book as book
-use Rattle.x25_judge.specs.Counts.{counted, end_text, line_text as last_text, more, no_counts, no_tally, none, tallied}
+use Rattle.x25_judge.specs.Counts.{counted, end_text, line_text as last_text, more, no_counts, none, tallied}
 use Rattle.x25_judge.specs.{Doubt.{explains_told, lack}, Held.{forgets_all}, Manners.{none as no_manners}}
 use Rattle.x25_judge.specs.{Links.{Both, Missed, no_end, sees, misses}, Note.{first_note, note_text, packet_note}}
 use Rattle.x25_judge.specs.{Rule.{breaks_manners, breaks_order, first, is_of_manners}, RuleText.{rule_text}}
@@ -36,7 +36,7 @@ begins window reading strictness = record {
   dce_frames = none;
   dte_packets = no_counts;
   dce_packets = no_counts;
-  told = no_tally;
+  told = record { rules = 0; manners = 0; doubts = 0 };
   at = OnLine;
   has_gap = false;
 }
@@ -148,27 +148,22 @@ no_frame TooLong = Some NoFrame
 abbrev pub is_open : Strictness → Seen → Bool
 is_open s r = s.unjudged && not r.is_judged
 
-abbrev pub breaks_by : Strictness → Option Rule → Bool
-breaks_by s rule = breaks_order rule || (breaks_manners rule && s.manners)
-
 -- what is in doubt counts where what isn't judged does
 abbrev pub counts_by : Strictness → Bool → Seen → Bool
-counts_by s in_doubt r = ((not in_doubt || s.unjudged) && breaks_by s r.rule) || is_open s r
+counts_by s in_doubt r =
+    ((not in_doubt || s.unjudged) && (breaks_order r.rule || (breaks_manners r.rule && s.manners))) || is_open s r
 
 -- one more rule, or one more of manners, that was told
 abbrev pub tallies : Bool → Option Rule → Judge → Judge
 tallies in_doubt rule j = record j { told = tallied in_doubt (breaks_order rule) (breaks_manners rule) j.told }
 
-abbrev pub told_as : Judge → Role → List ℕ → Bool → Seen → Judge → Answer
-told_as j from octets in_doubt r next = record {
+abbrev pub told_of : Judge → Role → List ℕ → Seen → Judge → Answer
+told_of j from octets r next = let in_doubt = explains_told (lack_of j from) r.rule in record {
   next = tallies in_doubt r.rule next;
   text = mark_of from ++ line_text j.reading from octets ++ remark_text from in_doubt r.rule r.note ++ codes "\n";
   is_faulty = is_some r.rule || is_open j.strictness r;
   counts = counts_by j.strictness in_doubt r;
 }
-
-abbrev pub told_of : Judge → Role → List ℕ → Seen → Judge → Answer
-told_of j from octets r next = told_as j from octets (explains_told (lack_of j from) r.rule) r next
 
 -- a frame, as it is seen by the link layer and by the packet layer
 abbrev pub remark_by : PlainFrame → Seen → Verdict → Seen

@@ -138,14 +138,11 @@ minded_as Nothing window k t ns p differs m =
     if t.facts.is_counted then manners.sends window (place_of k) ns p false m
     else if ns == k.sent % 8 then manners.quiet m else manners.notes SentBehindDamage t.is_same m
 
--- numbers are left out, where the end isn't known to be in a session
-abbrev pub skipped_by : Told → ℕ → Stand → ℕ → Bool → Minding → Minding
-skipped_by (Skips s) window stand ns p b = by_own (manners.sends window (place_in stand) ns p true b.own) b
-skipped_by told window stand ns p b = b
-
-abbrev pub counts_in : Stand → ℕ → Sent → ℕ → Bool → Minding → Minding
-counts_in (Up k) window t ns p b = by_own (minded_as t.told window k t ns p (is_differing b.seen.rule) b.own) b
-counts_in s window t ns p b = skipped_by t.told window s ns p b
+-- where the end isn't known to be in a session, numbers may be left out
+abbrev pub counts_in : Stand → Told → ℕ → Sent → ℕ → Bool → Minding → Minding
+counts_in (Up k) told window t ns p b = by_own (minded_as told window k t ns p (is_differing b.seen.rule) b.own) b
+counts_in s (Skips last) window t ns p b = by_own (manners.sends window (place_in s) ns p true b.own) b
+counts_in s told window t ns p b = b
 
 abbrev pub is_above : Stand → ℕ → Bool
 is_above (Up k) nr = not (nr == k.told % 8)
@@ -187,7 +184,7 @@ abbrev pub accepts : Bool → Bool → Minding → Minding
 accepts f is_shown b = if is_some b.seen.rule then b else answers f is_shown (begins b)
 
 unfoldable pub minds : ℕ → Sent → LinkSet → PlainFrame → Minding → Minding
-minds window t to (info ns nr p octets) b = hears t to nr (counts_in t.facts.stand window t ns p (asks p b))
+minds window t to (info ns nr p octets) b = hears t to nr (counts_in t.facts.stand t.told window t ns p (asks p b))
 minds window t to (rr command nr pf) b = ready_minded t to command nr pf b
 minds window t to (rnr command nr pf) b = ready_minded t to command nr pf b
 minds window t to (rej command nr pf) b = reject_minded t to command nr pf b

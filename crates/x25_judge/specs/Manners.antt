@@ -2,7 +2,7 @@
 -- (10/96), sections 2.4.3, 2.4.5.1, 2.4.5.4, 2.4.5.9 and 2.4.8.6; what is said behind a fault is profile.
 use Rattle.std.specs.Prelude.{ℕ, ◌+◌, ◌-◌, ◌%◌, ◌==◌, nat_lt, nat_le, Bool, true, false, not, ◌&&◌, ◌||◌, if◌then◌else◌}
 use Rattle.std.specs.Prelude.{min, Some, None}
-use Rattle.x25_packet_judge.specs.Numbers.{apart}
+use Rattle.x25_packet_judge.specs.Numbers.{apart, less}
 use Rattle.x25_judge.specs.declared.{manners.Manners.{Manners}, manners.Minded.{Minded}, manners.Place.{Place}}
 use Rattle.x25_judge.specs.declared.{note.Note.{Note}, note.Note.TheVariants.{PollAgain, PollUnseen, SentAgain}}
 use Rattle.x25_judge.specs.declared.rule.Rule.{Rule}
@@ -32,9 +32,6 @@ notes note is_again m = record { manners = m; rule = None; note = Some note; is_
 abbrev pub more : ℕ → ℕ
 more n = min 255 (n + 1)
 
-abbrev pub fewer : ℕ → ℕ
-fewer n = if nat_lt n 255 then n - 1 else n
-
 abbrev pub none : Manners
 none = record {
   behind = 0;
@@ -61,7 +58,7 @@ asks m = if m.is_polling then notes PollAgain false (asks_on true m) else quiet 
 
 -- F=1 is sent to it
 abbrev pub answered : Bool → Manners → Minded
-answered is_shown m = after (record m { polls = fewer m.polls; is_polling = false })
+answered is_shown m = after (record m { polls = less m.polls; is_polling = false })
   where
     after : Manners → Minded
     after n =

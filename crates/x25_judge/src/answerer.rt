@@ -80,9 +80,6 @@ impl Answerer {
             self.old self.new (reply self.old.loose self.old.judge line.now) }
         ensures marked { OnErr result (W.is_marked writer.new ≡ true) }
     {
-        if !self.loose {
-            return self.answer_asked(line, writer);
-        }
         let (carried, asked) = split_loose(self.loose, line);
         self.output.tell(carried, writer)?;
         match asked {

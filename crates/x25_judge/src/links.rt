@@ -346,23 +346,17 @@ impl Minding {
         self.own = self.own.begun();
     }
 
-    /// Numbers are left out in front of an N(S), of an end that isn't known to be in a session.
-    fn skips(&mut self, window: u8, stand: Stand, told: Told, ns: u8, p: bool)
-        ensures { self.new ≡ definition.skipped_by told window stand ns p self.old }
-    {
-        if matches!(told, Told::Skips(_)) {
-            self.by_own(self.own.sends(window, place_in(stand), ns, p, true));
-        }
-    }
-
-    /// The N(S) of an I frame.
+    /// The N(S) of an I frame. An end that isn't known to be in a session may leave numbers out in front of it.
     fn counts(&mut self, window: u8, sent: &Sent, ns: u8, p: bool)
-        ensures { self.new ≡ definition.counts_in sent.now.facts.stand window sent.now ns p self.old }
+        ensures { self.new ≡ definition.counts_in sent.now.facts.stand sent.now.told window sent.now ns p self.old }
     {
         let differs = matches!(self.seen.rule, Some(Rule::Differs));
-        match sent.facts.stand {
-            Stand::Up(k) => self.by_own(minded(window, k, sent, ns, p, differs, self.own)),
-            stand => self.skips(window, stand, sent.told, ns, p),
+        match (sent.facts.stand, sent.told) {
+            (Stand::Up(k), _) => self.by_own(minded(window, k, sent, ns, p, differs, self.own)),
+            (stand, Told::Skips(_)) => {
+                self.by_own(self.own.sends(window, place_in(stand), ns, p, true));
+            }
+            _ => {}
         }
     }
 

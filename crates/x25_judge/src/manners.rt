@@ -4,7 +4,7 @@ ghost use Rattle.x25_judge.specs.Manners as definition;
 
 use crate::note::Note;
 use crate::rule::Rule;
-use x25_packet_judge::apart;
+use x25_packet_judge::{apart, less};
 use x25_possible_links::Numbers;
 
 /// What an end did that counts for its next frames, beside its numbers.
@@ -75,17 +75,6 @@ pub(crate) fn says(
     }
 }
 
-/// One fewer that may be answered; 255 stand for that many or more.
-fn fewer(count: u8) -> u8
-    ensures { result ≡ definition.fewer count }
-{
-    if count < u8::MAX {
-        count.saturating_sub(1)
-    } else {
-        count
-    }
-}
-
 impl Manners {
     pub(crate) fn new() -> Manners
         ensures { result ≡ definition.none }
@@ -142,7 +131,7 @@ impl Manners {
         ensures { result ≡ definition.answered is_shown self }
     {
         let next = Manners {
-            polls: fewer(self.polls),
+            polls: less(self.polls),
             is_polling: false,
             ..self
         };

@@ -1,5 +1,4 @@
 mod Names
-mod ListLemmas
 mod ChannelsLemmas
 mod TellingLemmas
 mod BookLemmas

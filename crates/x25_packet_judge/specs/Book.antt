@@ -89,8 +89,9 @@ restarts from x is_judged b = let f = channels.takes from x b.restarts in
     seen (record b { restarts = f.channel; channels = all_happens (Sends from x) b.channels })
     (record { rule = f.verdict.rule; noted = f.verdict.noted; is_judged = is_judged || f.verdict.is_judged })
 
+-- the end has sent a packet
 abbrev pub spoken : Role → Book → Book
-spoken from b = keeps from (layers.speaks (layers_of from b)) b
+spoken from b = let t = layers_of from b in keeps from (record t { own = record t.own { is_quiet = false } }) b
 
 abbrev pub is_restart : PlainPacket → Bool
 is_restart (restart cause diagnostic) = true
@@ -129,14 +130,12 @@ abbrev pub is_modulo_8 : List ℕ → Bool
 is_modulo_8 [] = false
 is_modulo_8 (first ∷ octets) = first / 16 % 4 == 1
 
-abbrev pub tells_no_packet : ℕ → Book → Seen
-tells_no_packet channel b =
-    seen (misses_on channel b).book (record { rule = Some rules.NoPacket; noted = None; is_judged = true })
-
 -- which no station takes: DIAGNOSTIC, another packet, or of that format none in any form
 abbrev pub untaken : ℕ → List ℕ → Result PlainForm PacketError → Book → Seen
 untaken channel octets (Ok w) b = if diagnoses w.kind then quiet b else misses_on channel b
-untaken channel octets (Err e) b = if is_modulo_8 octets then tells_no_packet channel b else misses_on channel b
+untaken channel octets (Err e) b = let s = misses_on channel b in
+    if is_modulo_8 octets then seen s.book (record { rule = Some rules.NoPacket; noted = None; is_judged = true })
+    else s
 
 -- in any form: as the packet that a station takes it for
 abbrev pub takes_any : Role → ℕ → List ℕ → Result PlainForm PacketError → Result PlainPacket PacketError → Book → Seen

@@ -42,19 +42,15 @@ pub record Sent : Type 0 where
   pub verdict : Verdict
 
 -- it is judged where the set was known, and is, or a rule is told
-abbrev pub found_by : Option PacketRule → Bool → Bool → Verdict
-found_by rule is_again is_judged =
-    record { rule = rule; noted = if is_again then Some Again else None; is_judged = is_judged }
-
-abbrev pub sent_as : Packet → Set → sets.Stepped → Sent
-sent_as x was s = record {
-  set = s.set;
-  verdict = found_by (rule_of s.told x) (sets.repeats x was)
-      (sets.is_known was && (is_some (rule_of s.told x) || sets.is_known s.set));
-}
-
 abbrev pub sent : Packet → Set → Sent
-sent x s = sent_as x s (sets.sends_to x s)
+sent x was = let s = sets.sends_to x was in record {
+  set = s.set;
+  verdict = record {
+    rule = rule_of s.told x;
+    noted = if sets.repeats x was then Some Again else None;
+    is_judged = sets.is_known was && (is_some (rule_of s.told x) || sets.is_known s.set);
+  };
+}
 
 -- behind a packet, and what is told of it
 pub record Found : Type 0 where

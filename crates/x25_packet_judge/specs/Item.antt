@@ -1,7 +1,7 @@
 -- What the rules of a channel look at of a packet. ITU-T X.25 (10/96), sections 6.12 and 7.2.2; what isn't said of
 -- packet sizes and windows is 128 octets and 2 packets where a call proposes nothing.
-use Rattle.std.specs.Prelude.{ℕ, ◌==◌, nat_lt, if◌then◌else◌, List, length, Option, Some, None, unwrap_or, Result, Ok}
-use Rattle.std.specs.Prelude.{Err}
+use Rattle.std.specs.Prelude.{ℕ, ◌^◌, ◌&&◌, nat_le, nat_lt, if◌then◌else◌, List, length, Option, Some, None}
+use Rattle.std.specs.Prelude.{unwrap_or, Result, Ok, Err}
 use Rattle.x25_packet.specs.Facilities.{facilities_of}
 use Rattle.x25_packet.specs.Packet.{PlainPacket, call, accept, clear, clear_conf, user_data, rr, rnr, interrupt}
 use Rattle.x25_packet.specs.Packet.{interrupt_conf, reset, reset_conf, restart, restart_conf}
@@ -15,17 +15,7 @@ use Rattle.x25_possible.specs.declared.{packet.Sizes.{Sizes}, packet.Terms.{Term
 
 -- the packet sizes that a facility names, in octets (section 7.2.2.1.1)
 abbrev pub octets_of : ℕ → ℕ
-octets_of size =
-    if size == 4 then 16
-    else if size == 5 then 32
-    else if size == 6 then 64
-    else if size == 7 then 128
-    else if size == 8 then 256
-    else if size == 9 then 512
-    else if size == 10 then 1024
-    else if size == 11 then 2048
-    else if size == 12 then 4096
-    else 0
+octets_of size = if nat_le 4 size && nat_le size 12 then 2 ^ size else 0
 
 -- octets of user data: no packet has more than this
 abbrev pub size_of : ℕ → ℕ
@@ -47,22 +37,16 @@ said_by (Err e) = record { sizes = None; windows = None }
 abbrev pub said : List ℕ → Said
 said field = said_by (facilities_of field)
 
-abbrev pub usual_sizes : Sizes
-usual_sizes = record { calling = 128; called = 128 }
-
-abbrev pub usual_windows : Windows
-usual_windows = record { calling = 2; called = 2 }
-
-abbrev pub with_both : Sizes → Windows → Terms
-with_both sizes windows = record {
-  calling_size = sizes.calling;
-  called_size = sizes.called;
-  calling_window = windows.calling;
-  called_window = windows.called;
-}
-
 abbrev pub proposed : Said → Terms
-proposed s = with_both (unwrap_or s.sizes usual_sizes) (unwrap_or s.windows usual_windows)
+proposed s =
+    let sizes = unwrap_or s.sizes (record { calling = 128; called = 128 }) in
+    let windows = unwrap_or s.windows (record { calling = 2; called = 2 }) in
+    record {
+      calling_size = sizes.calling;
+      called_size = sizes.called;
+      calling_window = windows.calling;
+      called_window = windows.called;
+    }
 
 unfoldable pub item_of : PlainPacket → Item
 item_of (call channel called calling facilities user) = Call (proposed (said facilities))

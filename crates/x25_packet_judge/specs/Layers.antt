@@ -30,10 +30,6 @@ new = record unseen { is_quiet = true }
 abbrev pub begun : ℕ → Layer
 begun asked = record unseen { track = Followed; is_fresh = true; asked = asked; is_quiet = true }
 
--- packets are followed from an N(R) of the other end on: it has taken none from there on
-abbrev pub found_at : ℕ → Layer → Layer
-found_at number l = record l { track = Followed; is_fresh = false; next = number; acked = number; is_quiet = false }
-
 -- not all packets were seen
 abbrev pub lost : Layer → Layer
 lost l = record l { track = Unseen; is_fresh = false; is_quiet = false }
@@ -87,9 +83,18 @@ numbered t = record t {
   own = record t.own { is_fresh = false; is_quiet = t.own.is_quiet && not (is_unseen t.own.track) };
 }
 
+-- packets of the other end are followed from there on: it has taken none of them
 abbrev pub hears : ℕ → Layers → Layers
 hears number t =
-    if finds_other number t then record (numbered t) { other = found_at number t.other }
+    if finds_other number t then record (numbered t) {
+      other = record t.other {
+        track = Followed;
+        is_fresh = false;
+        next = number;
+        acked = number;
+        is_quiet = false;
+      };
+    }
     else if may_hear t then record (numbered t) { other = record t.other { acked = number } }
     else numbered t
 
@@ -136,7 +141,3 @@ accepts t = if is_late t then record t { own = late t.own } else begins (less t.
 -- octets that spell none may have been UA, where one was asked for
 abbrev pub misses : Layers → Layers
 misses t = if nat_lt 0 t.own.asked then loses (worn t) else worn t
-
--- the first end sends a packet
-abbrev pub speaks : Layers → Layers
-speaks t = record t { own = record t.own { is_quiet = false } }

@@ -1,5 +1,5 @@
 -- What is said of a rule of the packet layer that a packet breaks (profile).
-use Rattle.std.specs.Prelude.{ℕ, List, [], ◌++◌, Option, Some, None, codes, decimal}
+use Rattle.std.specs.Prelude.{ℕ, List, Option, Some, None, codes}
 use Rattle.x25_packet_judge.specs.declared.packet_rule.PacketRule.{PacketRule}
 use Rattle.x25_packet_judge.specs.declared.packet_rule.PacketRule.TheVariants as rules
 
@@ -33,10 +33,3 @@ number_in (rules.OverPackets window) = Some window
 number_in (rules.TooManyOctets most) = Some most
 number_in (rules.NotFull size) = Some size
 number_in rule = None
-
-abbrev pub number_text : Option ℕ → List ℕ
-number_text (Some number) = decimal number
-number_text None = []
-
-abbrev pub packet_rule_text : PacketRule → List ℕ
-packet_rule_text rule = words_of rule ++ number_text (number_in rule)

@@ -4,6 +4,9 @@ ghost use Rattle.std.specs.Option.{option_map};
 ghost use Rattle.x25_packet_judge.specs.Channel as definition;
 ghost use Rattle.x25_packet_judge.specs.declared.channel.Event.TheVariants.{Loss, Sends};
 ghost use Rattle.x25_packet_judge.specs.Channels.{AreLost, Channels, all_alike, all_happens, channel_of, padded, put};
+ghost use Rattle.std.specs.Option.Follows.{option_follows_value};
+ghost use Rattle.std.specs.Borrow.{sem};
+ghost use Rattle.x25_packet_judge.specs.contracts.channel.Channel.{the_row};
 
 use crate::book::Verdict;
 use crate::channel::{Channel, Event};
@@ -49,42 +52,14 @@ fn pad(seen: &mut Vec<Option<Channel>>, index: usize)
     }
 }
 
-/// A packet of one.
-fn judges(
-    place: &mut Option<Channel>,
-    usual: &Channel,
-    number: u16,
-    from: Role,
-    packet: &Packet,
-) -> Verdict
-    ensures place { place.new
-        ≡ Some (definition.judges number from packet.now (unwrap_or place.old usual.now)).channel }
-    ensures verdict { result ≡ (definition.judges number from packet.now (unwrap_or place.old usual.now)).verdict }
+/// The channel of a place, which is as the others were not seen where it has none.
+fn channel_at<'a>(place: &'a mut Option<Channel>, usual: &Channel) -> &'a mut Channel
+    ensures* lends { sem 𝓛 (option_follows_value the_row place.entry result) }
+    ensures value { result.now ≡ unwrap_or place.old usual.now }
 {
     match place {
-        Some(channel) => channel.judges(number, from, packet),
-        None => {
-            let mut channel = usual.copy();
-            let verdict = channel.judges(number, from, packet);
-            *place = Some(channel);
-            verdict
-        }
-    }
-}
-
-/// A packet of one that isn't read.
-fn misses(place: &mut Option<Channel>, usual: &Channel, number: u16) -> Verdict
-    ensures place { place.new ≡ Some (definition.misses number (unwrap_or place.old usual.now)).channel }
-    ensures verdict { result ≡ (definition.misses number (unwrap_or place.old usual.now)).verdict }
-{
-    match place {
-        Some(channel) => channel.misses(number),
-        None => {
-            let mut channel = usual.copy();
-            let verdict = channel.misses(number);
-            *place = Some(channel);
-            verdict
-        }
+        Some(channel) => channel,
+        None => place.insert(usual.copy()),
     }
 }
 
@@ -127,7 +102,7 @@ impl Channels {
         let index = usize::from(number) % CHANNELS;
         self.are_lost = false;
         pad(&mut self.seen, index);
-        judges(&mut self.seen[index], &self.usual, number, from, packet)
+        channel_at(&mut self.seen[index], &self.usual).judges(number, from, packet)
     }
 
     /// A packet of a channel that isn't read.
@@ -140,7 +115,7 @@ impl Channels {
         let index = usize::from(number) % CHANNELS;
         self.are_lost = false;
         pad(&mut self.seen, index);
-        misses(&mut self.seen[index], &self.usual, number)
+        channel_at(&mut self.seen[index], &self.usual).misses(number)
     }
 
     /// An end sends a packet on all channels.

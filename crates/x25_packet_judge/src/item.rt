@@ -10,17 +10,10 @@ use x25_possible::{Packet as Item, Said, Sizes, Terms, Windows};
 fn octets_of(size: u8) -> u16
     ensures { result ≡ definition.octets_of size }
 {
-    match size {
-        4 => 16,
-        5 => 32,
-        6 => 64,
-        7 => 128,
-        8 => 256,
-        9 => 512,
-        10 => 1_024,
-        11 => 2_048,
-        12 => 4_096,
-        _ => 0,
+    if 4 <= size && size <= 12 {
+        1 << size
+    } else {
+        0
     }
 }
 
@@ -38,25 +31,19 @@ fn size_of(user: &[u8]) -> u16
 fn sizes_said(said: Option<Directions>) -> Option<Sizes>
     ensures { result ≡ definition.sizes_said said }
 {
-    match said {
-        Some(sizes) => Some(Sizes {
-            calling: octets_of(sizes.calling),
-            called: octets_of(sizes.called),
-        }),
-        None => None,
-    }
+    said.map(|sizes| Sizes {
+        calling: octets_of(sizes.calling),
+        called: octets_of(sizes.called),
+    })
 }
 
 fn windows_said(said: Option<Directions>) -> Option<Windows>
     ensures { result ≡ definition.windows_said said }
 {
-    match said {
-        Some(windows) => Some(Windows {
-            calling: windows.calling,
-            called: windows.called,
-        }),
-        None => None,
-    }
+    said.map(|windows| Windows {
+        calling: windows.calling,
+        called: windows.called,
+    })
 }
 
 /// What a facility field says of packet sizes and windows, where it can be read.

@@ -16,6 +16,5 @@ mod reason;
 
 pub use book::{Book, Noted, Verdict};
 pub use law::{books_follow_tapes, books_tell_exactly, innocent_tapes_stay_untold, restarts_begin};
-pub use numbers::apart;
+pub use numbers::{apart, less};
 pub use packet_rule::PacketRule;
-pub use packet_rule_text::{MOST_PACKET_RULE, push_packet_rule};

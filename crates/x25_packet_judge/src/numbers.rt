@@ -10,7 +10,7 @@ pub fn apart(to: u8, from: u8) -> u8
 }
 
 /// A count that goes down by one: 255 stands for 255 and more, so it stays.
-pub(crate) fn less(count: u8) -> u8
+pub fn less(count: u8) -> u8
     ensures { result ≡ definition.less count }
 {
     if count == 255 {

@@ -1,6 +1,6 @@
 -- SABM and UA begin a session of both ends.
 use Rattle.x25_judge.proofs.verdicts.Names.{◌≡◌, ◌==◌, ◌⊎◌, inl, inr, ℕ, arith, Bool, true, false, zero, suc, List, [], ◌∷◌, ◌++◌, length, drop, Option, Some}
-use Rattle.x25_judge.proofs.verdicts.Names.{None, Result, Ok, Err, refl, sym, ap, ◌∙◌, subst, nat_le, not, ◌&&◌, ◌||◌, nat_lt, both_ways, cond_both, or_parts}
+use Rattle.x25_judge.proofs.verdicts.Names.{None, Result, Ok, Err, refl, sym, ap, ◌∙◌, subst, nat_le, not, ◌&&◌, ◌||◌, both_ways, cond_both, or_parts}
 use Rattle.x25_judge.proofs.verdicts.Names.{and_parts, and_from, Role, Dte, Dce, gap_in, n1, sent_in, Reading, PlainFrame, sabm, ua, frame_of, FrameError}
 use Rattle.x25_judge.proofs.verdicts.Names.{other, Held, no_octets, differs, all_told, answer_to, book_of, gap_of, missed_by, other_of, own_of, past_gap}
 use Rattle.x25_judge.proofs.verdicts.Names.{read_of, seen_by, sent_of, Judge, Strictness, End, Rule, come, comes, has_answer, has_number, is_new, is_number}
@@ -16,11 +16,12 @@ use Rattle.x25_possible_links.specs.{laws.Link.{asks, answers, begins}, laws.Pla
 use Rattle.x25_possible_links.specs.declared.set.Told.TheVariants.{Skips as SkipsOf}
 use Rattle.x25_judge.specs.declared.rule.Rule.TheVariants.{Skips}
 use Rattle.std.specs.List.{list_any}
+use Rattle.std.proofs.lemmas.Bool.Decides.{nat_tests}
 use Rattle.std.proofs.lemmas.List.Folds.{list_any-append}
 use Rattle.x25_possible_links.proofs.Covers.{Covers, Here, Asked, Later, Begins}
 use Rattle.x25_judge.proofs.{verdicts.Octets.{HasRoom, each_room, keeps_room}, verdicts.Silences.{no_numbers, saw}}
 use Rattle.x25_judge.proofs.verdicts.Silent.{Fits, IsWithin, comes_on, settled_comes, up_below, settled_within, upward_within}
-use Rattle.x25_judge.proofs.{verdicts.Following.{owed_first}, verdicts.Innocents.{sent_end}, verdicts.Manners.{IsFair, minds_has, small_window}}
+use Rattle.x25_judge.proofs.{verdicts.Following.{owed_first}, verdicts.Innocents.{sent_end}, verdicts.Manners.{IsFair, minds_has}}
 use Rattle.x25_judge.specs.Links as links
 use Rattle.x25_possible_links.specs.laws.Places as place
 use Rattle.x25_possible_links.specs.code.Steps.{set_of}
@@ -43,10 +44,7 @@ covers_come _ _ _ _ (Begins x way s end may c) g e none b =
 
 leads_none : (u : Stand) (way : List Frame) (t : Stand) (end : List Frame) → Leads u way t end → way ≡ [] → (t ≡ u) × (end ≡ [])
 leads_none _ _ _ _ (Stays u way) e = (refl, e)
-leads_none _ _ _ _ (Steps u x way t end p l) e = absurd (not_none x way e)
-  where
-    not_none : (y : Frame) (ys : List Frame) → y ∷ ys ≡ [] → ⊥
-    not_none y ys e = cc
+leads_none _ _ _ _ (Steps u x way t end p l) e = absurd cc
 
 holds_come : (u : Stand) (way : List Frame) → HoldsAt u way (At fresh) [] → Below fresh (comes way u)
 holds_come u way h =
@@ -259,11 +257,7 @@ opposite_is Dce j = refl
 
 -- a rule of order that is told of the set stays told
 not_of_manners : (r : Rule) → is_of_order (Some r) ≡ true → is_of_manners r ≡ false
-not_of_manners (OverWindow window) h = go (nat_lt window 7) refl
-  where
-    go : (b : Bool) → nat_lt window 7 ≡ b → b ≡ false
-    go true e = absurd (both_ways (nat_le 7 window) (small_window window e) h)
-    go false e = refl
+not_of_manners (OverWindow window) h = grind (arith, nat_tests, h)
 not_of_manners NoPoll h = absurd (both_ways false refl h)
 not_of_manners RejectAgain h = absurd (both_ways false refl h)
 not_of_manners (Skips next) h = absurd (both_ways false refl h)

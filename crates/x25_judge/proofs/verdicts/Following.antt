@@ -1,12 +1,13 @@
 -- An end that keeps the rules of docs/PEER.md, beside the places in which the judge has it.
 use Rattle.x25_judge.proofs.verdicts.Names.{◌≡◌, ◌⊎◌, inl, inr, ℕ, ◌+◌, ◌%◌, ◌≤◌, ◌==◌, arith, max, Bool, true, false, List, [], ◌∷◌, ◌++◌, length, suc, Option}
-use Rattle.x25_judge.proofs.verdicts.Names.{Some, None, refl, sym, ap, ◌∙◌, subst, not, ◌&&◌, ◌||◌, nat_le, nat_lt, and_from, both_ways, cond-true, eqb-true}
+use Rattle.x25_judge.proofs.verdicts.Names.{Some, None, refl, sym, ap, ◌∙◌, subst, not, ◌&&◌, ◌||◌, nat_le, nat_lt, and_from, both_ways, cond-true, cond_both}
 use Rattle.x25_judge.proofs.verdicts.Names.{lt-ltb, PlainFrame, info, rr, rnr, rej, sabm, disc, ua, Peer, fresh_peer, MayAcknowledge, MayNumber, Said, Tells}
 use Rattle.x25_judge.proofs.verdicts.Names.{In, shown, Way, MaySay, MaySend, HaveNoUa, IsUa, declined, numbered, asks_again, closes, declines, rejects}
 use Rattle.x25_judge.proofs.verdicts.Names.{takes_disc, takes_sabm, waits_on, IsIn, State, At, Owes, owes, fresh, has_ua, is_asking, is_ua, may_acknowledge}
 use Rattle.x25_judge.proofs.verdicts.Names.{may_number, sends_as, Frame, Ready, Sabm, Disc, Ua, Dm, Frmr, Unread, LinkSet, Numbers, Stand, Out, Asking, Up}
 use Rattle.x25_judge.proofs.verdicts.Names.{Free, Has, has_taken, if◌then◌else◌, eq-eqb, le-leb}
 use Rattle.x25_judge.specs.laws.Sessions.{asks}
+use Rattle.std.proofs.lemmas.Bool.Decides.{nat_tests}
 use Rattle.x25_line.specs.laws.Peer as peer
 use Rattle.x25_line.specs.laws.PeerSessions as session
 use Rattle.x25_possible_links.specs.laws.Link as link
@@ -110,17 +111,7 @@ may_be_numbered p ns n packet d m low same =
     (and_from (nat_lt n (p.acked + 7)) (n == p.sent || not d) (lt-ltb n (p.acked + 7) m.window) same)))
 
 pub sent_is : (n m : ℕ) → n ≤ m → (if n == m then m + 1 else m) ≡ max m (n + 1)
-sent_is n m low = go (n == m) refl
-  where
-    last : (n m : ℕ) → n ≡ m → m + 1 ≡ max m (n + 1)
-    last n m e = omega (arith, e)
-
-    before : (n m : ℕ) → n ≤ m → (n ≡ m → ⊥) → m ≡ max m (n + 1)
-    before n m low ne = omega (arith, low, ne)
-
-    go : (b : Bool) → (n == m) ≡ b → (if b then m + 1 else m) ≡ max m (n + 1)
-    go true e = last n m (eqb-true n m e)
-    go false e = before n m low (λ same. both_ways (n == m) e (eq-eqb n m same))
+sent_is n m low = cond_both (n == m) (m + 1) m (λ k. k ≡ max m (n + 1)) (λ e. grind (arith, nat_tests, e)) (λ e. grind (arith, nat_tests, e, low))
 
 -- the same octets go again
 abbrev pub IsSame : Peer → PlainFrame → Bool → Type 0
@@ -190,29 +181,20 @@ module _ (set : LinkSet) where
         means = g.means;
       }
 
-  owes_disc : (s : Stand) (b : Bool) (y : Frame) → IsSeen y (disc b) → IsIn Out (link.owed s y)
-  unfolding shown
-  owes_disc s b y (inl h) = subst (λ z. IsIn Out (link.owed s z)) (sym h.1) (inl refl)
-  owes_disc s b y (inr h) = subst (λ z. IsIn Out (link.owed s z)) (sym h) (any s)
-    where
-      any : (s : Stand) → IsIn Out (link.asked s)
-      any Asking = inr (inr (inl refl))
-      any Free = inr (inr (inl refl))
-      any s = inr (inl refl)
+  -- it is owed to the frame, and to octets that may have been any
+  owes_it : (s r : Stand) (f : PlainFrame) (x : Frame) → ((d : Bool) → shown f d ≡ x) → IsIn r (link.owed s x) → IsIn r (link.asked s)
+      → (y : Frame) → IsSeen y f → IsIn r (link.owed s y)
+  owes_it s r f x is here any y (inl h) = subst (λ z. IsIn r (link.owed s z)) (sym (h.1 ∙ is h.0)) here
+  owes_it s r f x is here any y (inr h) = subst (λ z. IsIn r (link.owed s z)) (sym h) any
 
-  owes_fresh : (s : Stand) (b : Bool) (y : Frame) → IsSeen y (sabm b) → IsIn fresh (link.owed s y)
-  unfolding shown
-  owes_fresh s b y (inl h) = subst (λ z. IsIn fresh (link.owed s z)) (sym h.1) (owed_first s)
-  owes_fresh s b y (inr h) = subst (λ z. IsIn fresh (link.owed s z)) (sym h) (any s)
-    where
-      any : (s : Stand) → IsIn fresh (link.asked s)
-      any Out = inl refl
-      any s = inl refl
+  asked_out : (s : Stand) → IsIn Out (link.asked s)
+  asked_out Asking = inr (inr (inl refl))
+  asked_out Free = inr (inr (inl refl))
+  asked_out s = inr (inl refl)
 
-  owes_waits : (b : Bool) (y : Frame) → IsSeen y (sabm b) → IsIn Asking (link.owed Asking y)
-  unfolding shown
-  owes_waits b y (inl h) = subst (λ z. IsIn Asking (link.owed Asking z)) (sym h.1) (inr (inl refl))
-  owes_waits b y (inr h) = subst (λ z. IsIn Asking (link.owed Asking z)) (sym h) (inr (inl refl))
+  asked_fresh : (s : Stand) → IsIn fresh (link.asked s)
+  asked_fresh Out = inl refl
+  asked_fresh s = inl refl
 
   asks_free : (s : Stand) (end : List Frame) → has_ua end ≡ false → link.asks s end ≡ Some Asking
   asks_free s end e = go (is_asking s)
@@ -244,10 +226,12 @@ module _ (set : LinkSet) where
       same_stand session.In = refl
   says stand _ p _ way _ end _ d has m (rejects f why) same = sends_it (stand_of stand p) end Frmr 0 0 session.Out p way has m refl
   says stand _ p _ way _ end _ d has m (takes_disc b f rest is) same =
-      answers_it (stand_of stand p) end (disc b) rest session.Out p (owes_disc (stand_of stand p) b) has (subst (λ w. Means end w) is m)
+      answers_it (stand_of stand p) end (disc b) rest session.Out p
+      (owes_it (stand_of stand p) Out (disc b) Disc (λ d. refl) (inl refl) (asked_out (stand_of stand p))) has (subst (λ w. Means end w) is m)
   says stand _ p _ way _ end _ d has m (takes_sabm b f rest is) same =
-      answers_it (stand_of stand p) end (sabm b) rest session.In fresh_peer (owes_fresh (stand_of stand p) b) has
+      answers_it (stand_of stand p) end (sabm b) rest session.In fresh_peer
+      (owes_it (stand_of stand p) fresh (sabm b) Sabm (λ d. refl) (owed_first (stand_of stand p)) (asked_fresh (stand_of stand p))) has
       (subst (λ w. Means end w) is m)
   says stand _ p _ way _ end _ d has m (waits_on b f rest waits is) same =
-      answers_it Asking end (sabm b) rest session.Asking p (owes_waits b) (subst (λ s. Has set (At (stand_of s p)) end) waits has)
-      (subst (λ w. Means end w) is m)
+      answers_it Asking end (sabm b) rest session.Asking p (owes_it Asking Asking (sabm b) Sabm (λ d. refl) (inr (inl refl)) (inr (inl refl)))
+      (subst (λ s. Has set (At (stand_of s p)) end) waits has) (subst (λ w. Means end w) is m)

@@ -3,44 +3,31 @@ use Rattle.x25_judge.proofs.verdicts.Names.{◌≡◌, ℕ, Bool, true, false, [
 use Rattle.x25_judge.proofs.verdicts.Names.{differs, own_of, seen_by, Judge, Minding, Sent, is_of_order, rule_of, GuiltyAreTold, ToldAreGuilty, begun_as}
 use Rattle.x25_judge.proofs.{verdicts.Names.{played, sends_to, Frame, Info, LinkSet, Told, Broken, Nothing, Skips, Stand, Free, Up}, verdicts.Tapes.{told_is}}
 use Rattle.x25_judge.proofs.{verdicts.Innocents.{none_of_order, seen_fair, sent_end}, verdicts.Manners.{minds_has}}
-use Rattle.x25_judge.proofs.verdicts.Minded.{IsTold, Tells, asks_tells, first_brings, first_keeps, number_tells, tells_of}
+use Rattle.x25_judge.proofs.verdicts.{Lines.{IsTold, first_keeps}, Minded.{Tells, asks_tells, first_brings, number_tells, tells_of}}
 use Rattle.x25_judge.specs.Links as links
 use Rattle.x25_judge.specs.Manners as manners
 use Rattle.x25_possible_links.proofs.SetLemmas as sets
 
 -- ---- what is told of the set is told of the frame
 
-IsSome : Told → Type 0
-IsSome Nothing = ⊥
-IsSome told = Unit {0}
-
-is_some_told : (told : Told) → (told ≡ Nothing → ⊥) → IsSome told
-unfolding IsSome
-is_some_told Nothing some = absurd (some refl)
-is_some_told told some = tt
-
-none_of : (told : Told) → IsSome told → {A : Type 0} → told ≡ Nothing → A
-unfolding IsSome
-none_of told some e = absurd (subst IsSome e some)
+abbrev IsSome : Told → Type 0
+IsSome told = told ≡ Nothing → ⊥
 
 module _ (window : ℕ) (t : Sent) (ns : ℕ) (p : Bool) (b : Minding) where
-  skips_tell : (told : Told) (x : Frame) (s : Stand) → IsSome told → (IsTold (links.rule_of told x) → Tells b) → Tells (links.skipped_by told window s ns p b)
-  unfolding IsSome
-  skips_tell (Broken u) x s some broken = broken refl
-  skips_tell (Skips u) x s some broken = first_brings b.seen.rule (manners.sends window (links.place_in s) ns p true b.own).rule refl
-  skips_tell Nothing x s some broken = absurd some
-
-  counts_tell : (s : Stand) (x : Frame) → IsSome t.told → (IsTold (links.rule_of t.told x) → Tells b) → Tells (links.counts_in s window t ns p b)
-  counts_tell (Up k) x some broken = number_tells window t ns p b t.told x k (λ e. none_of t.told some e) broken
-  counts_tell s x some broken = skips_tell t.told x s some broken
+  counts_tell : (s : Stand) (told : Told) (x : Frame) → IsSome told → (IsTold (links.rule_of told x) → Tells b)
+      → Tells (links.counts_in s told window t ns p b)
+  counts_tell (Up k) told x some broken = number_tells window t ns p b told x k (λ e. absurd (some e)) broken
+  counts_tell s (Broken u) x some broken = broken refl
+  counts_tell s (Skips u) x some broken = first_brings b.seen.rule (manners.sends window (links.place_in s) ns p true b.own).rule refl
+  counts_tell s Nothing x some broken = absurd (some refl)
 
 Plain : Frame → Type 0
 Plain (Info ns nr d) = ⊥
 Plain x = Unit {0}
 
 rule_some : (told : Told) (x : Frame) → IsSome told → Plain x → IsTold (links.rule_of told x)
-unfolding IsSome Plain
-rule_some Nothing x some plain = absurd some
+unfolding Plain
+rule_some Nothing x some plain = absurd (some refl)
 rule_some (Skips s) (Info ns nr d) some plain = absurd plain
 rule_some told x some plain = refl
 
@@ -48,7 +35,7 @@ frame_tells : (window : ℕ) (t : Sent) (to : LinkSet) (frame : PlainFrame) (d :
     ≡ links.rule_of t.told (links.shown frame d) → Tells (links.minds window t to frame b)
 unfolding links.minds links.shown Plain
 frame_tells window t to (info ns nr p octets) d b some is =
-    counts_tell window t ns p (links.asks p b) t.facts.stand (Info ns nr d) some (λ broken. asks_tells p b (subst IsTold (sym is) broken))
+    counts_tell window t ns p (links.asks p b) t.facts.stand t.told (Info ns nr d) some (λ broken. asks_tells p b (subst IsTold (sym is) broken))
 frame_tells window t to frame d b some is =
     minds_has (λ r judged. IsTold r) (λ r m judged fair h. first_keeps r m h) window t to frame b
     (subst IsTold (sym is) (rule_some t.told (links.shown frame d) some tt))
@@ -56,7 +43,6 @@ frame_tells window t to frame d b some is =
 -- and where none is told, nothing is
 pub untold : (from : Role) (j : Judge) (frame : PlainFrame) → (seen_by j from frame).seen.rule ≡ None
     → (sends_to (links.shown frame (differs (own_of from j).held frame)) (own_of from j).set).told ≡ Nothing
-unfolding IsSome
 untold from j frame none = go _ refl
   where
     go : (t : Told) → (sends_to (links.shown frame (differs (own_of from j).held frame)) (own_of from j).set).told ≡ t
@@ -64,13 +50,13 @@ untold from j frame none = go _ refl
     go Nothing e = e
     go t e =
         absurd (both_ways (is_some (seen_by j from frame).seen.rule) (ap is_some none)
-        (frame_tells j.window _ _ frame (differs (own_of from j).held frame) _ (subst IsSome (sym e) tt) refl))
+        (frame_tells j.window _ _ frame (differs (own_of from j).held frame) _ (λ same. cc) refl))
 
 -- ---- the laws
 
 pub guilty_are_told : GuiltyAreTold
 guilty_are_told of j tape s way line octets frame is h well shows sees none =
-    tells_of of j frame (frame_tells j.window _ _ frame (differs (own_of of j).held frame) _ (is_some_told _ not_nothing) refl)
+    tells_of of j frame (frame_tells j.window _ _ frame (differs (own_of of j).held frame) _ not_nothing refl)
   where
     x : Frame
     x = links.shown frame (differs (own_of of j).held frame)

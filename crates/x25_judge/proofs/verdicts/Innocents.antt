@@ -1,21 +1,22 @@
 -- No rule of order is told of an end that keeps the rules.
-use Rattle.x25_judge.proofs.verdicts.Names.{◌≡◌, ◌⊎◌, inl, inr, ℕ, ◌+◌, ◌%◌, ◌<◌, ◌≤◌, ◌==◌, arith, max, Bool, true, false, suc, List, [], ◌∷◌, ◌++◌, length}
-use Rattle.x25_judge.proofs.verdicts.Names.{drop, refl, sym, ap, ◌∙◌, subst, not, ◌&&◌, ◌||◌, both_ways, cases_eq, Role, Dte, Dce, PlainFrame, info, rr, rnr}
+use Rattle.x25_judge.proofs.verdicts.Names.{◌≡◌, ◌⊎◌, inl, inr, ℕ, ◌+◌, ◌%◌, ◌<◌, ◌≤◌, ◌==◌, arith, Bool, true, false, List, [], ◌∷◌, ◌++◌, length}
+use Rattle.x25_judge.proofs.verdicts.Names.{drop, refl, sym, ap, ◌∙◌, subst, not, ◌&&◌, ◌||◌, Role, Dte, Dce, PlainFrame, info, rr, rnr}
 use Rattle.x25_judge.proofs.verdicts.Names.{rej, ua, Peer, fresh_peer, hearing, taking, MayHear, MayNumber, In, other, Held, differs, keeps, no_octets}
 use Rattle.x25_judge.proofs.verdicts.Names.{none_held, comes, IsBegun, IsDamaged, IsTimely, Shows, Way, is_of_order, answer_to, own_of, seen_by, forgets_each}
 use Rattle.x25_judge.proofs.verdicts.Names.{held_by, shown, breaks_order, Judge, End, MaySay, MaySend, MayStand, declined, numbered, declines, takes_sabm}
 use Rattle.x25_judge.proofs.verdicts.Names.{NoSessionIsAccused, nth, IsIn, is_below, sends_to, shows_to, unknown, State, At, Owes, passes, fresh, heard}
 use Rattle.x25_judge.proofs.verdicts.Names.{may_answer, onward, upward, Frame, Info, Ready, Unread, Before, LinkSet, Nothing, Spot, Numbers, Stand, Out, Asking}
 use Rattle.x25_judge.proofs.verdicts.Names.{Up, Free, AreBelow, Below, below_self, Leads, Stays, Steps, stays_at, below_is, Has, has_taken, has_less, has_sent}
-use Rattle.x25_judge.proofs.{verdicts.Names.{has_shown, is_untold, if◌then◌else◌, Ok, Option, Some, None, eq-eqb}, verdicts.Octets.{sent_held}}
+use Rattle.x25_judge.proofs.{verdicts.Names.{cond_both, has_shown, is_untold, length_push, if◌then◌else◌, Ok, Option, Some, None, eq-eqb}, verdicts.Octets.{sent_held}}
 use Rattle.x25_judge.specs.laws.Session.{rule_of as told_rule}
 use Rattle.x25_judge.specs.Links.{rule_of}
+use Rattle.std.proofs.Math.Bool.{or-true}
 use Rattle.x25_possible_links.specs.laws.Link.{hears, begins}
 use Rattle.x25_line.specs.laws.Said.{said as read_as}
 use Rattle.x25_possible_links.proofs.Covers.{Covers, Here, Asked, Later, Begins}
 use Rattle.x25_judge.proofs.{verdicts.Lines.{goes, past, told_of_order}, verdicts.Manners.{minds_fair}, verdicts.Silent.{heard_sent}}
-use Rattle.x25_judge.proofs.verdicts.Octets.{HasSent, HasRoom, IsHeld, begun_held, each_room, held_less, held_more, keeps_room, pushed_held, same_octets}
-use Rattle.x25_judge.proofs.verdicts.Following.{heard_keeps, IsPart, IsSame, IsSeen, Means, Says, front, means_on, means_same, numbers_of, says, stand_of}
+use Rattle.x25_judge.proofs.verdicts.Octets.{HasSent, HasRoom, IsHeld, begun_held, each_room, held_less, held_more, is_before, keeps_room, pushed_held, same_octets}
+use Rattle.x25_judge.proofs.verdicts.Following.{heard_keeps, IsPart, IsSame, IsSeen, Means, Says, front, means_on, means_same, numbers_of, says, sent_is, stand_of}
 use Rattle.x25_line.specs.laws.Peer as peer
 use Rattle.x25_line.specs.laws.PeerSessions as session
 use Rattle.x25_packet_judge.specs.Book as book
@@ -23,13 +24,6 @@ use Rattle.x25_judge.specs.laws.Sessions as sessions
 use Rattle.x25_possible_links.specs.laws.Link as link
 
 -- ---- what comes
-
-one_more : (packet : List ℕ) (xs : List (List ℕ)) → length (xs ++ packet ∷ []) ≡ length xs + 1
-one_more packet [] = refl
-one_more packet (x ∷ xs) = ap suc (one_more packet xs) ∙ one_on (length xs)
-  where
-    one_on : (n : ℕ) → suc (n + 1) ≡ suc n + 1
-    one_on n = omega arith
 
 abbrev with_heard : Bool → Bool → ℕ → ℕ → Peer → Numbers
 with_heard h t ns nr p = record {
@@ -43,10 +37,10 @@ numbers_heard : (h t : Bool) (ns nr : ℕ) (packet : List ℕ) (p : Peer) → pe
     ≡ numbers_of (taking t packet (hearing h nr p))
 numbers_heard true true ns nr packet p wanted =
     ap (λ m. record { sent = p.sent; acked = nth p.acked nr; taken = m; told = p.told })
-    (ap (λ b. if b then length p.taken + 1 else length p.taken) (eq-eqb ns (length p.taken % 8) wanted) ∙ sym (one_more packet p.taken))
+    (ap (λ b. if b then length p.taken + 1 else length p.taken) (eq-eqb ns (length p.taken % 8) wanted) ∙ sym (length_push p.taken packet))
 numbers_heard false true ns nr packet p wanted =
     ap (λ m. record { sent = p.sent; acked = p.acked; taken = m; told = p.told })
-    (ap (λ b. if b then length p.taken + 1 else length p.taken) (eq-eqb ns (length p.taken % 8) wanted) ∙ sym (one_more packet p.taken))
+    (ap (λ b. if b then length p.taken + 1 else length p.taken) (eq-eqb ns (length p.taken % 8) wanted) ∙ sym (length_push p.taken packet))
 numbers_heard true false ns nr packet p wanted = refl
 numbers_heard false false ns nr packet p wanted = refl
 
@@ -215,25 +209,16 @@ same_info : (held : Held) (p : Peer) (ns nr : ℕ) (pf : Bool) (packet : List �
     → MayNumber p ns packet n → n ≤ p.sent → (n == p.sent || not (differs held (info ns nr pf packet))) ≡ true
 same_info held p ns nr pf packet is n m low = go (n == p.sent) refl
   where
-    before : (n m : ℕ) → n ≤ m → (n ≡ m → ⊥) → n < m
-    before n m a b = omega (arith, a, b)
-
     go : (b : Bool) → (n == p.sent) ≡ b → (b || not (differs held (info ns nr pf packet))) ≡ true
     go true e = refl
-    go false e =
-        ap not (same_octets held p.given p.sent n ns nr pf packet m.number
-        (before n p.sent low (λ same. both_ways (n == p.sent) e (eq-eqb n p.sent same))) m.again m.same is)
+    go false e = ap not (same_octets held p.given p.sent n ns nr pf packet m.number (is_before n p.sent low e) m.again m.same is)
 
 same_by_held : (held : Held) (p : Peer) (frame : PlainFrame) → IsHeld held p.given p.sent → IsSame p frame (differs held frame)
 same_by_held held p (info ns nr pf packet) is = λ n m low. same_info held p ns nr pf packet is n m low
 same_by_held held p frame is = tt
 
-any : (b : Bool) → (b || true) ≡ true
-any true = refl
-any false = refl
-
 same_anyhow : (p : Peer) (frame : PlainFrame) → IsSame p frame false
-same_anyhow p (info ns nr pf packet) = λ n m low. any (n == p.sent)
+same_anyhow p (info ns nr pf packet) = λ n m low. or-true (n == p.sent)
 same_anyhow p frame = tt
 
 -- ---- the end sends
@@ -255,20 +240,10 @@ counted_held held p q frame may is = absurd may
 lost_counted : (qs : List Spot) (held : Held) (p q : Peer) (frame : PlainFrame) → MaySend p frame q
     → ((at : Spot) × IsIn at qs × HasSent p.sent at.stand) → IsHeld held p.given p.sent → IsHeld (forgets_each qs held) q.given q.sent
 lost_counted qs held p q (info ns nr pf packet) may at is =
-    subst (λ (r : Peer). IsHeld (forgets_each qs held) r.given r.sent) (sym may.6) (go (cases_eq may.0 p.sent))
-  where
-    more : (n m : ℕ) → n ≡ m → m + 1 ≡ max m (n + 1)
-    more n m e = omega (arith, e)
-
-    same : (n m : ℕ) → n ≤ m → (n ≡ m → ⊥) → m ≡ max m (n + 1)
-    same n m a b = omega (arith, a, b)
-
-    go : ((may.0 ≡ p.sent) ⊎ (may.0 ≡ p.sent → ⊥)) → IsHeld (forgets_each qs held) p.given (max p.sent (may.0 + 1))
-    go (inl e) =
-        subst (λ m. IsHeld (forgets_each qs held) p.given m) (more may.0 p.sent e)
-        (held_more qs held p.given p.sent is at)
-    go (inr ne) =
-        subst (λ m. IsHeld (forgets_each qs held) p.given m) (same may.0 p.sent may.3 ne) (held_less qs held p.given p.sent is)
+    subst (λ (r : Peer). IsHeld (forgets_each qs held) r.given r.sent) (sym may.6)
+    (subst (λ m. IsHeld (forgets_each qs held) p.given m) (sent_is may.0 p.sent may.3)
+    (cond_both (may.0 == p.sent) (p.sent + 1) p.sent (λ m. IsHeld (forgets_each qs held) p.given m)
+    (λ _. held_more qs held p.given p.sent is at) (λ _. held_less qs held p.given p.sent is)))
 lost_counted qs held p q (rr command nr pf) may at is =
     told_held (forgets_each qs held) p q may.0 may.2 (held_less qs held p.given p.sent is)
 lost_counted qs held p q (rnr command nr pf) may at is =

@@ -1,6 +1,6 @@
 -- What a line makes of the judge, where it is a frame.
 use Rattle.x25_judge.proofs.verdicts.Names.{◌≡◌, inl, inr, ℕ, Bool, true, false, List, Option, Some, None, Err, refl, sym, ap, ◌∙◌, subst, is_some, not, ◌&&◌}
-use Rattle.x25_judge.proofs.verdicts.Names.{both_ways, or_parts, cond_both, Role, Dte, Dce, PlainFrame, info, other, PacketRule, Answer, own_of, counts_packet}
+use Rattle.x25_judge.proofs.verdicts.Names.{both_ways, or_parts, cond_both, first, Role, Dte, Dce, PlainFrame, info, other, PacketRule, Answer, own_of, counts_packet}
 use Rattle.x25_judge.proofs.verdicts.Names.{counts_carried, all_told, is_open, told_frame, remark_of, next_by, seen_by, missed_by, next_missed, no_frame}
 use Rattle.x25_judge.proofs.verdicts.Names.{tallies, read_of, sent_of, answer_to, Both, breaks_order, is_of_manners, Judge, Rule, Packet, Shows, IsDamaged}
 use Rattle.x25_judge.proofs.verdicts.Names.{is_of_order, gap_in, n1, frame_of, FrameError, Short, BadFcs, visible_reads, End}
@@ -73,22 +73,32 @@ past j line from octets broken =
 
 -- ---- what is told
 
+-- the first of two is one of them
+pub first_is : (P : Option Rule → Type 0) (r m : Option Rule) → P r → P m → P (first r m)
+first_is P None m a b = b
+first_is P (Some r) None a b = a
+first_is P (Some r) (Some m) a b = cond_both (is_of_manners r && not (is_of_manners m)) (Some m) (Some r) P (λ _. b) (λ _. a)
+
 pub told_of_order : (r : Option Rule) (packet : Option PacketRule) → is_of_order r ≡ false → is_of_order (all_told r packet) ≡ false
 told_of_order r None h = h
-told_of_order None (Some packet) h = refl
-told_of_order (Some rule) (Some packet) h =
-    cond_both (is_of_manners rule && not (is_of_manners (Packet packet))) (Some (Packet packet)) (Some rule)
-    (λ (o : Option Rule). is_of_order o ≡ false) (λ _. refl) (λ _. h)
+told_of_order r (Some packet) h = first_is (λ o. is_of_order o ≡ false) r (Some (Packet packet)) h refl
+
+-- a rule is told, or manners are
+abbrev pub IsTold : Option Rule → Type 0
+IsTold r = is_some r ≡ true
+
+pub first_keeps : (r last : Option Rule) → IsTold r → IsTold (first r last)
+first_keeps None last h = absurd (both_ways false refl h)
+first_keeps (Some rule) None h = h
+first_keeps (Some rule) (Some last) h = first_is IsTold (Some rule) (Some last) refl refl
+
+pub all_of : (r : Option Rule) (packet : Option PacketRule) → IsTold r → IsTold (all_told r packet)
+all_of r None h = h
+all_of r (Some packet) h = first_keeps r (Some (Packet packet)) h
 
 told_none : (r : Option Rule) (packet : Option PacketRule) → is_some (all_told r packet) ≡ false → r ≡ None
 told_none None packet h = refl
-told_none (Some rule) None h = absurd (both_ways true h refl)
-told_none (Some rule) (Some packet) h = absurd (both_ways (is_some (all_told (Some rule) (Some packet))) h told)
-  where
-    told : is_some (all_told (Some rule) (Some packet)) ≡ true
-    told =
-        cond_both (is_of_manners rule && not (is_of_manners (Packet packet))) (Some (Packet packet)) (Some rule)
-        (λ (o : Option Rule). is_some o ≡ true) (λ _. refl) (λ _. refl)
+told_none (Some rule) packet h = absurd (both_ways (is_some (all_told (Some rule) packet)) h (all_of (Some rule) packet refl))
 
 -- no fault: no rule of the link layer is told
 pub none_told : (j : Judge) (line : List ℕ) (from : Role) (octets : List ℕ) (frame : PlainFrame) → Shows line from octets frame

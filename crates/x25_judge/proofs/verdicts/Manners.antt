@@ -1,19 +1,15 @@
 -- Manners tell no rule of order, and nothing of what is told of the link.
-use Rattle.x25_judge.proofs.verdicts.Names.{◌≡◌, ℕ, ◌<◌, ◌≤◌, ◌%◌, ◌==◌, Bool, true, false, Option, Some, None, refl, arith, is_some, not, nat_lt, nat_le, ◌&&◌}
-use Rattle.x25_judge.proofs.verdicts.Names.{◌||◌, and_parts, cond_both, leb-true, ltb-true, PlainFrame, info, rr, rnr, rej, sabm, disc, ua, dm, frmr, answers}
-use Rattle.x25_judge.proofs.verdicts.Names.{asks, bits, by_own, counts_in, hears, minded_as, minds, ready_minded, place_in, skipped_by, first, is_of_manners}
+use Rattle.x25_judge.proofs.verdicts.Names.{◌≡◌, ℕ, ◌%◌, ◌==◌, Bool, true, false, Option, refl, arith, is_some, not, nat_lt, nat_le, ◌&&◌}
+use Rattle.x25_judge.proofs.verdicts.Names.{◌||◌, and_parts, cond_both, PlainFrame, info, rr, rnr, rej, sabm, disc, ua, dm, frmr, answers}
+use Rattle.x25_judge.proofs.verdicts.Names.{asks, bits, by_own, counts_in, hears, minded_as, minds, ready_minded, place_in, first}
 use Rattle.x25_judge.proofs.verdicts.Names.{Minding, Sent, Manners, Minded, Rule, OverWindow, is_of_order, LinkSet, Told, Nothing, Skips, Broken, Numbers}
-use Rattle.x25_judge.proofs.verdicts.Names.{Stand, Up, if◌then◌else◌}
+use Rattle.x25_judge.proofs.verdicts.{Names.{Stand, Up, if◌then◌else◌}, Lines.{first_is}}
 use Rattle.x25_judge.specs.{Links.{begins}, declared.manners.Place.{Place}}
 use Rattle.x25_judge.specs.Manners as manners
+use Rattle.std.proofs.lemmas.Bool.Decides.{nat_tests}
 
 abbrev pub IsFair : Option Rule → Type 0
 IsFair rule = is_of_order rule ≡ false
-
-first_fair : (r m : Option Rule) → IsFair r → IsFair m → IsFair (first r m)
-first_fair None m a b = b
-first_fair (Some r) None a b = a
-first_fair (Some r) (Some m) a b = cond_both (is_of_manners r && not (is_of_manners m)) (Some m) (Some r) IsFair (λ _. b) (λ _. a)
 
 either : (b : Bool) (x y : Minded) → IsFair x.rule → IsFair y.rule → IsFair (if b then x else y).rule
 either true x y h g = h
@@ -22,22 +18,11 @@ either false x y h g = g
 -- ---- manners alone
 
 pub small_window : (window : ℕ) → nat_lt window 7 ≡ true → nat_le 7 window ≡ false
-small_window window h = go (nat_le 7 window) refl
-  where
-    none : window < 7 → 7 ≤ window → ⊥
-    none a b = omega (arith, a, b)
-
-    go : (b : Bool) → nat_le 7 window ≡ b → b ≡ false
-    go true e = absurd (none (ltb-true window 7 h) (leb-true 7 window e))
-    go false e = refl
+small_window window h = grind (arith, nat_tests)
 
 new_fair : (window : ℕ) (at : Place) (m : Manners) → IsFair (manners.sent_new window at m).rule
-new_fair window at m = go (nat_lt window 7 && nat_le window at.pending) refl
-  where
-    go : (b : Bool) → (nat_lt window 7 && nat_le window at.pending) ≡ b
-        → IsFair (if b then manners.breaks (OverWindow window) false (manners.grown 1 m) else manners.quiet (manners.grown 1 m)).rule
-    go true e = small_window window (and_parts (nat_lt window 7) (nat_le window at.pending) e).0
-    go false e = refl
+new_fair window at m = cond_both (nat_lt window 7 && nat_le window at.pending) (manners.breaks (OverWindow window) false (manners.grown 1 m)) _
+    (λ (x : Minded). IsFair x.rule) (λ e. small_window window (and_parts (nat_lt window 7) _ e).0) (λ _. refl)
 
 from_fair : (window : ℕ) (at : Place) (back next : ℕ) (is_poll skips : Bool) (m : Manners)
     → IsFair (manners.sends_from window at back next is_poll skips m).rule
@@ -86,14 +71,11 @@ module _ (P : Option Rule → Bool → Type 0)
   bits_has : (command pf is_shown : Bool) (b : Minding) → Has b → Has (bits command pf is_shown b)
   bits_has command pf is_shown b h = has_if command _ _ (asks_has pf b h) (answers_has pf is_shown b h)
 
-  skipped_has : (told : Told) (window : ℕ) (s : Stand) (ns : ℕ) (p : Bool) (b : Minding) → Has b → Has (skipped_by told window s ns p b)
-  skipped_has (Skips u) window s ns p b h =
+  counts_has : (s : Stand) (told : Told) (window : ℕ) (t : Sent) (ns : ℕ) (p : Bool) (b : Minding) → Has b → Has (counts_in s told window t ns p b)
+  counts_has (Up k) told window t ns p b h = own_has (minded_as told window k t ns p _ b.own) b (minded_fair told window k t ns p _ b.own) h
+  counts_has s (Skips u) window t ns p b h =
       own_has (manners.sends window (place_in s) ns p true b.own) b (sends_fair window (place_in s) ns p true b.own) h
-  skipped_has told window s ns p b h = h
-
-  counts_has : (s : Stand) (window : ℕ) (t : Sent) (ns : ℕ) (p : Bool) (b : Minding) → Has b → Has (counts_in s window t ns p b)
-  counts_has (Up k) window t ns p b h = own_has (minded_as t.told window k t ns p _ b.own) b (minded_fair t.told window k t ns p _ b.own) h
-  counts_has s window t ns p b h = skipped_has t.told window s ns p b h
+  counts_has s told window t ns p b h = h
 
   ready_has : (t : Sent) (to : LinkSet) (command : Bool) (nr : ℕ) (pf : Bool) (b : Minding) → Has b → Has (ready_minded t to command nr pf b)
   ready_has t to command nr pf b h =
@@ -101,7 +83,7 @@ module _ (P : Option Rule → Bool → Type 0)
 
   pub minds_has : (window : ℕ) (t : Sent) (to : LinkSet) (frame : PlainFrame) (b : Minding) → Has b → Has (minds window t to frame b)
   unfolding minds
-  minds_has window t to (info ns nr p octets) b h = counts_has t.facts.stand window t ns p (asks p b) (asks_has p b h)
+  minds_has window t to (info ns nr p octets) b h = counts_has t.facts.stand t.told window t ns p (asks p b) (asks_has p b h)
   minds_has window t to (rr command nr pf) b h = ready_has t to command nr pf b h
   minds_has window t to (rnr command nr pf) b h = ready_has t to command nr pf b h
   minds_has window t to (rej command nr pf) b h =
@@ -115,4 +97,4 @@ module _ (P : Option Rule → Bool → Type 0)
   minds_has window t to (frmr f why) b h = answers_has f t.facts.is_shown b h
 
 pub minds_fair : (window : ℕ) (t : Sent) (to : LinkSet) (frame : PlainFrame) (b : Minding) → IsFair b.seen.rule → IsFair (minds window t to frame b).seen.rule
-minds_fair = minds_has (λ r judged. IsFair r) (λ r m judged fair h. first_fair r m h fair)
+minds_fair = minds_has (λ r judged. IsFair r) (λ r m judged fair h. first_is IsFair r m h fair)

@@ -1,10 +1,10 @@
 -- What counts as judged is told of: an N(S), and F=1.
 use Rattle.x25_judge.proofs.verdicts.Names.{◌≡◌, ◌==◌, inl, inr, ℕ, ◌≤◌, arith, Bool, true, false, List, Option, Some, None, refl, sym, ap, ◌∙◌, subst, eq-eqb}
-use Rattle.x25_judge.proofs.verdicts.Names.{le-leb, nat_le, nat_lt, ◌&&◌, ◌||◌, not, is_some, eqb-true, and_parts, and_cases, or_cases, or_parts, both_ways}
-use Rattle.x25_judge.proofs.verdicts.Names.{cond_both, Role, PlainFrame, info, rr, rnr, rej, dm, frmr, differs, all_told, book_of, other_of, own_of, seen_by}
-use Rattle.x25_judge.proofs.verdicts.Names.{first, is_of_manners, Judge, End, Minding, Sent, Manners, Minded, Rule, Packet, Repeats, is_final, is_up, rule_of}
-use Rattle.x25_judge.proofs.verdicts.Names.{IsOutOfPlace, JudgedFinalsAreTold, JudgedSendingsAreTold, PacketRule, Frame, Info, LinkSet, Told, Broken, Nothing}
-use Rattle.x25_judge.proofs.{verdicts.Names.{Numbers, Stand, Up}, verdicts.Manners.{minds_has}}
+use Rattle.x25_judge.proofs.verdicts.Names.{le-leb, nat_le, nat_lt, ◌&&◌, ◌||◌, not, eqb-true, and_parts, and_cases, or_cases, or_parts, both_ways}
+use Rattle.x25_judge.proofs.verdicts.Names.{cond_both, Role, PlainFrame, info, rr, rnr, rej, dm, frmr, differs, book_of, other_of, own_of, seen_by}
+use Rattle.x25_judge.proofs.verdicts.Names.{first, Judge, End, Minding, Sent, Manners, Minded, Rule, Repeats, is_final, is_up, rule_of}
+use Rattle.x25_judge.proofs.verdicts.Names.{IsOutOfPlace, JudgedFinalsAreTold, JudgedSendingsAreTold, Frame, Info, LinkSet, Told, Broken, Nothing}
+use Rattle.x25_judge.proofs.{verdicts.Names.{Numbers, Stand, Up}, verdicts.{Lines.{IsTold, all_of, first_keeps}, Manners.{minds_has}}}
 use Rattle.x25_judge.specs.declared.{rule.Rule.TheVariants.{Skips}, note.Note.TheVariants.{PollAgain, SentAgain}, manners.Place.{Place}}
 use Rattle.x25_possible_links.specs.declared.set.Told.TheVariants.{Skips as SkipsOf}
 use Rattle.std.proofs.lemmas.Bool.Decides.{nat_tests}
@@ -13,26 +13,13 @@ use Rattle.x25_judge.specs.Links as links
 use Rattle.x25_judge.specs.Manners as manners
 use Rattle.x25_possible_links.specs.code.Steps as steps
 
--- a rule is told, or manners are
-abbrev pub IsTold : Option Rule → Type 0
-IsTold r = is_some r ≡ true
-
 abbrev pub Tells : Minding → Type 0
 Tells b = IsTold b.seen.rule
-
-pub first_keeps : (r last : Option Rule) → IsTold r → IsTold (first r last)
-first_keeps None last h = absurd (both_ways false refl h)
-first_keeps (Some rule) None h = h
-first_keeps (Some rule) (Some last) h = cond_both (is_of_manners rule && not (is_of_manners last)) (Some last) (Some rule) IsTold (λ _. refl) (λ _. refl)
 
 pub first_brings : (r last : Option Rule) → IsTold last → IsTold (first r last)
 first_brings None last h = h
 first_brings (Some rule) None h = refl
 first_brings (Some rule) (Some last) h = first_keeps (Some rule) (Some last) refl
-
-all_of : (r : Option Rule) (packet : Option PacketRule) → IsTold r → IsTold (all_told r packet)
-all_of r None h = h
-all_of r (Some packet) h = first_keeps r (Some (Packet packet)) h
 
 pub tells_of : (from : Role) (j : Judge) (frame : PlainFrame) → IsTold (seen_by j from frame).seen.rule → IsTold (rule_of j from frame)
 tells_of from j frame h = all_of (seen_by j from frame).seen.rule (book_of j from frame (seen_by j from frame).seen).verdict.rule h
@@ -87,19 +74,19 @@ judged_finals_are_told from j frame final judged none =
 
 -- ---- N(S)
 
+abbrev Says : Minded → Type 0
+Says x = IsTold x.rule
+
 module _ (m : Manners) (at : Place) where
   again_told : (next : ℕ) (is_poll : Bool) (back : ℕ) → manners.goes_on at back m ≡ false → manners.may_go_back at is_poll back m ≡ false
       → IsTold (manners.sent_again at next is_poll back m).rule
   again_told next is_poll back out stays =
-      cond_both (manners.goes_on at back m) (manners.notes SentAgain true (manners.repeated back m)) _ P
+      cond_both (manners.goes_on at back m) (manners.notes SentAgain true (manners.repeated back m)) _ Says
       (λ on. absurd (both_ways (manners.goes_on at back m) out on))
-      (λ _. cond_both (manners.may_go_back at is_poll back m) (manners.notes SentAgain true (manners.gone_back is_poll back m)) _ P
+      (λ _. cond_both (manners.may_go_back at is_poll back m) (manners.notes SentAgain true (manners.gone_back is_poll back m)) _ Says
       (λ may. absurd (both_ways (manners.may_go_back at is_poll back m) stays may))
       (λ _. cond_both (nat_lt back m.behind) (manners.breaks (Skips next) true (manners.repeated back m))
-      (manners.breaks (Repeats next) true (manners.repeated back m)) P (λ _. refl) (λ _. refl)))
-    where
-      P : Minded → Type 0
-      P x = IsTold x.rule
+      (manners.breaks (Repeats next) true (manners.repeated back m)) Says (λ _. refl) (λ _. refl)))
 
   -- a number that is the next one goes on
   goes_first : (back : ℕ) → nat_lt 0 back ≡ false → manners.goes_on at back m ≡ false → (m.behind == 0 || at.pending == 0) ≡ true → ⊥
@@ -118,12 +105,9 @@ module _ (m : Manners) (at : Place) where
   number_told : (window back next : ℕ) (is_poll : Bool) → manners.goes_on at back m ≡ false → manners.may_go_back at is_poll back m ≡ false
       → IsTold (manners.sends_from window at back next is_poll false m).rule
   number_told window back next is_poll out stays =
-      cond_both (nat_lt 0 back) (manners.sent_again at next is_poll back m) _ P (λ _. again_told next is_poll back out stays)
-      (λ none. cond_both (m.behind == 0 || at.pending == 0) (manners.sent_new window at m) (manners.breaks (Skips next) false (manners.grown 1 m)) P
+      cond_both (nat_lt 0 back) (manners.sent_again at next is_poll back m) _ Says (λ _. again_told next is_poll back out stays)
+      (λ none. cond_both (m.behind == 0 || at.pending == 0) (manners.sent_new window at m) (manners.breaks (Skips next) false (manners.grown 1 m)) Says
       (λ test. absurd (goes_first back none out test)) (λ _. refl))
-    where
-      P : Minded → Type 0
-      P x = IsTold x.rule
 
 -- P=1 changes nothing of this
 asked_is : (m : Manners) → (manners.asks m).manners ≡ manners.asks_on true m
@@ -143,7 +127,7 @@ module _ (window : ℕ) (t : Sent) (ns : ℕ) (p : Bool) (b : Minding) where
   number_tells Nothing x k told broken = first_brings b.seen.rule _ (told refl)
 
   stand_tells : (s : Stand) (x : Frame) → t.facts.is_counted ≡ true → is_up s ≡ true → (IsTold (links.rule_of t.told x) → Tells b)
-      → IsOutOfPlace ns p b.own (links.place_in s) → Tells (links.counts_in s window t ns p b)
+      → IsOutOfPlace ns p b.own (links.place_in s) → Tells (links.counts_in s t.told window t ns p b)
   stand_tells (Up k) x counted up broken out = number_tells t.told x k
       (λ _. cond_both t.facts.is_counted (manners.sends window (manners.place_of k) ns p false b.own) _ (λ (y : Minded). IsTold y.rule)
       (λ _. number_told b.own (manners.seen_place (manners.place_of k) b.own) window (apart (manners.place_of k).next ns) _ p out.here out.back)

@@ -1,7 +1,7 @@
 -- The names that several of these proofs cite, passed on from one place.
 pub use Rattle.std.proofs.Common.{◌≡◌, ◌==◌, ◌⊎◌, inl, inr, ℕ, arith, Bool, true, false, zero, suc, List, [], ◌∷◌, ◌++◌, length, drop, Option, Some, None}
-pub use Rattle.std.proofs.Common.{Result, Ok, Err, refl, sym, ap, ◌∙◌, subst, ◌+◌, ◌%◌, ◌≤◌, max, ◌<◌, remove, eq-eqb, le-leb, if◌then◌else◌, ◌-◌, le_trans}
-pub use Rattle.std.proofs.lemmas.Bool.{both_ways, cond_both, or_parts, and_parts, and_from, cond-true, eqb-true, lt-ltb, cases_eq, leb-true, ltb-true}
+pub use Rattle.std.proofs.Common.{Result, Ok, Err, refl, sym, ap, ◌∙◌, subst, ◌+◌, ◌%◌, ◌≤◌, max, ◌<◌, eq-eqb, le-leb, if◌then◌else◌, ◌-◌, le_trans}
+pub use Rattle.std.proofs.lemmas.Bool.{both_ways, cond_both, or_parts, and_parts, and_from, cond-true, eqb-true, lt-ltb, cases_eq}
 pub use Rattle.std.proofs.lemmas.{Bool.{and_cases, or_cases, ne_eqb, cond-false}, Option.{none-some, cond_some, same_Some, slice_get_within}}
 pub use Rattle.std.proofs.lemmas.List.{length_push, get_or-set_same, get_or-set_other, get_or-replicate, length-set, length-append}
 pub use Rattle.std.specs.Prelude.{nat_le, not, ◌&&◌, ◌||◌, nat_lt, is_some, slice_get, slice_index_or, slice_set, replicate}
@@ -16,15 +16,15 @@ unfoldable pub use Rattle.x25_judge.specs.Held.{no_octets, differs, keeps}
 pub use Rattle.x25_judge.specs.Judge.{all_told, book_of, gap_of, missed_by, next_missed, no_frame, other_of, own_of, past_gap, read_of, seen_by, sent_of}
 pub use Rattle.x25_judge.specs.Judge.{tallies, Answer, counts_packet, is_open, told_frame, remark_of, next_by, begins}
 unfoldable pub use Rattle.x25_judge.specs.Judge.{answer_to, counts_carried}
-pub use Rattle.x25_judge.specs.Links.{forgets_each, held_by, Both, accepts, answers, asks, bits, by_own, counts_in, hears, minded_as, ready_minded, place_in}
-pub use Rattle.x25_judge.specs.Links.{skipped_by, forgets_in}
+pub use Rattle.x25_judge.specs.Links.{forgets_each, held_by, Both, answers, asks, bits, by_own, counts_in, hears, minded_as, ready_minded, place_in}
+pub use Rattle.x25_judge.specs.Links.{forgets_in}
 unfoldable pub use Rattle.x25_judge.specs.Links.{shown, minds}
 pub use Rattle.x25_judge.specs.Rule.{is_of_manners, breaks_order, first}
 pub use Rattle.x25_judge.specs.declared.{judge.Judge.{Judge}, judge.Strictness.{Strictness}, links.End.{End}, links.Minding.{Minding}, links.Sent.{Sent}}
 pub use Rattle.x25_judge.specs.declared.{manners.Manners.{Manners}, manners.Minded.{Minded}, rule.Rule.{Rule}}
 pub use Rattle.x25_judge.specs.declared.rule.Rule.TheVariants.{NoPoll, RejectAgain, OverWindow, Repeats, Packet}
 pub use Rattle.x25_judge.specs.laws.Session.{come, comes, has_answer, has_number, is_new, is_number, is_of_order, IsBegun, rule_of, Shows, Way, IsDamaged}
-pub use Rattle.x25_judge.specs.laws.{Session.{IsTimely, IsNumbered, is_final, is_up, IsSupervisory}, Sessions.{takes_sabm, waits_on, MayStand}}
+pub use Rattle.x25_judge.specs.laws.{Session.{IsTimely, IsNumbered, is_final, is_up}, Sessions.{takes_sabm, waits_on, MayStand}}
 pub use Rattle.x25_judge.specs.laws.Sessions.{MaySay, MaySend, HaveNoUa, IsUa, declined, numbered, asks_again, closes, declines, rejects, takes_disc}
 pub use Rattle.x25_judge.specs.laws.VerdictClaims.{after, IsClear, SetUpsBegin, GuiltyAreTold, ToldAreGuilty, NoSessionIsAccused, IsOutOfPlace}
 pub use Rattle.x25_judge.specs.laws.VerdictClaims.{JudgedFinalsAreTold, JudgedSendingsAreTold, SilenceMeansNumbers, SilenceMeansRules, SilenceMeansOrder}

@@ -1,9 +1,10 @@
 -- The octets that the judge holds of an end's last eight numbers.
-use Rattle.x25_judge.proofs.verdicts.Names.{◌≡◌, ◌⊎◌, inl, inr, ℕ, ◌+◌, ◌%◌, ◌<◌, ◌≤◌, arith, max, Bool, true, zero, suc, List, [], ◌∷◌, ◌++◌, length, Some}
+use Rattle.x25_judge.proofs.verdicts.Names.{◌≡◌, ◌⊎◌, inl, inr, ℕ, ◌+◌, ◌%◌, ◌==◌, ◌<◌, ◌≤◌, arith, max, Bool, true, zero, suc, List, [], ◌∷◌, ◌++◌, length, Some}
 use Rattle.x25_judge.proofs.verdicts.Names.{refl, sym, ap, ◌∙◌, subst, slice_get, slice_index_or, slice_set, nat_le, not, ◌&&◌, replicate, both_ways, cases_eq}
 use Rattle.x25_judge.proofs.verdicts.Names.{cond-true, get_or-set_same, get_or-set_other, get_or-replicate, length-set, PlainFrame, info, rr, ROOM, Held}
 use Rattle.x25_judge.proofs.verdicts.Names.{differs, forgets, forgets_all, is_held, kept, keeps, forgets_each, forgets_in, IsIn, Spot, Stand, Up, false, le-leb}
 use Rattle.std.specs.Str.{bytes_eq}
+use Rattle.std.proofs.lemmas.Bool.Decides.{nat_tests}
 use Rattle.std.proofs.lemmas.Slice.Eq.{bytes_eq-Decides}
 
 -- there are octets of eight numbers
@@ -24,6 +25,9 @@ keeps_room h frame g = g
 pub record IsHeld (h : Held) (given : List (List ℕ)) (m : ℕ) : Type 0 where
   pub room : HasRoom h
   pub octets : (n : ℕ) → n < m → m ≤ n + 8 → is_held h n ≡ true → slice_get given n ≡ Some (slice_index_or h.octets (n % 8) [])
+
+pub is_before : (n m : ℕ) → n ≤ m → (n == m) ≡ false → n < m
+is_before n m low e = grind (arith, nat_tests, low, e)
 
 pub begun_held : (h : Held) (given : List (List ℕ)) → HasRoom h → IsHeld h given 0
 begun_held h given room = record { room = room; octets = λ n lt low is. absurd (omega (arith, lt)) }

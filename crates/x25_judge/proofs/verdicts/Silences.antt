@@ -15,7 +15,7 @@ use Rattle.x25_frame.specs.Spelling.{IsWithin as IsWithinLine, information_of}
 use Rattle.x25_line.specs.laws.{InWindow.{IsPrefix}, PeerClaims.{KeepsOrder, OnAnySilentTape}, PeerJoined.{JoinedOnce}}
 use Rattle.x25_judge.proofs.{verdicts.Following.{numbers_of, sent_is}, verdicts.Guilty.{untold}, verdicts.Innocents.{IsEnd, sent_end, shown_end}}
 use Rattle.x25_judge.proofs.verdicts.Lines.{other_twice, none_told}
-use Rattle.x25_judge.proofs.verdicts.Octets.{AreKnown, IsHeld, begun_held, last_of, old_octets, pushed_held, sent_held, sent_known}
+use Rattle.x25_judge.proofs.verdicts.Octets.{AreKnown, IsHeld, begun_held, is_before, last_of, old_octets, pushed_held, sent_held, sent_known}
 use Rattle.x25_judge.proofs.verdicts.Silent.{Fits, IsNumber, IsWithin, heard_sent, shown_within, walked_within, walks_within, within_passes}
 use Rattle.x25_line.specs.laws.Tape as tape
 
@@ -209,9 +209,6 @@ module _ (set : LinkSet) (h : Held) (p : Peer) (e : Knows set h p) where
           isnt_next : (g m n : ℕ) → g ≡ m → ns ≡ n % 8 → n < m → m ≤ n + 7 → ns ≡ g % 8 → ⊥
           isnt_next g m n e number lt near same = omega (arith, e, number, lt, near, same)
 
-          less : (n m : ℕ) → n ≤ m → (n ≡ m → ⊥) → n < m
-          less n m le apart = omega (arith, le, apart)
-
           equal : (b d : Bool) → b ≡ false → (b || not d) ≡ true → d ≡ false
           equal true d ne so = absurd (both_ways true ne refl)
           equal false true ne so = absurd (both_ways false refl so)
@@ -226,7 +223,7 @@ module _ (set : LinkSet) (h : Held) (p : Peer) (e : Knows set h p) where
               (sym (cond-true (ns == length p.given % 8) (p.given ++ packet ∷ []) p.given
               (eq-eqb ns (length p.given % 8) (is_it.number ∙ ap (λ m. m % 8) (last ∙ sym e.all)))))
           go false old =
-              let before = less n p.sent is_it.up_to (λ same. both_ways (n == p.sent) old (eq-eqb n p.sent same)) in
+              let before = is_before n p.sent is_it.up_to old in
               let same = old_octets h p.given p.sent n ns nr pf packet is_it.number before is_it.near
               (equal (n == p.sent) (differs h f) old is_it.same) e.octets e.known in
               passes_with p.given (inl refl) (e.all ∙ stays p.sent n before) same e.octets

@@ -30,14 +30,11 @@ pub record WritesLines (loose : Bool) (old now : Option (List ℕ)) (lines : Lis
   pub appends : Appends old now part
   pub same : part ++ text_of loose at lines ≡ all
 
--- written is all of the text but the answers to the lines to come and to the line that has begun
-abbrev pub WritesEnded : Bool → Option (List ℕ) → Option (List ℕ) → List ℕ → List ℕ → Type 0
-WritesEnded loose old now rest all = LinesEnded (λ lines. WritesLines loose old now lines all) rest
-
--- the judge as it begins, and whether lines are read loosely
+-- The judge as it begins, and whether lines are read loosely. Where it ends early, written is all of the text but the
+-- answers to the lines to come and to the line that has begun.
 abbrev pub program : Bool → Judge → Program
 program loose j = record {
   text = output_by loose j;
   status = status_by loose j;
-  Ended = λ old now rest input. WritesEnded loose old now rest (output_by loose j input);
+  Ended = λ old now rest input. LinesEnded (λ lines. WritesLines loose old now lines (output_by loose j input)) rest;
 }

@@ -17,9 +17,6 @@ pub record Watched : Type 0 where
   pub back : List (List ℕ)
   pub since : ℕ
 
-abbrev pub watched_from : Judge → Watched
-watched_from j = record { judge = j; near = fresh_station; shown = []; out = []; back = []; since = 0 }
-
 abbrev pub our_end : Watched → Stations
 our_end w = record { near = w.near; far = fresh_station; out = w.out; back = w.back; sent = [] }
 
@@ -36,7 +33,8 @@ more frame shown = shown
 pub data IsWatched (Passes : Judge → List ℕ → Type 0) (Damage : Type 0) (MayLag : ℕ → Type 0) (c : LinkSettings)
     : Watched → Type 0 where
   -- the trace has shown a set-up
-  Begins : (j : Judge) → IsSetUp j → IsWatched Passes Damage MayLag c (watched_from j)
+  Begins : (j : Judge) → IsSetUp j → IsWatched Passes Damage MayLag c
+      (record { judge = j; near = fresh_station; shown = []; out = []; back = []; since = 0 })
   -- the station acts; or octets are lost or damaged between the tape and the station
   Acts : (w : Watched) (act : Act) → IsWatched Passes Damage MayLag c w
       → IsWatched Passes Damage MayLag c (acted w (acts c act (our_end w)))

@@ -1,4 +1,4 @@
-use Rattle.std.proofs.Common.{◌≡◌, ◌∙◌, ◌<◌, ◌≤◌, ◌++◌, ◌||◌, Bool, true, false, length, ap, sym, subst, refl}
+use Rattle.std.proofs.{Common.{◌≡◌, ◌∙◌, ◌<◌, ◌≤◌, ◌++◌, ◌||◌, length, ap, sym, subst, refl}, Math.Bool.{or-true}}
 use Rattle.std.specs.Prelude.{MatchOption, MatchResult}
 use Rattle.std.proofs.lemmas.Result.{on_ok_weaker}
 use Rattle.x25_io.specs.HeldLine.{most_line}
@@ -7,10 +7,6 @@ use Rattle.x25_judge.specs.{Answerer.{reply}, Judge.{Answer}}
 use Rattle.x25_judge.specs.code.Stream.{Replies}
 use Rattle.x25_judge.proofs.LineLemmas.{long_reply}
 use Rattle.x25_judge.proofs.answerer.Answerer.answer_line.Goals as goal
-
-or_true : (b : Bool) → (b || true) ≡ true
-or_true true = refl
-or_true false = refl
 
 pub returns-in-Some-clause-replies : goal.returns-in-Some-clause-replies
 returns-in-Some-clause-replies g c = λ first line.
@@ -32,6 +28,6 @@ returns-in-None-clause-replies g c = λ first line.
           (λ _. AppendsPrefix old next (told ++ a.text)))
           (sym is) (c.tell.ensures.tells old told h);
       next = on_ok_weaker c.tell.result (λ _. sym (ap (λ (a : Answer). a.next) is)) c.tell.ensures.kept;
-      is_faulty = on_ok_weaker c.tell.result (λ _. sym (ap (λ (a : Answer). s.is_faulty || a.counts) is ∙ or_true s.is_faulty)) c.tell.ensures.kept;
+      is_faulty = on_ok_weaker c.tell.result (λ _. sym (ap (λ (a : Answer). s.is_faulty || a.counts) is ∙ or-true s.is_faulty)) c.tell.ensures.kept;
       reads = refl;
     }

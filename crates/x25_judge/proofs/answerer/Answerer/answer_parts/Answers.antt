@@ -3,9 +3,8 @@ use Rattle.std.specs.Prelude.{MatchOption}
 use Rattle.std.proofs.lemmas.Result.{err_from_is_err_and, on_ok_weaker}
 use Rattle.x25_io.specs.Loose.{asked}
 use Rattle.x25_io.proofs.ToldLemmas.{part_of_all}
-use Rattle.x25_judge.specs.{Answerer.{reply, reply_to}, Judge.{Answer}}
-use Rattle.x25_judge.specs.code.Stream.{Replies}
-use Rattle.x25_judge.proofs.LineLemmas.{plain_reply, reply_counts, reply_next, reply_text, told_behind}
+use Rattle.x25_judge.specs.Answerer.{reply, reply_to}
+use Rattle.x25_judge.proofs.LineLemmas.{reply_counts, reply_next, reply_text, told_behind}
 use Rattle.x25_judge.proofs.answerer.Answerer.answer_parts.Goals as goal
 
 pub returns-in_err-tell-clause-replies : goal.returns-in_err-tell-clause-replies
@@ -22,14 +21,6 @@ returns-in_err-tell-clause-replies g c = λ few.
       reads = refl;
     }
 
-pub returns-then-not-self-clause-replies : goal.returns-then-not-self-clause-replies
-returns-then-not-self-clause-replies g c = λ few.
-    let s = c.args.self.now in
-    let answered = c.answer_asked in
-    subst (λ (a : Answer). Replies answered.result (g.W.Sink.contents c.args.writer.now) (g.W.Sink.contents answered.new.writer) s answered.new.self a)
-    (sym (plain_reply s.loose s.judge c.args.line.now c.if-not-self.true))
-    (record { tells = answered.ensures.tells; next = answered.ensures.next; is_faulty = answered.ensures.is_faulty; reads = answered.ensures.loose })
-
 pub returns-in-Some-clause-replies : goal.returns-in-Some-clause-replies
 returns-in-Some-clause-replies g c = λ few.
     let s = c.args.self.now in
@@ -38,13 +29,13 @@ returns-in-Some-clause-replies g c = λ few.
     let head = c.split_loose.result.0.now in
     let found = subst (λ o. MatchOption o (asked s.loose line ≡ None) (λ found. asked s.loose line ≡ Some found.now)) c.in-Some.is
     (c.split_loose.ensures.asked few) in
-    let answered = c.answer_asked-in-Some.ensures in
+    let answered = c.answer_asked.ensures in
     record {
-      tells = λ old told h. told_behind c.answer_asked-in-Some.result old _ _ told head (reply_to s.judge (Some part)).text (reply s.loose s.judge line).text
+      tells = λ old told h. told_behind c.answer_asked.result old _ _ told head (reply_to s.judge (Some part)).text (reply s.loose s.judge line).text
           (reply_text s.loose s.judge line head (Some part) (c.split_loose.ensures.carried few) found)
           (answered.tells old _ (c.in_ok-tell.ensures.tells old told h));
-      next = on_ok_weaker c.answer_asked-in-Some.result (λ e. e ∙ sym (reply_next s.loose s.judge line (Some part) found)) answered.next;
-      is_faulty = on_ok_weaker c.answer_asked-in-Some.result
+      next = on_ok_weaker c.answer_asked.result (λ e. e ∙ sym (reply_next s.loose s.judge line (Some part) found)) answered.next;
+      is_faulty = on_ok_weaker c.answer_asked.result
           (λ e. e ∙ ap (λ b. s.is_faulty || b) (sym (reply_counts s.loose s.judge line (Some part) found))) answered.is_faulty;
       reads = answered.loose;
     }
