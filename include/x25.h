@@ -10,7 +10,7 @@
  * Each answers 0 where it did what it was asked, and else one of the numbers below: then the station is as before, nothing is
  * answered, and timer T1 goes on, or is off. (After X25_NO_COMMAND, X25_IN_USE of x25_new, and X25_BAD_PARAMETER of x25_time, the
  * last answer stands.) Each may answer X25_NO_STATION. X25_NO_MEMORY is of x25_new, x25_call, x25_accept, x25_send, their forms
- * with more, x25_clear_with, x25_command, x25_receive_all, x25_set_times and x25_entry alone. What else one answers stands beside it.
+ * with more but x25_clear_with, x25_command, x25_receive_all, x25_set_times and x25_entry alone. What else one answers stands beside it.
  *
  * An answer has at most 17 frames of at most 4,103 octets, and 4 events, of which one has at most 65,535 octets; that of
  * x25_receive_all has as many for each frame that was taken. Its memory is made with the station, and that of a channel with its

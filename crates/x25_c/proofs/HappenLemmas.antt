@@ -13,7 +13,6 @@ use Rattle.x25_station.specs.Pulling.{pulled}
 use Rattle.x25_station.specs.Timer.{standing, timer_pulled}
 use Rattle.x25_station.specs.code.Clock as clock
 use Rattle.x25_station.specs.code.FitsStation.{FitsStation, FitsStill, Does, IsEmpty, Leaves, Sends, Enters, Refuses, RefusesOnly}
-use Rattle.x25_station.specs.code.PlainEntry.{plain_entry}
 use Rattle.x25_station.specs.code.Pulls.{Pulls}
 use Rattle.x25_station.specs.laws.TimerLaw.{StationEvent, outcome, is_firing}
 use Rattle.x25_clock.specs.declared.clock.Clock.{Clock}
@@ -42,7 +41,7 @@ module _ (at : code_station.Station) (step : code_step.Step) (new : Held) (pulls
   sent (Refused e) none same = tt
 
   entered : new.step.entries ≡ step.entries → (o : Outcome) → Enters step accepted o → Enters new.step accepted (and_pull c o)
-  entered stay (Did did) same = ap (λ entries. map plain_entry entries.items) stay ∙ same
+  entered stay (Did did) same = ap (λ entries. entries.items) stay ∙ same
   entered stay (Refused e) same = tt
 
   timed : ((c : Settings) (s : Station) → FitsStation c at s → new.step.timer ≡ timer_pulled step.timer s (pulled c s).near)

@@ -4,7 +4,6 @@ use Rattle.std.proofs.Common.{true≢false}
 use Rattle.std.specs.Prelude.{Result, Ok, Err, OnOk, is_err, sum}
 use Rattle.std.proofs.lemmas.List.{append-nil, map-append}
 use Rattle.std.proofs.lemmas.List.Sums.{sum_by_more}
-use Rattle.x25_station.specs.code.PlainEntry.{plain_entry}
 use Rattle.x25_station.specs.declared.timer.Timer.TheVariants.{GoesOn}
 use Rattle.x25_station.specs.code.FitsStation.{FitsStation, FitsStill, IsEmpty}
 use Rattle.x25_station.specs.laws.TimerLaw.{Comes}
@@ -20,7 +19,7 @@ nothing_yet h alone empty timer = rw (alone.frames, alone.entries, alone.timer, 
 
 -- it is that of the frames before and that of the last
 whole_parts : (h : Held) → whole_of h ≡ and_then (part_before h.earlier) (part_of h.step)
-whole_parts h = rw (map-append plain_entry h.earlier.entries.items h.step.entries.items) refl
+whole_parts h = refl
 
 -- an answer and none behind it
 and_nothing : (w : Whole) → and_then w no_answer ≡ w

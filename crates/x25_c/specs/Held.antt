@@ -3,7 +3,6 @@ use Rattle.std.specs.Prelude.{◌≡◌, ℕ, List, [], ◌∷◌, ◌++◌, map
 use Rattle.x25_station.specs.declared.step.Step.{Step}
 use Rattle.x25_station.specs.declared.timer.Timer.{Timer}
 use Rattle.x25_station.specs.declared.timer.Timer.TheVariants.{Off, Begins, GoesOn}
-use Rattle.x25_station.specs.code.PlainEntry.{plain_entry}
 use Rattle.x25_station.specs.Entry.{StationEntry, of_channel}
 use Rattle.x25_transcript.specs.EntryText.{entry_line}
 use Rattle.x25_c.specs.declared.earlier.Earlier.{Earlier}
@@ -18,14 +17,14 @@ pub record Whole : Type 0 where
 abbrev pub part_of : Step → Whole
 part_of step = record {
   frames = step.frames;
-  entries = map plain_entry step.entries.items;
+  entries = step.entries.items;
   timer = step.timer;
 }
 
 abbrev pub part_before : Earlier → Whole
 part_before earlier = record {
   frames = map (λ frame. frame.items) earlier.frames.items;
-  entries = map plain_entry earlier.entries.items;
+  entries = earlier.entries;
   timer = earlier.timer;
 }
 
@@ -49,7 +48,7 @@ and_then first later = record {
 abbrev pub whole_of : Held → Whole
 whole_of h = record {
   frames = map (λ frame. frame.items) h.earlier.frames.items ++ h.step.frames;
-  entries = map plain_entry (h.earlier.entries.items ++ h.step.entries.items);
+  entries = h.earlier.entries ++ h.step.entries.items;
   timer = timer_then h.earlier.timer h.step.timer;
 }
 
@@ -64,12 +63,12 @@ timer_of h = (whole_of h).timer
 
 -- the line of each entry
 abbrev pub lines_of : Held → List (List ℕ)
-lines_of h = map (λ entry. entry_line h.end (plain_entry entry)) (h.earlier.entries.items ++ h.step.entries.items)
+lines_of h = map (entry_line h.end) (entries_of h)
 
 -- the last step is all that was answered
 pub record IsAlone (h : Held) : Type 0 where
   pub frames : h.earlier.frames.items ≡ []
-  pub entries : h.earlier.entries.items ≡ []
+  pub entries : h.earlier.entries ≡ []
   pub timer : h.earlier.timer ≡ GoesOn
 
 -- the channel of the first entry, 0 where that has none
@@ -78,7 +77,7 @@ first_channel (of_channel e ∷ entries) = e.channel
 first_channel _ = 0
 
 abbrev pub channel_of : Held → ℕ
-channel_of h = first_channel (map plain_entry h.step.entries.items)
+channel_of h = first_channel h.step.entries.items
 
 -- one of a list; none of the octets where there is none
 abbrev pub in_place : List (List ℕ) → ℕ → List ℕ

@@ -13,7 +13,7 @@ use Rattle.x25_c.specs.declared.item.Item.{Item}
 use Rattle.x25_c.specs.declared.item.Item.TheVariants as code
 use Rattle.x25_c.specs.Copying.{Copies}
 use Rattle.x25_c.specs.Event.{kind_alone, entry_event, entry_user, entry_facilities, entry_called, entry_calling}
-use Rattle.x25_c.specs.Held.{frames_of, timer_of}
+use Rattle.x25_c.specs.Held.{entries_of, frames_of, timer_of}
 use Rattle.x25_c.specs.Slot.{number_of_timer}
 
 pub data PlainItem : Type 0 where
@@ -25,13 +25,12 @@ pub data PlainItem : Type 0 where
 abbrev pub plain_item : Item → PlainItem
 plain_item (code.Frame octets) = a_frame octets.now
 plain_item (code.Passed passed) = has_passed passed
-plain_item (code.Entry entry) = an_entry (plain_entry entry.now)
+plain_item (code.Entry entry lent) = an_entry (plain_entry lent.now entry.now)
 plain_item (code.Timer timer) = the_timer timer
 
 -- behind the frames and a timer that passed
 abbrev pub last_items : Held → List PlainItem
-last_items h = map (λ entry. an_entry (plain_entry entry)) (h.earlier.entries.items ++ h.step.entries.items)
-    ++ the_timer (timer_of h) ∷ []
+last_items h = map an_entry (entries_of h) ++ the_timer (timer_of h) ∷ []
 
 abbrev pub behind_passed : Option Passed → List PlainItem → List PlainItem
 behind_passed None items = items

@@ -1,3 +1,4 @@
 pub mod Happens
 pub mod Clocks
 pub mod Receives
+pub mod EarlierEntries

@@ -1,12 +1,13 @@
 //! Calls that let something happen to a station, and leave their answer in it.
 ghost use Rattle.std.specs.Prelude.{◌≡◌, ◌≢◌, IfSome, IfNone, true, unwrap_or};
+ghost use Rattle.x25_given.specs.Given.{given_with};
 ghost use Rattle.x25_circuit.specs.Calling.{Accepts, Clears, Interrupts, Resets, SaysNotReady, SaysReady, Sends};
 ghost use Rattle.x25_circuit.specs.Params.{default_params, in_brief};
 ghost use Rattle.x25_layer.specs.Calls.{Asks as OnChannel, Dials, PullsAll, Restarts};
 ghost use Rattle.x25_packet.specs.Marks.{with_q};
 ghost use Rattle.x25_script.specs.Reading.{command_in};
 ghost use Rattle.x25_station.specs.Command.{Connects, Disconnects, Probes, Relinks, Requests, answer_in_brief};
-ghost use Rattle.x25_station.specs.Command.{command_of};
+ghost use Rattle.x25_station.specs.Command.{command_of, requesting};
 ghost use Rattle.x25_station.specs.laws.TimerLaw.{Asks, Comes, Fires};
 ghost use Rattle.x25_c.specs.Dialing.{dialed};
 ghost use Rattle.x25_c.specs.Given.{asked_with};
@@ -15,13 +16,13 @@ ghost use Rattle.x25_c.specs.Sizes.{params_in};
 ghost use Rattle.x25_c.specs.Slot.{Answers, AnswersAll, Commands};
 
 use crate::dialing::dialed;
-use crate::given::{Given, asked_with};
+use crate::given::Given;
 use crate::happening::Happening;
 use crate::numbers::{NO_COMMAND, NO_STATION, number_of};
 use crate::sizes::Sizes;
 use crate::slot::Slot;
 use std::alloc::Global;
-use x25_station::{CallCmd, Cmd};
+use x25_station::{Cmd, Given as StationGiven};
 
 // Asks for something, and pulls behind it.
 fn ask(alloc: Global, slot: &mut Slot, command: Cmd<'_>) -> u32
@@ -51,6 +52,26 @@ fn ask_call(alloc: Global, slot: &mut Slot, command: Cmd<'_>, channel: &mut u16)
     }
     slot.put(held);
     number
+}
+
+// A call, with what is given beside it.
+fn dials<'a>(
+    called: &'a [u8],
+    calling: &'a [u8],
+    user: &'a [u8],
+    sizes: Sizes,
+    given: Option<&'a StationGiven<'a>>,
+) -> Cmd<'a>
+    ensures { command_of result ≡ requesting (given_with given.entry) (Dials (dialed called.now) (dialed calling.now)
+        user.now (in_brief (unwrap_or (params_in sizes) default_params))) }
+{
+    Cmd::Call {
+        called: dialed(called),
+        calling: dialed(calling),
+        user,
+        params: sizes.params(),
+        given,
+    }
 }
 
 /// Begins to set the link up, and pulls behind it.
@@ -130,18 +151,15 @@ pub extern "C" fn x25_call(
     ensures channel { result ≡ 0 → IfSome slot.new.handle.held (λ h. channel.new ≡ channel_of h) }
     ensures refused { result ≢ 0 → channel.new ≡ channel.old }
 {
-    let call = Cmd::Call {
-        called: dialed(called),
-        calling: dialed(calling),
-        user,
-        params: sizes.params(),
-    };
+    // It is lent, so that what the command lends has one lifetime, that of this body.
+    let nothing: Option<StationGiven<'_>> = None;
+    let call = dials(called, calling, user, sizes, nothing.as_ref());
     ask_call(alloc, slot, call, channel)
 }
 
 /// The same, with facilities or the D bit beside the call, where some are given.
 ///
-/// As `x25_call`, and where something is given as `Station::command` of `Cmd::With`.
+/// As `x25_call`, and where something is given as `Station::command` says.
 #[unsafe(no_mangle)]
 pub extern "C" fn x25_call_with(
     alloc: Global,
@@ -159,13 +177,9 @@ pub extern "C" fn x25_call_with(
     ensures channel { result ≡ 0 → IfSome slot.new.handle.held (λ h. channel.new ≡ channel_of h) }
     ensures refused { result ≢ 0 → channel.new ≡ channel.old }
 {
-    let call = CallCmd::Call {
-        called: dialed(called),
-        calling: dialed(calling),
-        user,
-        params: sizes.params(),
-    };
-    ask_call(alloc, slot, asked_with(given, call), channel)
+    let given = given.beside();
+    let call = dials(called, calling, user, sizes, given.as_ref());
+    ask_call(alloc, slot, call, channel)
 }
 
 /// Accepts an incoming call, with the packet sizes and windows that are named, or where none is with those proposed.
@@ -176,13 +190,17 @@ pub extern "C" fn x25_accept(alloc: Global, slot: &mut Slot, channel: u16, sizes
     ensures { Answers slot.old.handle.held slot.new.handle.held result
         (Asks (Requests (OnChannel channel (Accepts (answer_in_brief (params_in sizes)))))) }
 {
-    let params = sizes.params();
-    ask(alloc, slot, Cmd::Accept { channel, params })
+    let accept = Cmd::Accept {
+        channel,
+        params: sizes.params(),
+        given: None,
+    };
+    ask(alloc, slot, accept)
 }
 
 /// The same, with facilities, user data or the D bit beside the acceptance, where some are given.
 ///
-/// As `x25_accept`, and where something is given as `Station::command` of `Cmd::With`.
+/// As `x25_accept`, and where something is given as `Station::command` says.
 #[unsafe(no_mangle)]
 pub extern "C" fn x25_accept_with(
     alloc: Global,
@@ -194,9 +212,13 @@ pub extern "C" fn x25_accept_with(
     ensures { Answers slot.old.handle.held slot.new.handle.held result
         (Asks (asked_with given.entry (OnChannel channel (Accepts (answer_in_brief (params_in sizes)))))) }
 {
-    let params = sizes.params();
-    let accept = CallCmd::Accept { channel, params };
-    ask(alloc, slot, asked_with(given, accept))
+    let given = given.beside();
+    let accept_with = Cmd::Accept {
+        channel,
+        params: sizes.params(),
+        given: given.as_ref(),
+    };
+    ask(alloc, slot, accept_with)
 }
 
 /// Clears a call, with a cause that this end may give and any diagnostic.
@@ -217,13 +239,14 @@ pub extern "C" fn x25_clear(
         channel,
         cause,
         diagnostic,
+        given: None,
     };
     ask(alloc, slot, clear)
 }
 
 /// The same, with facilities or user data beside the clearing, where some are given.
 ///
-/// As `x25_clear`, and where something is given as `Station::command` of `Cmd::With`.
+/// As `x25_clear`, and where something is given as `Station::command` says.
 #[unsafe(no_mangle)]
 pub extern "C" fn x25_clear_with(
     alloc: Global,
@@ -236,12 +259,14 @@ pub extern "C" fn x25_clear_with(
     ensures { Answers slot.old.handle.held slot.new.handle.held result
         (Asks (asked_with given.entry (OnChannel channel (Clears cause diagnostic)))) }
 {
-    let clear = CallCmd::Clear {
+    let given = given.beside();
+    let clear_with = Cmd::Clear {
         channel,
         cause,
         diagnostic,
+        given: given.as_ref(),
     };
-    ask(alloc, slot, asked_with(given, clear))
+    ask(alloc, slot, clear_with)
 }
 
 /// Resets a call, with a cause that this end may give and any diagnostic.

@@ -1,17 +1,17 @@
 //! What was answered before the last frame that came.
 ghost use Rattle.std.specs.Prelude.{◌≡◌, ◌++◌, [], map, OnErr, OnOk};
 
+use crate::earlier_entries::EarlierEntries;
 use std::alloc::{AllocError, Global};
-use std::mem::replace;
 use x25_bits::with_octets;
-use x25_station::{Entries, Entry, Timer};
+use x25_station::Timer;
 
 /// What the frames of a call but the last were answered: copies of the frames to send, the entries, in memory that was
 /// that of their steps, and what becomes of timer T1.
 #[derive(Drop)]
 pub struct Earlier {
     pub frames: Vec<Vec<u8>>,
-    pub entries: Vec<Entry>,
+    pub entries: EarlierEntries,
     pub timer: Timer,
 }
 
@@ -19,12 +19,12 @@ impl Earlier {
     /// Nothing was answered.
     pub(crate) fn new(alloc: Global) -> Earlier
         ensures frames { result.frames.items ≡ [] }
-        ensures entries { result.entries.items ≡ [] }
+        ensures entries { result.entries ≡ [] }
         ensures timer { result.timer ≡ Timer.GoesOn }
     {
         Earlier {
             frames: Vec::new(alloc),
-            entries: Vec::new(alloc),
+            entries: EarlierEntries::new(alloc),
             timer: Timer::GoesOn,
         }
     }
@@ -32,7 +32,7 @@ impl Earlier {
     /// Takes all of it out.
     pub(crate) fn clear(&mut self)
         ensures frames { self.new.frames.items ≡ [] }
-        ensures entries { self.new.entries.items ≡ [] }
+        ensures entries { self.new.entries ≡ [] }
         ensures timer { self.new.timer ≡ Timer.GoesOn }
     {
         self.frames.clear();
@@ -54,21 +54,4 @@ pub(crate) fn append_copies(all: &mut Vec<Vec<u8>>, frames: &[Vec<u8>]) -> Resul
         copies.push_reserved(with_octets(copy, frame.as_slice()));
     }
     all.append(&mut copies)
-}
-
-/// Moves the entries of a step behind others. New memory takes the place of theirs, where there are some. Err: no
-/// memory, and none is moved.
-pub(crate) fn move_entries(all: &mut Vec<Entry>, entries: &mut Entries) -> Result<(), AllocError>
-    ensures all { OnOk result (all.new.items ≡ all.old.items ++ entries.old.items) }
-    ensures none { OnOk result (entries.new.items ≡ []) }
-    ensures err { OnErr result (all.new.items ≡ all.old.items) }
-    ensures stay { OnErr result (entries.new.items ≡ entries.old.items) }
-{
-    if entries.is_empty() {
-        return Ok(());
-    }
-    all.reserve(entries.len())?;
-    let fresh = Entries::new(*all.allocator())?;
-    let mut told = replace(entries, fresh).into_vec();
-    all.append(&mut told)
 }

@@ -9,7 +9,7 @@ use crate::sizes::Sizes;
 use crate::stretch_name::StretchName;
 use x25_layer::{Params, Stretch};
 use x25_link::Reason;
-use x25_station::{Asked, Entry, Marks, Told};
+use x25_station::{Asked, Entry, Lent, Marks, Told};
 
 pub(crate) const FRAME: u16 = 1;
 
@@ -151,34 +151,34 @@ impl Event {
         }
     }
 
-    fn of_asked(channel: u16, name: &Stretch, asked: &Asked) -> Event
-        ensures { result ≡ asked_event channel (plain_name name.now) (plain_asked asked.now) }
+    fn of_asked(channel: u16, name: &Stretch, asked: Asked, lent: &Lent) -> Event
+        ensures { result ≡ asked_event channel (plain_name name.now) (plain_asked lent.now asked) }
     {
         match asked {
-            Asked::Call { user, params, .. } => Event {
-                sizes: Sizes::of(*params),
-                count: user.as_slice().len(),
+            Asked::Call { params } => Event {
+                sizes: Sizes::of(params),
+                count: lent.user().len(),
                 ..Event::under(CALL_ASKED, channel, name)
             },
             Asked::Accept { params } => Event {
-                sizes: Sizes::of(*params),
+                sizes: Sizes::of(params),
                 ..Event::on(ACCEPT_ASKED, channel)
             },
             Asked::Clear { cause, diagnostic } => Event {
-                cause: *cause,
-                diagnostic: *diagnostic,
+                cause,
+                diagnostic,
                 ..Event::on(CLEAR_ASKED, channel)
             },
-            Asked::Send { marks, user } => {
-                Event::of_message(SEND_ASKED, channel, name, *marks, user.as_slice())
+            Asked::Send { marks } => {
+                Event::of_message(SEND_ASKED, channel, name, marks, lent.message())
             }
-            Asked::Interrupt { user } => Event {
-                count: user.as_slice().len(),
+            Asked::Interrupt => Event {
+                count: lent.user().len(),
                 ..Event::under(INTERRUPT_ASKED, channel, name)
             },
             Asked::Reset { cause, diagnostic } => Event {
-                cause: *cause,
-                diagnostic: *diagnostic,
+                cause,
+                diagnostic,
                 ..Event::on(RESET_ASKED, channel)
             },
             Asked::Ready => Event::on(READY_ASKED, channel),
@@ -186,62 +186,62 @@ impl Event {
         }
     }
 
-    fn of_told(channel: u16, name: &Stretch, told: &Told) -> Event
-        ensures { result ≡ told_event channel (plain_name name.now) (plain_told told.now) }
+    fn of_told(channel: u16, name: &Stretch, told: Told, lent: &Lent) -> Event
+        ensures { result ≡ told_event channel (plain_name name.now) (plain_told lent.now told) }
     {
         match told {
-            Told::Incoming { user, params, .. } => Event {
-                sizes: Sizes::of(*params),
-                count: user.as_slice().len(),
+            Told::Incoming { params } => Event {
+                sizes: Sizes::of(params),
+                count: lent.user().len(),
                 ..Event::under(INCOMING, channel, name)
             },
             Told::Connected { params } => Event {
-                sizes: Sizes::of(*params),
+                sizes: Sizes::of(params),
                 ..Event::on(CONNECTED, channel)
             },
             Told::Collided => Event::on(COLLIDED, channel),
             Told::Cleared { cause, diagnostic } => Event {
-                cause: *cause,
-                diagnostic: *diagnostic,
+                cause,
+                diagnostic,
                 ..Event::on(CLEARED, channel)
             },
             Told::ClearDone => Event::on(CLEAR_DONE, channel),
             Told::WasReset { cause, diagnostic } => Event {
-                cause: *cause,
-                diagnostic: *diagnostic,
+                cause,
+                diagnostic,
                 ..Event::on(RESET, channel)
             },
             Told::ResetDone => Event::on(RESET_DONE, channel),
-            Told::Delivered { marks, user } => {
-                Event::of_message(MESSAGE, channel, name, *marks, user.as_slice())
+            Told::Delivered { marks } => {
+                Event::of_message(MESSAGE, channel, name, marks, lent.message())
             }
-            Told::Interrupted { user } => Event {
-                count: user.as_slice().len(),
+            Told::Interrupted => Event {
+                count: lent.user().len(),
                 ..Event::under(INTERRUPT, channel, name)
             },
             Told::InterruptDone => Event::on(INTERRUPT_DONE, channel),
             Told::Fault { diagnostic } => Event {
-                diagnostic: *diagnostic,
+                diagnostic,
                 ..Event::on(FAULT, channel)
             },
         }
     }
 
-    /// What an entry of the transcript says.
-    pub(crate) fn of_entry(entry: &Entry) -> Event
-        ensures { result ≡ entry_event (plain_entry entry.now) }
+    /// What an entry of the transcript says, with what its step lends.
+    pub(crate) fn of_entry(entry: &Entry, lent: &Lent) -> Event
+        ensures { result ≡ entry_event (plain_entry lent.now entry.now) }
     {
         match entry {
             Entry::Asked {
                 channel,
                 name,
                 asked,
-            } => Event::of_asked(*channel, name, asked),
+            } => Event::of_asked(*channel, name, *asked, lent),
             Entry::Told {
                 channel,
                 name,
                 told,
-            } => Event::of_told(*channel, name, told),
+            } => Event::of_told(*channel, name, *told, lent),
             Entry::RestartAsked { cause, diagnostic } => Event {
                 cause: *cause,
                 diagnostic: *diagnostic,
@@ -265,8 +265,8 @@ impl Event {
                 diagnostic: *diagnostic,
                 ..Event::alone(FAULT)
             },
-            Entry::Beside { channel, user, .. } => Event {
-                count: user.as_slice().len(),
+            Entry::Beside { channel } => Event {
+                count: lent.beside().len(),
                 ..Event::on(BESIDE, *channel)
             },
             Entry::Confirmed {

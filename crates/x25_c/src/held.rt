@@ -9,6 +9,7 @@ ghost use Rattle.x25_station.specs.Config.{settings_from};
 ghost use Rattle.x25_station.specs.Station.{new_station};
 ghost use Rattle.x25_station.specs.laws.TimerLaw.{Comes};
 ghost use Rattle.x25_station.specs.code.FitsStation.{FitsStation, FitsStill, IsEmpty};
+ghost use Rattle.x25_c.specs.code.EarlierEntries.{plain_pair};
 ghost use Rattle.x25_c.specs.Held.{channel_of, entries_of, frames_of, in_place, lines_of, no_answer, part_of};
 ghost use Rattle.x25_c.specs.Held.{timer_of, whole_of, IsAlone};
 ghost use Rattle.x25_c.specs.Item.{items_of, last_items, later_items, plain_item};
@@ -16,18 +17,19 @@ ghost use Rattle.x25_c.specs.code.Clocks.{Insists, Passes, Rests, Sets};
 ghost use Rattle.x25_c.specs.code.Happens.{DoesCommand, GivesAnswer, HappensTo, IsNew, Lacks, event_of};
 ghost use Rattle.x25_c.specs.code.Receives.{ReceivesAll};
 
-use crate::answers::{in_both, then};
+use crate::answers::then;
 use crate::clocked::{Passed, awaited, heed, take_due};
-use crate::earlier::{Earlier, append_copies, move_entries};
+use crate::earlier::{Earlier, append_copies};
+use crate::earlier_entries::entry_at;
 use crate::happening::{Happening, happen};
 use crate::item::Item;
 use crate::numbers::{BAD_PARAMETER, NO_MEMORY};
 use std::alloc::{AllocError, Global};
 use std::mem::replace;
 use x25_clock::{Clock, Due, Times};
-use x25_console::{read_user, station_command};
+use x25_console::{given_beside, read_user, station_command};
 use x25_script::{Command, HexDigits, ScriptTaker, read_command};
-use x25_station::{Entries, Entry, Role, Station, StationError, Step, Timer};
+use x25_station::{Entries, Entry, Lent, Role, Station, StationError, Step, Timer};
 use x25_text::Text;
 use x25_transcript::entry_line;
 
@@ -143,7 +145,10 @@ impl Held {
         let Ok(count) = read_user(&command, &mut user) else {
             return self.refuse();
         };
-        self.happen(Happening::Asks(station_command(&command, &user[..count])))
+        let octets = &user[..count];
+        let given = given_beside(&command, octets);
+        let asked = station_command(&command, octets, given.as_ref());
+        self.happen(Happening::Asks(asked))
     }
 
     /// Does the command that a text spells, where it spells one.
@@ -167,7 +172,7 @@ impl Held {
         ensures time { self.new.time ≡ self.old.time }
         ensures passed { self.new.passed ≡ self.old.passed }
     {
-        move_entries(&mut self.earlier.entries, &mut self.step.entries)?;
+        self.earlier.entries.take(&mut self.step.entries)?;
         append_copies(&mut self.earlier.frames, self.step.frames.as_slice())?;
         self.step.frames.clear();
         self.earlier.timer = then(self.earlier.timer, self.step.timer);
@@ -293,6 +298,17 @@ impl Held {
         }
     }
 
+    // Entry `i` of the answer.
+    fn entry(&self, i: usize) -> Option<(&Entry, &Lent)>
+        ensures { option_map plain_pair result ≡ slice_get (entries_of self.now) i }
+    {
+        let before = self.earlier.entries.len();
+        if i < before {
+            return self.earlier.entries.get(i);
+        }
+        entry_at(&self.step.entries, i - before)
+    }
+
     // Item `i` behind the frames and a timer that passed: the entries, and then what becomes of timer T1.
     fn last_item(&self, i: usize) -> Option<Item<'_>>
         ensures { option_map plain_item result ≡ slice_get (last_items self.now) i }
@@ -301,12 +317,8 @@ impl Held {
         if i == count {
             return Some(Item::Timer(self.timer()));
         }
-        match in_both(
-            self.earlier.entries.as_slice(),
-            self.step.entries.as_slice(),
-            i,
-        ) {
-            Some(entry) => Some(Item::Entry(entry)),
+        match self.entry(i) {
+            Some((entry, lent)) => Some(Item::Entry(entry, lent)),
             None => None,
         }
     }
@@ -347,12 +359,8 @@ impl Held {
     pub(crate) fn line(&self, alloc: Global, i: usize) -> Result<Option<Text>, AllocError>
         ensures { IfOk result (λ line. unwrap_or line [] ≡ in_place (lines_of self.now) i) }
     {
-        match in_both(
-            self.earlier.entries.as_slice(),
-            self.step.entries.as_slice(),
-            i,
-        ) {
-            Some(entry) => Ok(Some(entry_line(alloc, self.end, entry)?)),
+        match self.entry(i) {
+            Some((entry, lent)) => Ok(Some(entry_line(alloc, self.end, entry, lent)?)),
             None => Ok(None),
         }
     }

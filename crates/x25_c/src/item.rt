@@ -9,14 +9,14 @@ use crate::clocked::Passed;
 use crate::copying::{copy, copy_figures};
 use crate::event::{Event, FRAME, TIMEOUT, TIMER};
 use crate::numbers::timer_number;
-use x25_station::{Asked, Entry, Timer, Told};
+use x25_station::{Asked, Entry, Lent, Timer, Told};
 
 /// A frame to send, a timer that passed, an entry of the transcript, or what becomes of timer T1.
 #[derive(Clone, Copy)]
 pub(crate) enum Item<'a> {
     Frame(&'a [u8]),
     Passed(Passed),
-    Entry(&'a Entry),
+    Entry(&'a Entry, &'a Lent),
     Timer(Timer),
 }
 
@@ -35,7 +35,7 @@ impl<'a> Item<'a> {
                 channel: passed.channel,
                 ..Event::alone(TIMEOUT)
             },
-            Item::Entry(entry) => Event::of_entry(entry),
+            Item::Entry(entry, lent) => Event::of_entry(entry, lent),
             Item::Timer(timer) => Event {
                 timer: timer_number(*timer),
                 ..Event::alone(TIMER)
@@ -49,7 +49,7 @@ impl<'a> Item<'a> {
     {
         match self {
             Item::Frame(octets) => octets,
-            Item::Entry(entry) => user_of(entry),
+            Item::Entry(entry, lent) => user_of(entry, lent),
             Item::Passed(_) | Item::Timer(_) => &[],
         }
     }
@@ -62,16 +62,18 @@ impl<'a> Item<'a> {
         match self {
             Item::Entry(
                 Entry::Asked {
-                    asked: Asked::Call { called, .. },
+                    asked: Asked::Call { .. },
                     ..
                 },
-            ) => copy(called.as_slice(), room),
+                lent,
+            ) => copy(lent.called(), room),
             Item::Entry(
                 Entry::Told {
-                    told: Told::Incoming { called, .. },
+                    told: Told::Incoming { .. },
                     ..
                 },
-            ) => copy_figures(called.as_slice(), room),
+                lent,
+            ) => copy_figures(lent.called(), room),
             _ => copy(&[], room),
         }
     }
@@ -84,16 +86,18 @@ impl<'a> Item<'a> {
         match self {
             Item::Entry(
                 Entry::Asked {
-                    asked: Asked::Call { calling, .. },
+                    asked: Asked::Call { .. },
                     ..
                 },
-            ) => copy(calling.as_slice(), room),
+                lent,
+            ) => copy(lent.calling(), room),
             Item::Entry(
                 Entry::Told {
-                    told: Told::Incoming { calling, .. },
+                    told: Told::Incoming { .. },
                     ..
                 },
-            ) => copy_figures(calling.as_slice(), room),
+                lent,
+            ) => copy_figures(lent.calling(), room),
             _ => copy(&[], room),
         }
     }
@@ -103,39 +107,39 @@ impl<'a> Item<'a> {
         ensures { result.now ≡ facilities_at (plain_item self.now) }
     {
         match self {
-            Item::Entry(Entry::Beside { facilities, .. }) => facilities.as_slice(),
+            Item::Entry(Entry::Beside { .. }, lent) => lent.facilities(),
             _ => &[],
         }
     }
 }
 
-fn user_of(entry: &Entry) -> &[u8]
-    ensures { result.now ≡ entry_user (plain_entry entry.now) }
+fn user_of<'a>(entry: &Entry, lent: &'a Lent) -> &'a [u8]
+    ensures { result.now ≡ entry_user (plain_entry lent.now entry.now) }
 {
     match entry {
-        Entry::Asked { asked, .. } => user_asked(asked),
-        Entry::Told { told, .. } => user_told(told),
-        Entry::Beside { user, .. } => user.as_slice(),
+        Entry::Asked { asked, .. } => user_asked(*asked, lent),
+        Entry::Told { told, .. } => user_told(*told, lent),
+        Entry::Beside { .. } => lent.beside(),
         _ => &[],
     }
 }
 
-fn user_asked(asked: &Asked) -> &[u8]
-    ensures { result.now ≡ asked_user (plain_asked asked.now) }
+fn user_asked(asked: Asked, lent: &Lent) -> &[u8]
+    ensures { result.now ≡ asked_user (plain_asked lent.now asked) }
 {
     match asked {
-        Asked::Call { user, .. } | Asked::Interrupt { user } => user.as_slice(),
-        Asked::Send { user, .. } => user.as_slice(),
+        Asked::Call { .. } | Asked::Interrupt => lent.user(),
+        Asked::Send { .. } => lent.message(),
         _ => &[],
     }
 }
 
-fn user_told(told: &Told) -> &[u8]
-    ensures { result.now ≡ told_user (plain_told told.now) }
+fn user_told(told: Told, lent: &Lent) -> &[u8]
+    ensures { result.now ≡ told_user (plain_told lent.now told) }
 {
     match told {
-        Told::Incoming { user, .. } | Told::Interrupted { user } => user.as_slice(),
-        Told::Delivered { user, .. } => user.as_slice(),
+        Told::Incoming { .. } | Told::Interrupted => lent.user(),
+        Told::Delivered { .. } => lent.message(),
         _ => &[],
     }
 }

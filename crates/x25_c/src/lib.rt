@@ -9,6 +9,7 @@ mod clocked;
 mod copying;
 mod dialing;
 mod earlier;
+mod earlier_entries;
 mod event;
 mod given;
 mod handle;

@@ -9,7 +9,6 @@ use Rattle.x25_layer.specs.code.FitsLayer.{awaited_at}
 use Rattle.x25_station.specs.declared.step.Step as step_code
 use Rattle.x25_station.specs.declared.timer.Timer.{Timer}
 use Rattle.x25_station.specs.declared.timer.Timer.TheVariants.{Off, Begins, GoesOn}
-use Rattle.x25_station.specs.code.PlainEntry.{plain_entry}
 use Rattle.x25_station.specs.Config.{Settings, layer_settings}
 use Rattle.x25_station.specs.Station.{Station}
 use Rattle.x25_station.specs.Station.Told.{is_at_rest}
@@ -100,7 +99,7 @@ seen c s step come = record {
   timer = step.timer;
   at_rest = is_at_rest s;
   restarting = s.layer.restarting;
-  noted = tells_link (map plain_entry step.entries.items);
+  noted = tells_link step.entries.items;
   come = come;
   awaited = λ h. awaited_at (layer_settings c) s.layer h;
 }

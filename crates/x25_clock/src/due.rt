@@ -31,6 +31,7 @@ impl Due {
                 channel,
                 cause: 0,
                 diagnostic: 0,
+                given: None,
             }),
             Due::Restart { .. } => Some(Cmd::Restart {
                 cause: 0,

@@ -41,6 +41,7 @@ pub(crate) const CALL: Act = Act::Ask(Cmd::Call {
     calling: "2",
     user: &[],
     params: None,
+    given: None,
 });
 
 pub(crate) const UA: Act = Act::Take(&[0x01, 0x73, 0x83, 0x57]);

@@ -50,6 +50,7 @@ fn is_asked(due: Due) -> u8 {
                 channel: 2,
                 cause: 0,
                 diagnostic: 0,
+                given: None,
             },
         ) => 2,
         Some(

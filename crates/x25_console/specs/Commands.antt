@@ -1,10 +1,11 @@
 -- What a line of a script asks of a station (profile).
-use Rattle.std.specs.Prelude.{ℕ, List, [], ◌++◌, unwrap_or}
+use Rattle.std.specs.Prelude.{ℕ, List, [], ◌++◌, Option, Some, None, unwrap_or}
 use Rattle.x25_circuit.specs.Params.{in_brief, default_params}
 use Rattle.x25_circuit.specs.Calling.{Accepts, Clears, Sends, Interrupts, Resets, SaysReady, SaysNotReady}
 use Rattle.x25_layer.specs.Calls.{LayerRequest, Asks, Dials, Restarts, PullsAll}
 use Rattle.x25_station.specs.Command.{Command, Requests, RequestsWith, Connects, Disconnects, Probes, Relinks}
 use Rattle.x25_station.specs.Command.{answer_in_brief}
+use Rattle.x25_given.specs.Given.{PlainGiven}
 use Rattle.x25_script.specs.ScriptLine.{PlainCommand, call, accept, clear, send, interrupt, reset, ready, not_ready}
 use Rattle.x25_script.specs.ScriptLine.{restart, pull, connect, disconnect, probe, relink, with_given}
 
@@ -16,6 +17,12 @@ part_asked (call called calling user params) =
 part_asked (accept channel params) = Asks channel (Accepts (answer_in_brief params))
 part_asked (clear channel given) = Asks channel (Clears (unwrap_or given.cause 0) (unwrap_or given.diagnostic 0))
 part_asked asked = PullsAll
+
+-- what it gives beside its packet
+abbrev pub given_asked : PlainCommand → Option PlainGiven
+given_asked (with_given facilities user d asked) =
+    Some (record { facilities = facilities; user = user; d = d })
+given_asked asked = None
 
 abbrev pub command_asked : PlainCommand → Command
 command_asked (call called calling user params) = Requests (part_asked (call called calling user params))

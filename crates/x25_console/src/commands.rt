@@ -1,12 +1,13 @@
 //! Commands of a script, as a station takes them.
-ghost use Rattle.std.specs.Prelude.{◌≡◌, ◌≤◌, ◌++◌, IfOk, OnOk, OnErr, length, max, take};
-ghost use Rattle.x25_script.specs.ScriptLine.{plain_command, plain_part, with_given};
-ghost use Rattle.x25_station.specs.Command.{command_of, request_of};
-ghost use Rattle.x25_console.specs.Commands.{command_asked, given_in, part_asked, part_user, user_in};
+ghost use Rattle.std.specs.Prelude.{◌≡◌, ◌≤◌, ◌++◌, IfOk, OnOk, OnErr, length, max, option_map, take};
+ghost use Rattle.x25_script.specs.ScriptLine.{plain_command, plain_part};
+ghost use Rattle.x25_given.specs.Given.{given_with, plain_given};
+ghost use Rattle.x25_station.specs.Command.{command_of, requesting};
+ghost use Rattle.x25_console.specs.Commands.{command_asked, given_asked, given_in, part_asked, part_user, user_in};
 
 use std::alloc::AllocError;
 use x25_script::{CallPart, Command, HexDigits};
-use x25_station::{CallCmd, Cmd, Given};
+use x25_station::{Cmd, Given};
 
 /// Makes a list that has fewer octets so long. Err: no memory; the list is as it was then.
 fn reserve(octets: &mut Vec<u8>, count: usize) -> Result<(), AllocError>
@@ -142,10 +143,10 @@ pub fn read_user(command: &Command, octets: &mut Vec<u8>) -> Result<usize, Alloc
     }
 }
 
-/// What is asked of a call, with its octets of user data.
-fn call_command<'a>(call: &CallPart<'a>, user: &'a [u8]) -> CallCmd<'a>
+/// What is asked of a call, with its octets of user data and what is given beside it.
+fn call_command<'a>(call: &CallPart<'a>, user: &'a [u8], given: Option<&'a Given<'a>>) -> Cmd<'a>
     requires { user.now ≡ part_user (plain_part call.now) }
-    ensures { request_of result ≡ part_asked (plain_part call.now) }
+    ensures { command_of result ≡ requesting (given_with given.entry) (part_asked (plain_part call.now)) }
 {
     match call {
         CallPart::Call {
@@ -153,52 +154,79 @@ fn call_command<'a>(call: &CallPart<'a>, user: &'a [u8]) -> CallCmd<'a>
             calling,
             params,
             ..
-        } => CallCmd::Call {
+        } => Cmd::Call {
             called,
             calling,
             user,
             params: *params,
+            given,
         },
-        CallPart::Accept { channel, params } => CallCmd::Accept {
+        CallPart::Accept { channel, params } => Cmd::Accept {
             channel: *channel,
             params: *params,
+            given,
         },
-        CallPart::Clear { channel, given } => CallCmd::Clear {
+        CallPart::Clear {
+            channel,
+            given: said,
+        } => Cmd::Clear {
             channel: *channel,
-            cause: given.cause.unwrap_or(0),
-            diagnostic: given.diagnostic.unwrap_or(0),
+            cause: said.cause.unwrap_or(0),
+            diagnostic: said.diagnostic.unwrap_or(0),
+            given,
         },
     }
 }
 
-/// What is asked of a call with something beside it, with the octets of both.
+/// What a command gives beside its packet, of its octets of facilities and user data.
 #[inline(always)]
-fn given_command<'a>(
+pub fn given_beside<'a>(command: &Command, octets: &'a [u8]) -> Option<Given<'a>>
+    requires { octets.now ≡ user_in (plain_command command.now) }
+    ensures { option_map plain_given result ≡ given_asked (plain_command command.now) }
+{
+    let Command::With {
+        facilities,
+        user,
+        d,
+        ..
+    } = command
+    else {
+        return None;
+    };
+    let (facilities, rest) = octets.split_at(facilities.len());
+    let (user, _) = rest.split_at(user.len());
+    Some(Given {
+        facilities,
+        user,
+        d: *d,
+    })
+}
+
+/// What is asked of a call, of its octets and with what is given beside it.
+fn asked_with<'a>(
     facilities: &HexDigits,
     user: &HexDigits,
-    d: bool,
     call: &CallPart<'a>,
     octets: &'a [u8],
+    given: Option<&'a Given<'a>>,
 ) -> Cmd<'a>
     requires { octets.now ≡ given_in facilities.now user.now (plain_part call.now) }
-    ensures { command_of result ≡ command_asked (with_given facilities.now user.now d (plain_part call.now)) }
+    ensures { command_of result ≡ requesting (given_with given.entry) (part_asked (plain_part call.now)) }
 {
-    let (facilities, rest) = octets.split_at(facilities.len());
-    let (user, data) = rest.split_at(user.len());
-    Cmd::With {
-        given: Given {
-            facilities,
-            user,
-            d,
-        },
-        call: call_command(call, data),
-    }
+    let (_, rest) = octets.split_at(facilities.len());
+    let (_, data) = rest.split_at(user.len());
+    call_command(call, data, given)
 }
 
-/// The command with its octets of facilities and user data.
+/// The command with its octets of facilities and user data, and with what it gives.
 #[inline(always)]
-pub fn station_command<'a>(command: &Command<'a>, user: &'a [u8]) -> Cmd<'a>
-    requires { user.now ≡ user_in (plain_command command.now) }
+pub fn station_command<'a>(
+    command: &Command<'a>,
+    user: &'a [u8],
+    given: Option<&'a Given<'a>>,
+) -> Cmd<'a>
+    requires octets { user.now ≡ user_in (plain_command command.now) }
+    requires given { given_with given ≡ given_asked (plain_command command.now) }
     ensures { command_of result ≡ command_asked (plain_command command.now) }
 {
     match command {
@@ -212,22 +240,28 @@ pub fn station_command<'a>(command: &Command<'a>, user: &'a [u8]) -> Cmd<'a>
             calling,
             user,
             params: *params,
+            given: None,
         },
         Command::Accept { channel, params } => Cmd::Accept {
             channel: *channel,
             params: *params,
+            given: None,
         },
-        Command::Clear { channel, given } => Cmd::Clear {
+        Command::Clear {
+            channel,
+            given: said,
+        } => Cmd::Clear {
             channel: *channel,
-            cause: given.cause.unwrap_or(0),
-            diagnostic: given.diagnostic.unwrap_or(0),
+            cause: said.cause.unwrap_or(0),
+            diagnostic: said.diagnostic.unwrap_or(0),
+            given: None,
         },
         Command::With {
             facilities,
             user: beside,
-            d,
             call,
-        } => given_command(facilities, beside, *d, call, user),
+            ..
+        } => asked_with(facilities, beside, call, user, given),
         Command::Send { channel, q, d, .. } => Cmd::Send {
             channel: *channel,
             q: *q,

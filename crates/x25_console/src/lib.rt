@@ -7,5 +7,5 @@
 mod commands;
 mod telling;
 
-pub use commands::{read_octets, read_user, station_command};
+pub use commands::{given_beside, read_octets, read_user, station_command};
 pub use telling::{tell, tell_entries, tell_frame, tell_nothing, tell_refusal};

@@ -1,6 +1,6 @@
 //! Lines that tell of entries, of frames and of refusals.
 ghost use Rattle.std.specs.Prelude.{◌≡◌, ◌≤◌, ◌+◌, ◌++◌, ℕ, List, Option, IsErrOf, OnOk, OnErr};
-ghost use Rattle.std.specs.Prelude.{MatchResult, length, map};
+ghost use Rattle.std.specs.Prelude.{MatchResult, length};
 ghost use Rattle.x25_console.specs.Telling.{entries_text, frame_line, nothing_line, refusal_line};
 ghost use Rattle.x25_io.specs.code.MarksFaults.{MarksFaults};
 ghost use Rattle.x25_io.specs.code.Written.{AppendsPrefix, Tells, TellsMore};
@@ -11,7 +11,7 @@ ghost use Rattle.x25_text.specs.declared.text.TheConstants.{ROOM};
 use std::alloc::AllocError;
 use x25_decode::mark;
 use x25_io::{Fault, Output, Sink};
-use x25_station::{Entry, Role};
+use x25_station::{Entries, Entry, Lent, Role};
 use x25_text::{ROOM, Text};
 use x25_transcript::push_entry;
 
@@ -42,15 +42,16 @@ pub fn tell_nothing<W: Sink>(output: &mut Output, writer: &mut W) -> Result<(), 
 fn tell_entry<W: Sink>(
     at: Role,
     entry: &Entry,
+    lent: &Lent,
     output: &mut Output,
     writer: &mut W,
 ) -> Result<(), Fault>
     ensures tells { TellsMore result (W.contents writer.old) (W.contents writer.new) output.old output.new
-        (entry_line at (plain_entry entry.now)) }
+        (entry_line at (plain_entry lent.now entry.now)) }
     ensures faults { MarksFaults W.Sink writer.old writer.new result }
 {
     output.make_room(LINE, writer)?;
-    Ok(push_entry(at, entry, output.text())?)
+    Ok(push_entry(at, entry, lent, output.text())?)
 }
 
 /// Tells the entries of an end. 62: a call of the writer failed, and the writer is marked; 70: no memory for a long
@@ -58,16 +59,18 @@ fn tell_entry<W: Sink>(
 #[inline(always)]
 pub fn tell_entries<W: Sink>(
     at: Role,
-    entries: &[Entry],
+    entries: &Entries,
     output: &mut Output,
     writer: &mut W,
 ) -> Result<(), Fault>
     ensures tells { TellsMore result (W.contents writer.old) (W.contents writer.new) output.old output.new
-        (entries_text at (map plain_entry entries.now)) }
+        (entries_text at entries.now.items) }
     ensures faults { MarksFaults W.Sink writer.old writer.new result }
 {
-    for entry in entries {
-        tell_entry(at, entry, output, writer)?;
+    let lent = entries.lent();
+    let list = entries.as_slice();
+    for entry in list {
+        tell_entry(at, entry, lent, output, writer)?;
     }
     Ok(())
 }

@@ -1,7 +1,7 @@
 //! A station between what a program has: a line, a timer and a user.
 use std::alloc::AllocError;
 use thiserror::Error;
-use x25_station::{Cmd, Entry, Station, StationError, Step, Timer as T1};
+use x25_station::{Cmd, Entry, Lent, Station, StationError, Step, Timer as T1};
 
 /// The line that leads away from a station.
 pub(crate) trait Line {
@@ -20,8 +20,8 @@ pub(crate) trait Timer {
 
 /// To whom what comes is reported.
 pub(crate) trait User {
-    /// Takes a notice.
-    fn notice(&mut self, entry: &Entry) -> Result<(), AllocError>;
+    /// Takes a notice, with what its step lends.
+    fn notice(&mut self, entry: &Entry, lent: &Lent) -> Result<(), AllocError>;
 }
 
 /// What happens to a station.
@@ -76,7 +76,7 @@ fn hand_on<L: Line, T: Timer, U: User>(
     user: &mut U,
 ) -> Result<(), AllocError> {
     for entry in step.entries.as_slice() {
-        user.notice(entry)?;
+        user.notice(entry, step.entries.lent())?;
     }
     for frame in step.frames.as_slice() {
         line.send(frame.as_slice())?;

@@ -1,7 +1,7 @@
 //! One end of a line in memory: a line that is a list, a timer that is a flag, and a user whose notices are text.
 use crate::driving::{Line, Timer, User};
 use std::alloc::{AllocError, Global};
-use x25_station::{Entry, Role};
+use x25_station::{Entry, Lent, Role};
 use x25_text::Text;
 use x25_transcript::push_entry;
 
@@ -69,7 +69,7 @@ impl Told {
 }
 
 impl User for Told {
-    fn notice(&mut self, entry: &Entry) -> Result<(), AllocError> {
-        push_entry(self.end, entry, &mut self.text)
+    fn notice(&mut self, entry: &Entry, lent: &Lent) -> Result<(), AllocError> {
+        push_entry(self.end, entry, lent, &mut self.text)
     }
 }

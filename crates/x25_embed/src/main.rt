@@ -115,6 +115,7 @@ fn call(dte: &mut End, dce: &mut End) -> Result<(), Trouble> {
         calling: "4567",
         user: b"A",
         params: None,
+        given: None,
     })?;
     dte.out.next();
     dte.fire()?;
@@ -122,6 +123,7 @@ fn call(dte: &mut End, dce: &mut End) -> Result<(), Trouble> {
     dce.ask(Cmd::Accept {
         channel: 1,
         params: None,
+        given: None,
     })?;
     deliver_all(dte, dce)
 }

@@ -1,5 +1,5 @@
 -- The octets of a packet with what is given beside it. ITU-T X.25 (10/96), sections 5.2.1 to 5.2.3.
-use Rattle.std.specs.Prelude.{◌≡◌, ◌≤◌, Vec, vec_capacity, ℕ, ◌+◌, ◌*◌, ◌/◌, ◌%◌, Bool, false, List, [], ◌∷◌, ◌++◌}
+use Rattle.std.specs.Prelude.{ℕ, ◌+◌, ◌*◌, ◌/◌, ◌%◌, Bool, false, List, [], ◌∷◌, ◌++◌}
 use Rattle.std.specs.Prelude.{length, Option, Some, None, Result, Ok, Err}
 use Rattle.x25_bits.specs.Bits.{bit}
 use Rattle.x25_packet.specs.Digits.{packed}
@@ -60,11 +60,3 @@ written_read g octets (Err e) = octets
 
 abbrev pub write : PlainGiven → List ℕ → List ℕ
 write g octets = written_read g octets (packet_of 128 octets)
-
--- what is given is short, and there is memory for the octets of a packet with it: three, address lengths and 30 digits,
--- a facility field of 109 behind its length, and 128 of user data
-pub record HasMemory {X Z : Type 0} (g : PlainGiven) (memory : Vec X Z) : Type 0 where
-  pub few : length g.facilities ≤ 103
-  pub short : length g.user ≤ 128
-  pub empty : memory.items ≡ []
-  pub room : 257 ≤ vec_capacity memory

@@ -26,7 +26,6 @@ use Rattle.x25_station.specs.laws.TimerLaw.{StationEvent}
 use Rattle.x25_station.specs.code.Pulls.{Pulls}
 use Rattle.x25_station.specs.code.FitsStation as fits
 use Rattle.x25_station.specs.code.FitsStation.{FitsStation}
-use Rattle.x25_station.specs.code.PlainEntry.{plain_entry}
 use Rattle.x25_station.specs.Config.{Settings, link_settings, layer_settings}
 use Rattle.x25_station.specs.Error.{number_of}
 use Rattle.x25_station.specs.Station.{Station, view_of, waiting_after}
@@ -160,7 +159,7 @@ module _ (c : Settings) (old now : Option (List ℕ)) (q : Pipe) (s : Station) (
       (λ _ t. record {
         stands = stands_refused c old now q s told line refused x is same fits role status t;
         timer = timer;
-        entries = ap (map plain_entry) empty;
+        entries = empty;
         has_come = comes;
       })
       (λ _ b. begins_told c old now s told line x same b)
@@ -250,7 +249,7 @@ module _ (c : Settings) (v u : code.Station) (step both : code_step.Step) where
         leaves = p.state c plain.near h.leaves;
         sends = p.frames c plain.near h.leaves ∙ ap (λ (xs : List (List ℕ)). xs ++ map (spelling_of c.role) pulls.out) h.sends
             ∙ sym (map-append (spelling_of c.role) plain.out pulls.out);
-        enters = ap (λ es. map plain_entry es.items) entries ∙ h.enters ∙ sym (append-nil plain.entries)
+        enters = ap (λ es. es.items) entries ∙ h.enters ∙ sym (append-nil plain.entries)
             ∙ ap (λ es. plain.entries ++ es) (sym (none_entered c plain.near));
         accepted = tt;
       })

@@ -5,7 +5,9 @@ ghost use Rattle.x25_pipe.specs.Pipe.{is_same as are_same};
 use crate::telling::{tell_frames, tell_mark};
 use std::alloc::Global;
 use x25_clock::Due;
-use x25_console::{read_user, station_command, tell_entries, tell_nothing, tell_refusal};
+use x25_console::{
+    given_beside, read_user, station_command, tell_entries, tell_nothing, tell_refusal,
+};
 use x25_decode::read_sent;
 use x25_io::{Fault, Output, Sink};
 use x25_script::{Command, HexDigits, ScriptTaker, read_line};
@@ -144,8 +146,7 @@ impl Pipe {
         ensures is_refused { self.new.is_refused ≡ self.old.is_refused }
         ensures faults { MarksFaults W.Sink writer.old writer.new result }
     {
-        let entries = self.step.entries.as_slice();
-        tell_entries(self.end, entries, &mut self.output, writer)?;
+        tell_entries(self.end, &self.step.entries, &mut self.output, writer)?;
         let frames = self.step.frames.as_slice();
         tell_frames(self.end, frames, &mut self.output, writer)
     }
@@ -241,7 +242,9 @@ impl Pipe {
     {
         self.has_come = false;
         let count = read_user(&command, &mut self.user)?;
-        let asked = station_command(&command, &self.user[..count]);
+        let octets = &self.user[..count];
+        let given = given_beside(&command, octets);
+        let asked = station_command(&command, octets, given.as_ref());
         match self.station.command(asked, &mut self.step) {
             Ok(()) => self.follow_up(writer),
             Err(error) => self.refuse(error, writer),

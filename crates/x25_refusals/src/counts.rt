@@ -16,7 +16,7 @@ pub(crate) enum Kind {
     CallWith,
     Accept,
     AcceptWith,
-    With,
+    Given,
     Clear,
     Send,
     Interrupt,
@@ -50,11 +50,13 @@ impl Kind {
 
     fn of_command(command: Cmd<'_>) -> Kind {
         match command {
+            Cmd::Call { given: Some(_), .. }
+            | Cmd::Accept { given: Some(_), .. }
+            | Cmd::Clear { given: Some(_), .. } => Kind::Given,
             Cmd::Call { params: None, .. } => Kind::Call,
             Cmd::Call { .. } => Kind::CallWith,
             Cmd::Accept { params: None, .. } => Kind::Accept,
             Cmd::Accept { .. } => Kind::AcceptWith,
-            Cmd::With { .. } => Kind::With,
             Cmd::Clear { .. } => Kind::Clear,
             Cmd::Send { .. } => Kind::Send,
             Cmd::Interrupt { .. } => Kind::Interrupt,

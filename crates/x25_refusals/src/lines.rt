@@ -1,6 +1,6 @@
 //! Lines that are shown, in memory for all of them that is set aside at first.
 use std::alloc::{AllocError, Global};
-use x25_station::{Entry, Role};
+use x25_station::{Entries, Role};
 use x25_text::Text;
 use x25_transcript::push_entry;
 
@@ -49,9 +49,12 @@ impl Lines {
         self.text.try_push(characters)
     }
 
-    /// Appends the line of an entry, as a transcript has it.
-    pub(crate) fn push_entry(&mut self, end: Role, entry: &Entry) -> Result<(), AllocError> {
-        push_entry(end, entry, &mut self.text)
+    /// Appends the lines of entries, as a transcript has them.
+    pub(crate) fn push_entries(&mut self, end: Role, entries: &Entries) -> Result<(), AllocError> {
+        for entry in entries.as_slice() {
+            push_entry(end, entry, entries.lent(), &mut self.text)?;
+        }
+        Ok(())
     }
 
     /// Appends the line of a frame, as a trace has it.

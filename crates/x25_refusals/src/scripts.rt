@@ -1,7 +1,7 @@
 //! Scripts of two stations, and of the line between them.
 use Act::{Do, Drain, Heal, Send};
 use x25_layer::Params;
-use x25_station::{CallCmd, Cfg, Cmd, Given, Ranges};
+use x25_station::{Cfg, Cmd, Given, Ranges};
 use x25_world::Direction::{ToDce, ToDte};
 use x25_world::Event::{Command, Damage, Deliver, Lose, T1};
 use x25_world::Role::{Dce, Dte};
@@ -98,6 +98,7 @@ const CALLS: Act = Do(Command(
         calling: "4567",
         user: b"A",
         params: None,
+        given: None,
     },
 ));
 
@@ -108,6 +109,7 @@ const CALLS_12: Act = Do(Command(
         calling: "2",
         user: b"",
         params: None,
+        given: None,
     },
 ));
 
@@ -118,6 +120,7 @@ const DCE_CALLS_34: Act = Do(Command(
         calling: "4",
         user: b"",
         params: None,
+        given: None,
     },
 ));
 
@@ -133,39 +136,36 @@ const PROPOSES: Act = Do(Command(
             win_called: 3,
             win_calling: 3,
         }),
+        given: None,
     },
 ));
 
 /// Reverse charging.
 const CALLS_WITH: Act = Do(Command(
     Dte,
-    Cmd::With {
-        given: Given {
+    Cmd::Call {
+        called: "1",
+        calling: "2",
+        user: b"A",
+        params: None,
+        given: Some(&Given {
             facilities: &[0x01, 0x01],
             user: &[],
             d: false,
-        },
-        call: CallCmd::Call {
-            called: "1",
-            calling: "2",
-            user: b"A",
-            params: None,
-        },
+        }),
     },
 ));
 
 const ACCEPTS_WITH: Act = Do(Command(
     Dce,
-    Cmd::With {
-        given: Given {
+    Cmd::Accept {
+        channel: 1,
+        params: None,
+        given: Some(&Given {
             facilities: &[],
             user: b"hi",
             d: true,
-        },
-        call: CallCmd::Accept {
-            channel: 1,
-            params: None,
-        },
+        }),
     },
 ));
 
@@ -174,6 +174,7 @@ const ACCEPTS: Act = Do(Command(
     Cmd::Accept {
         channel: 1,
         params: None,
+        given: None,
     },
 ));
 
@@ -187,6 +188,7 @@ const ANSWERS: Act = Do(Command(
             win_called: 3,
             win_calling: 2,
         }),
+        given: None,
     },
 ));
 
@@ -194,6 +196,7 @@ const CLEAR: Cmd<'static> = Cmd::Clear {
     channel: 1,
     cause: 0,
     diagnostic: 0,
+    given: None,
 };
 
 const CLEARS: Act = Do(Command(Dte, CLEAR));

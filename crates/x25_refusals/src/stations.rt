@@ -46,9 +46,7 @@ fn call(station: &mut Station, what: Happens<'_>, out: &mut Step) -> Result<(), 
 
 /// Shows what a step tells and sends, and puts its frames on the line to the other end.
 fn goes_on(from: Role, step: &Step, to: &mut Wire, shown: &mut Lines) -> Result<(), AllocError> {
-    for entry in step.entries.as_slice() {
-        shown.push_entry(from, entry)?;
-    }
+    shown.push_entries(from, &step.entries)?;
     for frame in step.frames.as_slice() {
         shown.push_frame(from, frame.as_slice())?;
         to.put(frame.as_slice())?;

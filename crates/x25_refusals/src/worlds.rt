@@ -134,9 +134,7 @@ impl Worlds {
 
     /// Shows the step of an end, whose frames stand behind so many on the line.
     fn tells(&mut self, at: Role, before: usize, shown: &mut Lines) -> Result<(), AllocError> {
-        for entry in self.step.entries.as_slice() {
-            shown.push_entry(at, entry)?;
-        }
+        shown.push_entries(at, &self.step.entries)?;
         push_frames(&self.world, at, before, shown)?;
         self.frames = line_of(self.alloc, &self.world)?;
         Ok(())
@@ -144,7 +142,7 @@ impl Worlds {
 
     fn tells_healed(&mut self, shown: &mut Lines) -> Result<(), AllocError> {
         for entered in self.healed.iter() {
-            shown.push_entry(entered.at, &entered.entry)?;
+            shown.push_entries(entered.at, &entered.entries)?;
         }
         Ok(())
     }

@@ -1,12 +1,13 @@
 //! The fields of a line.
-ghost use Rattle.std.specs.Prelude.{◌≡◌, ◌==◌, ◌≤◌, ◌++◌, true, false, nat_lt, if◌then◌else◌, length, take};
-ghost use Rattle.std.specs.Prelude.{IsTrue, MatchOption, None, Some};
+ghost use Rattle.std.specs.Prelude.{◌≡◌, ◌==◌, ◌≤◌, ◌∷◌, ◌++◌, true, false, nat_lt, if◌then◌else◌, length, take};
+ghost use Rattle.std.specs.Prelude.{IsTrue, MatchOption, None, Some, codes};
 ghost use Rattle.std.specs.Char.{is_ascii_digit};
 ghost use Rattle.std.specs.List.{list_all, position};
 ghost use Rattle.std.specs.Str.{bytes_eq};
 ghost use Rattle.std.specs.Str.Parse.{digits_value};
 ghost use Rattle.x25_script.specs.Reading.{address_in, digits_in, end_in, from_in, number_in, octets_in};
 ghost use Rattle.x25_script.specs.Reading.{parts_of, q_in, small_number_in, GivesParts, GivesText, IsNotBehind};
+ghost use Rattle.x25_script.specs.Reading.Spelling.{end_text};
 
 use crate::hex_digits::HexDigits;
 use x25_bits::Role;
@@ -63,6 +64,20 @@ pub(crate) fn split_blank(text: &[u8]) -> Option<(&[u8], &[u8])>
     }
 }
 
+/// The end that a text begins with, and what follows its word. Which of the two it is isn't branched on here.
+pub(crate) fn split_end(text: &[u8]) -> Option<(Role, &[u8])>
+    ensures { MatchOption result (IsNotBehind (codes "dte ") text.now × IsNotBehind (codes "dce ") text.now)
+        (λ found. text.now ≡ end_text found.0 ++ (32 ∷ found.1.now)) }
+{
+    let is_dte = begins_with(text, b"dte ");
+    let is_dce = begins_with(text, b"dce ");
+    if !(is_dte | is_dce) {
+        return None;
+    }
+    let end = if is_dte { Role::Dte } else { Role::Dce };
+    Some((end, &text[4..]))
+}
+
 pub(crate) fn end(text: &[u8]) -> Option<Role>
     ensures { result ≡ end_in text.now }
 {
@@ -91,12 +106,9 @@ pub(crate) fn from(text: &[u8]) -> Option<Role>
 pub(crate) fn q(text: &[u8]) -> Option<bool>
     ensures { result ≡ q_in text.now }
 {
-    if is(text, "0") {
-        Some(false)
-    } else if is(text, "1") {
-        Some(true)
-    } else {
-        None
+    match text {
+        [b'0' | b'1'] => Some(text[0] == b'1'),
+        _ => None,
     }
 }
 

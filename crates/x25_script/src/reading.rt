@@ -6,7 +6,7 @@ ghost use Rattle.x25_script.specs.Reading.{Deliver, End, T1};
 ghost use Rattle.x25_script.specs.Reading.Spelling.{Spells};
 
 use crate::command::{accept, other_command, send};
-use crate::fields::{behind, end, from, is, number, octets, split_blank};
+use crate::fields::{behind, end, from, is, number, octets, split_blank, split_end};
 use crate::hex_digits::HexDigits;
 use crate::script_line::{Command, ScriptTaker};
 use x25_bits::Role;
@@ -133,11 +133,8 @@ fn read<W, T: ScriptTaker<W>>(line: &[u8], taker: &mut T, with: &mut W) -> T::An
     if let Some(fields) = behind(line, b"deliver ") {
         return read_deliver(fields, taker, with);
     }
-    if let Some(text) = behind(line, b"dte ") {
-        return read_command(Role::Dte, text, taker, with);
-    }
-    if let Some(text) = behind(line, b"dce ") {
-        return read_command(Role::Dce, text, taker, with);
+    if let Some((end, text)) = split_end(line) {
+        return read_command(end, text, taker, with);
     }
     if let Some(fields) = behind(line, b"drain ") {
         return read_drain(fields, taker, with);

@@ -1,7 +1,7 @@
 //! A script, line by line.
 use crate::reporter::Reporter;
 use crate::stage::{Stage, away_from};
-use x25_console::{read_octets, read_user, station_command};
+use x25_console::{given_beside, read_octets, read_user, station_command};
 use x25_io::{Fault, LineTaker, Sink};
 use x25_script::{Command, HexDigits, Role, ScriptTaker, read_line};
 use x25_world::Event;
@@ -89,7 +89,9 @@ impl<W: Sink, P: Reporter> ScriptTaker<W> for Simulator<P> {
             return self.stage.read_nothing(writer);
         }
         let count = read_user(&asked, &mut self.octets)?;
-        let command = station_command(&asked, &self.octets[..count]);
+        let octets = &self.octets[..count];
+        let given = given_beside(&asked, octets);
+        let command = station_command(&asked, octets, given.as_ref());
         self.stage.happen(Event::Command(end, command), writer)
     }
 

@@ -1,6 +1,5 @@
 //! Two stations, a line between them, and what is told of them.
 ghost use Rattle.std.specs.Prelude.{◌≡◌, ◌≢◌, IfErr, IfOk, OnOk, drop, length, map};
-ghost use Rattle.x25_station.specs.code.PlainEntry.{plain_entry};
 ghost use Rattle.x25_bits.specs.Role.{end_of, other};
 ghost use Rattle.x25_world.specs.code.FitsWorld.{FitsWorld};
 ghost use Rattle.x25_world.specs.code.ShownWorld.{ShownWorld, line_from, line_of};
@@ -131,7 +130,7 @@ impl Stage {
     #[inline(always)]
     fn tell_step<W: Sink>(&mut self, at: Role, before: usize, writer: &mut W) -> Result<(), Fault>
         ensures tells { (old : Option (List ℕ)) (told : List ℕ) (w next : State) → next.transcript ≡ w.transcript
-            ++ entered at (map plain_entry self.old.step.entries.items)
+            ++ entered at self.old.step.entries.items
             → next.tap ≡ w.tap ++ tapped at (drop before (line_from self.old.world at))
             → Tells old (W.contents writer.old) self.old.output told
             → let sayings = told_between self.old.shown w next in
@@ -142,7 +141,7 @@ impl Stage {
         ensures is_refused { self.new.is_refused ≡ self.old.is_refused }
         ensures faults { MarksFaults W.Sink writer.old writer.new result }
     {
-        tell_entries(at, self.step.entries.as_slice(), &mut self.output, writer)?;
+        tell_entries(at, &self.step.entries, &mut self.output, writer)?;
         if !self.shown.tap {
             return Ok(());
         }

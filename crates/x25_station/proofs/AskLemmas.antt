@@ -4,7 +4,7 @@ use Rattle.x25_circuit.specs.Params.{Proposal}
 use Rattle.x25_packet.specs.Packet.{PlainPacket, restart}
 use Rattle.x25_link.specs.Station.{LinkSettings, LinkStation, Side}
 use Rattle.x25_link.specs.Link.{alone}
-use Rattle.x25_link.specs.code.FitsLink.{ShownLink, LinkState, FitsWhole, FitsLink, up_at, waits_of, after_put_to}
+use Rattle.x25_link.specs.code.FitsLink.{ShownLink, LinkState, FitsWhole, FitsLink}
 use Rattle.x25_circuit.specs.declared.error.CircuitError.TheVariants as circuit_error
 use Rattle.x25_circuit.specs.Cause.{may_restart_for}
 use Rattle.x25_circuit.specs.Circuit.{Circuit}
@@ -28,9 +28,8 @@ use Rattle.x25_station.specs.Config.{Settings, link_settings, layer_settings, ma
 use Rattle.x25_station.specs.Entry.{StationEntry}
 use Rattle.x25_station.specs.Station.{Station, all_put, view_of, waiting_after}
 use Rattle.x25_station.specs.Command.{may_ask}
-use Rattle.x25_station.specs.Step.{Outcome, Did, Refused, did, requests, requests_of, where_asked, entries_of_outcome}
+use Rattle.x25_station.specs.Step.{Outcome, did, requests, requests_of, where_asked, entries_of_outcome}
 use Rattle.x25_station.specs.laws.KeepLaw.{KeptBy}
-use Rattle.x25_station.specs.code.PlainEntry.{plain_entry}
 use Rattle.x25_station.specs.code.FitsParts.{FitsParts}
 use Rattle.x25_station.specs.code.FitsStation as station
 use Rattle.x25_station.specs.Receiving.{kept_of}
@@ -69,7 +68,7 @@ sends_did u c s m r entries (Went p) link made = made ∙ (after_puts (link_sett
 sends_did u c s m r entries (Refuses e) link made = tt
 
 pub enters_did : (c : Settings) (s : LinkStation) (r : code_step.Step) (entries : List StationEntry) (a : Answered)
-    → ((p : Putting) → a ≡ Went p → map plain_entry r.entries.items ≡ entries) → station.Enters {T = Unit} r (Ok tt) (did c (alone s) entries a)
+    → ((p : Putting) → a ≡ Went p → r.entries.items ≡ entries) → station.Enters {T = Unit} r (Ok tt) (did c (alone s) entries a)
 enters_did c s r entries (Went p) entered = entered p refl
 enters_did c s r entries (Refuses e) entered = tt
 

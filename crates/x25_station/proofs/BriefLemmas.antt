@@ -20,7 +20,7 @@ use Rattle.x25_layer.specs.Layer.{LayerSettings, Layer, is_channel}
 use Rattle.x25_layer.specs.Calls.{Asks, Dials, LayerOutcome, Accepted, Declined, outcome_in, outcome_on, where_room, if_at_once, puts_at_once, dialled}
 use Rattle.x25_layer.specs.Calls.{free_channel}
 use Rattle.x25_layer.specs.laws.Rounds.{LinkView, Putting, Went, calls}
-use Rattle.x25_station.specs.code.Memory.{IsBrief}
+use Rattle.x25_station.specs.code.Entries.{IsBrief}
 use Rattle.x25_station.proofs.AskedEntryLemmas.{accepted}
 
 -- ---- of a circuit

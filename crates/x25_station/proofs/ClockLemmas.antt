@@ -7,6 +7,7 @@ use Rattle.std.proofs.lemmas.Bool.{le-ltb}
 use Rattle.std.proofs.lemmas.List.{at_drop_more, drop_all}
 use Rattle.x25_link.specs.Station.{LinkStation}
 use Rattle.x25_station.specs.declared.entry.Entry.{Entry}
+use Rattle.x25_station.specs.declared.lent.Lent.{Lent}
 use Rattle.x25_station.specs.code.PlainEntry.{plain_entry}
 use Rattle.x25_station.specs.Station.{Station}
 use Rattle.x25_station.specs.Step.{Step, Outcome, Did, Refused}
@@ -21,22 +22,23 @@ use Rattle.x25_station.proofs.TimerLemmas.{HearsNone}
 use Rattle.x25_station.specs.Timer.{is_of_link, is_acknowledged, tells_link, runs, standing, timer_of, timer_at}
 
 -- among some entries the link came up or went down
-abbrev pub up : List Entry → Bool
-up entries = tells_link (map plain_entry entries)
+abbrev pub up : Lent → List Entry → Bool
+up lent entries = tells_link (map (plain_entry lent) entries)
 
-module _ (entries : List Entry) (i : ℕ) (entry : Entry) (inside : i < length entries) (is : entry ≡ get_or entries i entry)
-    (same : up (drop i entries) ≡ up entries) where
-  next : (b : Bool) → is_of_link (plain_entry entry) ≡ b → (b || up (drop (i + 1) entries)) ≡ up entries
-  next b e = ap (λ b. b || up (drop (i + 1) entries)) (sym e ∙ ap (λ x. is_of_link (plain_entry x)) is) ∙ sym (at_drop_more up entries i entry inside) ∙ same
+module _ (lent : Lent) (entries : List Entry) (i : ℕ) (d : Entry) (inside : i < length entries)
+    (same : up lent (drop i entries) ≡ up lent entries) where
+  next : (b : Bool) → is_of_link (plain_entry lent (get_or entries i d)) ≡ b → (b || up lent (drop (i + 1) entries)) ≡ up lent entries
+  next b e = ap (λ b. b || up lent (drop (i + 1) entries)) (sym e) ∙ sym (at_drop_more (up lent) entries i d inside) ∙ same
 
-  pub link_here : is_of_link (plain_entry entry) ≡ true → true ≡ up entries
+  pub link_here : is_of_link (plain_entry lent (get_or entries i d)) ≡ true → true ≡ up lent entries
   link_here e = next true e
 
-  pub link_behind : is_of_link (plain_entry entry) ≡ false → up (drop (i + 1) entries) ≡ up entries
+  pub link_behind : is_of_link (plain_entry lent (get_or entries i d)) ≡ false → up lent (drop (i + 1) entries) ≡ up lent entries
   link_behind e = next false e
 
-pub link_nowhere : (entries : List Entry) (i : ℕ) → length entries ≤ i → up (drop i entries) ≡ up entries → false ≡ up entries
-link_nowhere entries i all same = sym (ap up (drop_all i entries all)) ∙ same
+pub link_nowhere : (lent : Lent) (entries : List Entry) (i : ℕ) → length entries ≤ i → up lent (drop i entries) ≡ up lent entries
+    → false ≡ up lent entries
+link_nowhere lent entries i all same = sym (ap (up lent) (drop_all i entries all)) ∙ same
 
 -- ---- what a call answers
 
@@ -56,7 +58,7 @@ stands s = unmoved (runs s) _ (same_acked s.link)
 
 module _ (c : Settings) (s : Station) (mid new : code.Station) (out : code_step.Step) (t : Timer) (fits : FitsStation c mid s) where
   accepted : (has_fired : Bool) (o : Outcome) → HearsNone s o
-      → ((step : Step) → FitsStation c new step.near → map plain_entry out.entries.items ≡ step.entries → false ≡ is_acknowledged s.link step.near.link → t
+      → ((step : Step) → FitsStation c new step.near → out.entries.items ≡ step.entries → false ≡ is_acknowledged s.link step.near.link → t
       ≡ timer_at s has_fired (Did step))
       → Leaves {T = Unit} c new (Ok tt) o → Enters {T = Unit} out (Ok tt) o → Refuses {T = Unit} (Ok tt) o → t ≡ timer_at s has_fired o
   accepted has_fired (Did step) quiet h leaves enters none = h step leaves enters (sym quiet)
@@ -64,13 +66,13 @@ module _ (c : Settings) (s : Station) (mid new : code.Station) (out : code_step.
 
   pub timed : (result : Result Unit StationError) (said : Settings → Station → Outcome) (fired has_fired : Bool) → Does mid new out result said
       → OnOk result (fired ≡ has_fired) → OnErr result (fired ≡ false) → HearsNone s (said c s)
-      → ((step : Step) → FitsStation c new step.near → map plain_entry out.entries.items ≡ step.entries → false ≡ is_acknowledged s.link step.near.link → t
+      → ((step : Step) → FitsStation c new step.near → out.entries.items ≡ step.entries → false ≡ is_acknowledged s.link step.near.link → t
       ≡ timer_at s fired (Did step)) → IsTimer s has_fired t result (said c s)
   timed (Ok u) said fired has_fired d is not_fired quiet h =
       accepted has_fired (said c s) quiet (λ step near entries more. h step near entries more ∙ ap (λ b. timer_at s b (Did step)) is) (d.state c s fits)
       (d.entries c s fits) (d.refused c s fits)
   timed (Err e) said fired has_fired d is not_fired quiet h =
-      h (none s) (d.stays c s fits) (ap (map plain_entry) d.empty.entries) (sym (same_acked s.link)) ∙ ap (λ b. timer_at s b (Did (none s))) not_fired
+      h (none s) (d.stays c s fits) d.empty.entries (sym (same_acked s.link)) ∙ ap (λ b. timer_at s b (Did (none s))) not_fired
       ∙ stands s
 
 -- ---- whether T1 fired

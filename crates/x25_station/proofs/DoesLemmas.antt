@@ -2,7 +2,7 @@
 use Rattle.std.proofs.Common.{◌≡◌, ◌≤◌, List, [], length, Bool, true, false, Some, None, Result, Ok, Err, OnErr, refl, ap, sym, ◌∙◌, subst, arith}
 use Rattle.x25_link.specs.Station.{LinkStation, Side}
 use Rattle.x25_link.specs.Link.{alone}
-use Rattle.x25_link.specs.code.FitsLink.{ShownLink, LinkState, FitsWhole, after_put_to}
+use Rattle.x25_link.specs.code.FitsLink.{ShownLink, LinkState, FitsWhole}
 use Rattle.x25_link.specs.code.Bounds.{WindowIsSmall, FewStand}
 use Rattle.x25_layer.specs.Layer.{LayerSettings, Layer}
 use Rattle.x25_layer.specs.Calls.{LayerRequest}

@@ -11,12 +11,12 @@ use Rattle.x25_layer.specs.declared.error.LayerError.TheVariants as error
 use Rattle.x25_layer.specs.declared.layer.Layer as layer_code
 use Rattle.x25_layer.specs.declared.link_state.LinkState as code
 use Rattle.x25_layer.specs.Layer.{LayerSettings, Layer}
-use Rattle.x25_layer.specs.Calls.{LayerRequest, LayerOutcome, Accepted, Declined, PullsAll, layer_outcome, asked_where, declined_for, asks_memory, outcome_in}
+use Rattle.x25_layer.specs.Calls.{LayerRequest, LayerOutcome, Accepted, Declined, PullsAll, layer_outcome, asked_where, declined_for, outcome_in}
 use Rattle.x25_layer.specs.Calls.{layer_pulled}
 use Rattle.x25_layer.specs.laws.Rounds.{LinkView, Putting, Answered, Went, Refuses, begin, with_pulled, pull_one, round, rounds_of, backlog, rounds, went}
 use Rattle.x25_layer.specs.laws.Rounds.{calls, refusal_of}
 use Rattle.x25_layer.specs.code.FitsLayer.{FitsLayer}
-use Rattle.x25_layer.specs.code.Answering.{spelled, Gives, Does, Answers}
+use Rattle.x25_layer.specs.code.Answering.{spelled, Gives, Answers}
 use Rattle.x25_station.proofs.RoundLemmas.{spelled_some, not_empty}
 use Rattle.x25_station.specs.code.OverLink.{after_all, seen_at, LayerGives, LinkGives, Drives}
 
@@ -103,7 +103,7 @@ pub on_err : {T E : Type 0} (r : Result T E) {P : Type 0} → P → OnErr r P
 on_err (Ok x) p = tt
 on_err (Err e) p = p
 
-same_err : {T : Type 0} (r : Result T LayerError) (e f : LayerError) → IsErrAnd r (λ x. x ≡ e) → r ≡ Err f → e ≡ f
+pub same_err : {T : Type 0} (r : Result T LayerError) (e f : LayerError) → IsErrAnd r (λ x. x ≡ e) → r ≡ Err f → e ≡ f
 same_err (Ok x) e f is same = absurd is
 same_err (Err g) e f is same = cc
 

@@ -18,11 +18,10 @@ use Rattle.x25_station.specs.Entry.{StationEntry, of_channel, restart_asked}
 use Rattle.x25_station.specs.Station.{Station, view_of, waiting_after}
 use Rattle.x25_station.specs.Command.{may_ask}
 use Rattle.x25_station.specs.Step.{requests, entries_of_outcome}
-use Rattle.x25_station.specs.code.PlainEntry.{plain_entry}
 use Rattle.x25_station.specs.code.FitsParts.{FitsParts}
 use Rattle.x25_station.specs.code.FitsStation.{Enters}
 use Rattle.x25_station.proofs.AskLemmas.{Layers, answered_by, requested, layer_gives, enters_did}
-use Rattle.x25_station.specs.code.Memory.{IsBrief}
+use Rattle.x25_station.specs.code.Entries.{IsBrief}
 use Rattle.x25_station.proofs.BriefLemmas.{asked_brief, dialled_brief}
 use Rattle.x25_station.proofs.MayLemmas.{where_holds}
 use Rattle.x25_station.proofs.AskedEntryLemmas.{asked_entry, dialled_entry, restart_entry, pull_entry, asked_channel, free_is_channel}
@@ -38,7 +37,7 @@ went_fits u c z a p gives is = subst (λ (x : Answered). LayerGives (layer_setti
 
 pub asked_enters : {T : Type 0} {manner : Manner} (u : T) (c : Settings) (l : ShownLink) (y z : layer_code.Layer) (s : Station) (r : code_step.Step) (h : ℕ)
     (request : circuit.Request) → FitsParts c manner l y s → Layers l y z (Ok u) (Asks h request)
-    → ((k : Layer) → FitsLayer (layer_settings c) z k → is_channel c.channels h ≡ true → IsBrief request → map plain_entry r.entries.items
+    → ((k : Layer) → FitsLayer (layer_settings c) z k → is_channel c.channels h ≡ true → IsBrief request → r.entries.items
     ≡ of_channel (record { channel = h; name = name_of k h; said = Asked (shown (k.circuits h) request) }) ∷ [])
     → Enters {T = Unit} r (Ok tt) (requests c s (Asks h request))
 asked_enters u c l y z s r h request fits layers entered =
@@ -53,7 +52,7 @@ pub dialled_enters : {manner : Manner} (c : Settings) (l : ShownLink) (y z : lay
     (called calling user : List ℕ) (proposal : Proposal) → FitsParts c manner l y s → Layers l y z (Ok h) (Dials called calling user proposal)
     → free_channel c.role s.layer.circuits c.channels ≡ Some h
     → ((k : Layer) → FitsLayer (layer_settings c) z k → is_channel c.channels h ≡ true → IsBrief (circuit.Calls called calling user proposal) →
-    map plain_entry r.entries.items ≡ of_channel
+    r.entries.items ≡ of_channel
     (record { channel = h; name = name_of k h; said = Asked (circuit.Calls called calling user (in_brief proposal.params)) }) ∷ [])
     → Enters {T = Unit} r (Ok tt) (requests c s (Dials called calling user proposal))
 dialled_enters c l y z s r h called calling user proposal fits layers free entered =
@@ -65,13 +64,13 @@ dialled_enters c l y z s r h called calling user proposal fits layers free enter
     (dialled_brief view lc fits.layer.message s.layer called calling user proposal p is)
     ∙ sym (dialled_entry view lc s.layer h called calling user proposal p is free))
 
-pub restart_enters : (c : Settings) (s : Station) (cause diagnostic : ℕ) (r : code_step.Step) → map plain_entry r.entries.items
+pub restart_enters : (c : Settings) (s : Station) (cause diagnostic : ℕ) (r : code_step.Step) → r.entries.items
     ≡ restart_asked cause diagnostic ∷ [] → Enters {T = Unit} r (Ok tt) (requests c s (Restarts cause diagnostic))
 restart_enters c s cause diagnostic r entered =
     enters_did c s.link r (entries_by c s (Restarts cause diagnostic)) (answered_by c s (Restarts cause diagnostic))
     (λ p is. entered ∙ sym (restart_entry (view_of (link_settings c) s.link) (layer_settings c) s.layer cause diagnostic p is))
 
-pub pull_enters : (c : Settings) (s : Station) (r : code_step.Step) → map plain_entry r.entries.items ≡ [] → Enters {T = Unit} r (Ok tt) (requests c s PullsAll)
+pub pull_enters : (c : Settings) (s : Station) (r : code_step.Step) → r.entries.items ≡ [] → Enters {T = Unit} r (Ok tt) (requests c s PullsAll)
 pull_enters c s r entered =
     enters_did c s.link r (entries_by c s PullsAll) (answered_by c s PullsAll)
     (λ p is. entered ∙ sym (pull_entry (view_of (link_settings c) s.link) (layer_settings c) s.layer p is))

@@ -35,7 +35,6 @@ use Rattle.x25_station.specs.declared.config.Manner.{Manner}
 use Rattle.x25_station.specs.declared.station.Station as code
 use Rattle.x25_station.specs.declared.step.Step as code_step
 use Rattle.x25_station.specs.declared.error.StationError.{StationError}
-use Rattle.x25_station.specs.declared.error.StationError.TheVariants as error
 use Rattle.x25_station.specs.Error.{of_layer}
 use Rattle.x25_station.specs.Config.{Settings, link_settings, layer_settings, manner_of}
 use Rattle.x25_station.specs.Entry.{StationEntry, of_channel}
@@ -45,11 +44,10 @@ use Rattle.x25_station.specs.Station.{Station, behind, view_of}
 use Rattle.x25_station.specs.Step.{Step, Outcome, Did, Refused, entries_of_outcome, with_given, gave, gives_of, gives}
 use Rattle.x25_station.specs.laws.GivenLaw.{AreTaken}
 use Rattle.x25_station.specs.laws.KeepLaw.{IsKept, KeptBy, GivenKeeps}
-use Rattle.x25_station.specs.code.PlainEntry.{plain_entry}
 use Rattle.x25_station.specs.code.FitsParts.{FitsParts, AreMeant}
 use Rattle.x25_station.specs.code.FitsStation as station
 use Rattle.x25_station.specs.code.FitsStation.{FitsStation, Does, IsEmpty}
-use Rattle.x25_station.specs.code.Memory.{IsBrief}
+use Rattle.x25_station.specs.code.Entries.{IsBrief}
 use Rattle.x25_station.proofs.BriefLemmas.{asked_brief, dialled_brief}
 use Rattle.x25_station.proofs.AskLemmas.{taken_link, IsNamed, calls_named, still_fits, Judges}
 use Rattle.x25_station.proofs.AskedEntryLemmas.{asked_entry, dialled_entry, asked_channel, free_is_channel}
@@ -197,14 +195,6 @@ abbrev pub LinksGiven : {T : Type 0} → PlainGiven → ShownLink → ShownLink 
 LinksGiven g l m y result request = (d : LayerSettings) (k : Layer) (x : LinkState) → FitsLayer d y k → FitsWhole l x
     → GoesWith m g x result (calls (seen_with g x) d k request)
 
-pub layers_as : {T : Type 0} (result : Result T LayerError) (f g : PlainGiven) (l : ShownLink) (y z : layer_code.Layer) (request : LayerRequest) → f ≡ g
-    → LayersGiven f l y z result request → LayersGiven g l y z result request
-layers_as result f g l y z request same h = subst (λ (x : PlainGiven). LayersGiven x l y z result request) same h
-
-pub links_as : {T : Type 0} (result : Result T LayerError) (f g : PlainGiven) (l m : ShownLink) (y : layer_code.Layer) (request : LayerRequest) → f ≡ g
-    → LinksGiven f l m y result request → LinksGiven g l m y result request
-links_as result f g l m y request same h = subst (λ (x : PlainGiven). LinksGiven x l m y result request) same h
-
 pub none_of : {A : Type 0} (o : Option A) → ((a : A) → o ≡ Some a → ⊥) → o ≡ None
 none_of None other = refl
 none_of (Some a) other = absurd (other a refl)
@@ -265,7 +255,7 @@ sends_given c g s m r entries (Went p) link made = made ∙ link.kept
 sends_given c g s m r entries (Refuses e) link made = tt
 
 enters_given : (c : Settings) (g : PlainGiven) (s : LinkStation) (r : code_step.Step) (entries : List StationEntry) (a : Answered)
-    → ((p : Putting) → a ≡ Went p → map plain_entry r.entries.items ≡ entries)
+    → ((p : Putting) → a ≡ Went p → r.entries.items ≡ entries)
     → station.Enters {T = Unit} r (Ok tt) (gave c g true (alone s) entries a)
 enters_given c g s r entries (Went p) entered = entered p refl
 enters_given c g s r entries (Refuses e) entered = tt
@@ -326,7 +316,7 @@ went_fits u c z a p gives is = subst (λ (x : Answered). LayerGives (layer_setti
 
 entered_at : (c : Settings) (g : PlainGiven) (s : Station) (r : code_step.Step) (request : LayerRequest) (manner : Manner) → manner ≡ manner_of c
     → TakesIt manner g request
-    → ((p : Putting) → answered_given c g s request ≡ Went p → map plain_entry r.entries.items ≡ entries_given c s request)
+    → ((p : Putting) → answered_given c g s request ≡ Went p → r.entries.items ≡ entries_given c s request)
     → station.Enters {T = Unit} r (Ok tt) (gives c s g request)
 entered_at c g s r request manner same takes entered =
     subst (λ (b : Bool). station.Enters {T = Unit} r (Ok tt) (outcome_at c g s request b)) (sym (as_told true manner c g request same takes))
@@ -335,7 +325,7 @@ entered_at c g s r request manner same takes entered =
 pub asked_given : {T : Type 0} {manner : Manner} (u : T) (c : Settings) (g : PlainGiven) (l : ShownLink) (y z : layer_code.Layer) (s : Station)
     (r : code_step.Step) (h : ℕ) (request : circuit.Request) → FitsParts c manner l y s
     → (let x : Result T LayerError = Ok u in LayersGiven g l y z x (Asks h request)) → TakesIt manner g (Asks h request)
-    → ((k : Layer) → FitsLayer (layer_settings c) z k → is_channel c.channels h ≡ true → IsBrief request → map plain_entry r.entries.items
+    → ((k : Layer) → FitsLayer (layer_settings c) z k → is_channel c.channels h ≡ true → IsBrief request → r.entries.items
     ≡ of_channel (record { channel = h; name = name_of k h; said = Asked (shown (k.circuits h) request) }) ∷ [])
     → station.Enters {T = Unit} r (Ok tt) (gives c s g (Asks h request))
 asked_given {T = T} {manner = manner} u c g l y z s r h request fits layers takes entered =
@@ -351,7 +341,7 @@ pub dialled_given : {manner : Manner} (c : Settings) (g : PlainGiven) (l : Shown
     → (let x : Result ℕ LayerError = Ok h in LayersGiven g l y z x (Dials called calling user proposal)) → TakesIt manner g (Dials called calling user proposal)
     → free_channel c.role s.layer.circuits c.channels ≡ Some h
     → ((k : Layer) → FitsLayer (layer_settings c) z k → is_channel c.channels h ≡ true → IsBrief (circuit.Calls called calling user proposal) →
-    map plain_entry r.entries.items ≡ of_channel
+    r.entries.items ≡ of_channel
     (record { channel = h; name = name_of k h; said = Asked (circuit.Calls called calling user (in_brief proposal.params)) }) ∷ [])
     → station.Enters {T = Unit} r (Ok tt) (gives c s g (Dials called calling user proposal))
 dialled_given {manner = manner} c g l y z s r h called calling user proposal fits layers takes free entered =
@@ -438,6 +428,26 @@ declines_early found e old new out g request is judges stays empty =
     (calls_named (view_given (link_settings c) g s.link) (layer_settings c) s.layer request) (judged (Some e) old c g s request fits judges))
     stays empty
 
+only_at : (found : StationError) (e : LayerError) → found ≡ of_layer e
+    → (c : Settings) (g : PlainGiven) (taken : Bool) (t : Side) (entries : List StationEntry) (a : Answered) → IsNamed a → Some e ≡ refusal_of a
+    → (let x : Result Unit StationError = Err found in station.RefusesOnly x (gave c g taken t entries a))
+only_at found e is c g taken t entries (Went p) named refusal = absurd (none_there refusal)
+  where
+    none_there : Some e ≡ None → ⊥
+    none_there h = cc
+only_at found e is c g taken t entries (Refuses x) named refusal = ap (λ (f : StationError). let r : Result Unit StationError = Err f in r)
+    (is ∙ ap of_layer (same refusal) ∙ named)
+  where
+    same : Some e ≡ Some x → e ≡ x
+    same h = cc
+
+pub only_early : (found : StationError) (e : LayerError) (old : code.Station) (g : PlainGiven) (request : LayerRequest) → found ≡ of_layer e
+    → Judges (Some e) old.link old.layer request → (c : Settings) (s : Station) → FitsStation c old s
+    → (let x : Result Unit StationError = Err found in station.RefusesOnly x (gives c s g request))
+only_early found e old g request is judges c s fits =
+    only_at found e is c g (is_taken c g request) (alone s.link) (entries_given c s request) (answered_given c g s request)
+    (calls_named (view_given (link_settings c) g s.link) (layer_settings c) s.layer request) (judged (Some e) old c g s request fits judges)
+
 not_taken_at : (c : Settings) (g : PlainGiven) (taken : Bool) (t : Side) (entries : List StationEntry) (a : Answered) → taken ≡ false → None ≡ refusal_of a
     → (let x : Result Unit StationError = Err not_taken in station.Refuses x (gave c g taken t entries a))
 not_taken_at c g taken t entries (Went p) is refusal =
@@ -455,26 +465,6 @@ declines_given old new out g request judges not stays empty =
     declines old new out not_taken (λ c s. gives c s g request) (λ c s fits.
     not_taken_at c g (is_taken c g request) (alone s.link) (entries_given c s request) (answered_given c g s request)
     (as_told false old.manner c g request fits.same not) (judged None old c g s request fits judges))
-    stays empty
-
--- no memory for what is given, where the layer wouldn't refuse the call
-lacks_at : (c : Settings) (g : PlainGiven) (t : Side) (entries : List StationEntry) (a : Answered) → None ≡ refusal_of a
-    → (let x : Result Unit StationError = Err error.NoMemory in station.Refuses x (gave c g true t entries a))
-lacks_at c g t entries (Went p) refusal = refl
-lacks_at c g t entries (Refuses x) refusal = absurd (none_there refusal)
-  where
-    none_there : None ≡ Some x → ⊥
-    none_there h = cc
-
-pub declines_for_memory : (old new : code.Station) (out : code_step.Step) (g : PlainGiven) (request : LayerRequest) → Judges None old.link old.layer request
-    → TakesIt old.manner g request
-    → ((c : Settings) (s : Station) → FitsStation c old s → FitsStation c new s) → IsEmpty out
-    → Does old new out (Err error.NoMemory) (λ c s. gives c s g request)
-declines_for_memory old new out g request judges takes stays empty =
-    declines old new out error.NoMemory (λ c s. gives c s g request) (λ c s fits.
-    subst (λ (b : Bool). (let x : Result Unit StationError = Err error.NoMemory in station.Refuses x (outcome_at c g s request b)))
-    (sym (as_told true old.manner c g request fits.same takes))
-    (lacks_at c g (alone s.link) (entries_given c s request) (answered_given c g s request) (judged None old c g s request fits judges)))
     stays empty
 
 late_at : (T : Type 0) (found : StationError) (e : LayerError) → found ≡ of_layer e

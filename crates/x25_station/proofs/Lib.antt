@@ -1,3 +1,4 @@
+pub mod LentLemmas
 pub mod PutLemmas
 pub mod EntryLemmas
 pub mod RequestLemmas
@@ -11,6 +12,7 @@ pub mod DownLemmas
 pub mod LinkLemmas
 pub mod RoundLemmas
 pub mod DriveLemmas
+pub mod EitherLemmas
 pub mod WithLemmas
 pub mod NameLemmas
 pub mod AskLemmas

@@ -30,14 +30,14 @@ pub few_octets : law.FewOctets
 few_octets v =
     let o = v.link.station.outgoing in
     let circuits = of_circuits v.layer.circuits.items in
-    omega (arith, o.places.short_ones, o.long_ones, circuits)
+    omega (arith, o.places.short_ones, o.long_ones, circuits, v.writing.room)
 
 pub few_in_all : law.FewOctetsInAll
 few_in_all c v s fits =
     let n : ℕ = length v.layer.circuits.items in
-    let all : octets_held v ≤ 236539 + (589815 + c.channels.message) * n =
+    let all : octets_held v ≤ 236796 + (589815 + c.channels.message) * n =
     rw (add-mul 589815 c.channels.message n)
-    (subst (λ (m : ℕ). octets_held v ≤ 236539 + (589815 * n + m))
+    (subst (λ (m : ℕ). octets_held v ≤ 236796 + (589815 * n + m))
     (of_parts c.channels.message v.layer.circuits.items (λ k u is. (fits.layer.circuits k u is).longest))
     (few_octets v)) in
-    subst (λ (m : ℕ). octets_held v ≤ 236539 + (589815 + c.channels.message) * m) fits.layer.channels all
+    subst (λ (m : ℕ). octets_held v ≤ 236796 + (589815 + c.channels.message) * m) fits.layer.channels all

@@ -19,7 +19,6 @@ use Rattle.x25_station.specs.Config.{Settings}
 use Rattle.x25_station.specs.Station.{Station}
 use Rattle.x25_station.specs.Step.{Step, Outcome, Did, Refused, unless}
 use Rattle.x25_station.specs.laws.KeepLaw.{IsKept, KeptBy}
-use Rattle.x25_station.specs.code.PlainEntry.{plain_entry}
 use Rattle.x25_station.specs.code.FitsParts.{FitsParts, AreMeant}
 use Rattle.x25_station.specs.code.FitsStation.{LeavesParts, Sends, Enters, Refuses, RefusesOnly}
 use Rattle.x25_station.proofs.ResultLemmas.{ok_err, err_is}
@@ -37,7 +36,7 @@ pub sends_unless : (c : Settings) (r : code_step.Step) (o : Option LinkError) (s
 sends_unless c r None step frames = frames
 sends_unless c r (Some e) step frames = tt
 
-pub enters_unless : (r : code_step.Step) (o : Option LinkError) (step : Step) → map plain_entry r.entries.items ≡ step.entries
+pub enters_unless : (r : code_step.Step) (o : Option LinkError) (step : Step) → r.entries.items ≡ step.entries
     → Enters {T = Unit} r (Ok tt) (unless o step)
 enters_unless r None step entries = entries
 enters_unless r (Some e) step entries = tt

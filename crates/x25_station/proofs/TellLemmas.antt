@@ -1,5 +1,5 @@
 -- What a circuit tells is entered one notice after another.
-use Rattle.std.proofs.Common.{◌≡◌, ℕ, List, [], ◌∷◌, ◌++◌, Option, Some, Bool, true, false, if◌then◌else◌, refl, ap, sym, subst, ◌∙◌}
+use Rattle.std.proofs.Common.{◌≡◌, ℕ, List, [], ◌∷◌, ◌++◌, Option, Some, None, Bool, true, false, if◌then◌else◌, refl, ap, sym, subst, ◌∙◌}
 use Rattle.std.proofs.lemmas.List.{append_assoc}
 use Rattle.x25_circuit.specs.declared.notice.Notice.{Notice}
 use Rattle.x25_circuit.specs.Notice.{collided}
@@ -23,6 +23,15 @@ told_both l h b o n before mid after is first second = second ∙ ap (λ (es : L
         ++ station_told l (notices_on h (notices_of b (Some n)))
     at true = append_assoc before (entry_told l (on_channel h collided) ∷ []) (entry_told l (on_channel h (plain_notice n)) ∷ [])
     at false = append_assoc before [] (entry_told l (on_channel h (plain_notice n)) ∷ [])
+
+-- and where no notice is behind
+pub told_alone : (l : Layer) (h : ℕ) (b : Bool) (o : Option Notice) (after : List StationEntry) → o ≡ None → after ≡ told_first h l b
+    → after ≡ station_told l (notices_on h (notices_of b o))
+told_alone l h b o after is first = first ∙ at b ∙ ap (λ (x : Option Notice). station_told l (notices_on h (notices_of b x))) (sym is)
+  where
+    at : (b : Bool) → told_first h l b ≡ station_told l (notices_on h (notices_of b None))
+    at true = refl
+    at false = refl
 
 -- each of them may be told
 pub notice_tellable : (c : LayerSettings) (h : ℕ) (b : Bool) (o : Option Notice) (n : Notice) → o ≡ Some n → AreTellable c (notices_on h (notices_of b o))

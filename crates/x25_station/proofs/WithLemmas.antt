@@ -1,5 +1,6 @@
 -- A call of the layer over the link with something given beside its packet, which it has.
-use Rattle.std.proofs.Common.{◌≡◌, ℕ, List, Option, Some, None, Result, Ok, Err, IsErrAnd, Bool, true, false, ◌&&◌, if◌then◌else◌, refl, sym, subst}
+use Rattle.std.proofs.Common.{◌≡◌, ℕ, List, Option, Some, None, Result, Ok, Err, IsErrAnd, Bool, true, false, if◌then◌else◌, refl, ap, sym, subst}
+use Rattle.std.specs.Prelude.{IfSome, IsSome}
 use Rattle.x25_packet.specs.Packet.{PlainPacket, accept, clear}
 use Rattle.x25_packet.specs.Spelling.{spelling_of}
 use Rattle.x25_link.specs.code.FitsLink.{ShownLink, LinkState, FitsWhole}
@@ -21,11 +22,11 @@ use Rattle.x25_layer.specs.Calls.{LayerRequest, Asks, Dials, LayerOutcome, Accep
 use Rattle.x25_layer.specs.Calls.{if_at_once, puts_at_once, dialled, free_channel}
 use Rattle.x25_layer.specs.laws.Rounds.{Answered, Went, Refuses, begin, rounds, went}
 use Rattle.x25_layer.specs.code.FitsLayer.{FitsLayer}
-use Rattle.x25_layer.specs.code.Answering.{Gives, Answers}
+use Rattle.x25_layer.specs.code.Answering.{Gives, Answers, spelled}
 use Rattle.x25_given.specs.Given.{PlainGiven}
 use Rattle.x25_station.specs.Giving.{suits}
-use Rattle.x25_station.specs.code.OverLink.{LayerGives, all_with, seen_with, GoesWith, DrivesWith}
-use Rattle.x25_station.proofs.DriveLemmas.{IsTold, told_in, layer_not, on_err}
+use Rattle.x25_station.specs.code.OverLink.{LayerGives, all_with, seen_with, GoesWith, DrivesWith, all_asked, seen_asked, DrivesAsked}
+use Rattle.x25_station.proofs.DriveLemmas.{IsTold, DrivesLayer, DrivesLink, told_in, layer_not, on_err, same_err, drove, drove_not}
 
 -- ---- all but a message has a packet
 
@@ -140,19 +141,59 @@ link_went u g c mid below below₂ x (Accepted next None) puts fits gives drives
 link_went u g c mid below below₂ x (Accepted next (Some p)) puts fits gives drives = drives c next p x gives.0 gives.1 fits
 link_went u g c mid below below₂ x (Declined e) puts fits gives drives = tt
 
+-- with or without what is given
+
+no_packet : (let p : Option PlainPacket = None in IsSome p) → ⊥
+no_packet first = cc
+
+abbrev pub AskedLayer : Option PlainGiven → layer_code.Layer → ShownLink → layer_code.Layer → Type 0
+AskedLayer o mid below new = (c : LayerSettings) (l : Layer) (packet : Option PlainPacket) (x : LinkState) → FitsLayer c mid l → mid.sheet ≡ spelled packet
+    → FitsWhole below x → IfSome o (λ g. IsSome packet) → FitsLayer c new (rounds (seen_asked o x) c (begin l packet)).layer
+
+abbrev pub AskedLink : Option PlainGiven → layer_code.Layer → ShownLink → ShownLink → Type 0
+AskedLink o mid below below₂ = (c : LayerSettings) (l : Layer) (packet : Option PlainPacket) (x : LinkState) → FitsLayer c mid l → mid.sheet ≡ spelled packet
+    → FitsWhole below x → IfSome o (λ g. IsSome packet) → FitsWhole below₂ (all_asked o x (rounds (seen_asked o x) c (begin l packet)).put)
+
+pub layer_without : (o : Option PlainGiven) (mid new : layer_code.Layer) (below : ShownLink) → o ≡ None → DrivesLayer mid below new
+    → AskedLayer o mid below new
+layer_without o mid new below is drives = subst (λ (n : Option PlainGiven). AskedLayer n mid below new) (sym is)
+    (λ c l packet x fits put link first. drives c l packet x fits put link)
+
+pub link_without : (o : Option PlainGiven) (mid : layer_code.Layer) (below below₂ : ShownLink) → o ≡ None → DrivesLink mid below below₂
+    → AskedLink o mid below below₂
+link_without o mid below below₂ is drives = subst (λ (n : Option PlainGiven). AskedLink n mid below below₂) (sym is)
+    (λ c l packet x fits put link first. drives c l packet x fits put link)
+
+pub layer_with : (o : Option PlainGiven) (g : PlainGiven) (mid new : layer_code.Layer) (below : ShownLink) → o ≡ Some g → WithLayer g mid below new
+    → AskedLayer o mid below new
+layer_with o g mid new below is drives = subst (λ (n : Option PlainGiven). AskedLayer n mid below new) (sym is) by
+  where
+    by : AskedLayer (Some g) mid below new
+    by c l None x fits put link first = absurd (no_packet first)
+    by c l (Some p) x fits put link first = drives c l p x fits put link
+
+pub link_with : (o : Option PlainGiven) (g : PlainGiven) (mid : layer_code.Layer) (below below₂ : ShownLink) → o ≡ Some g → WithLink g mid below below₂
+    → AskedLink o mid below below₂
+link_with o g mid below below₂ is drives = subst (λ (n : Option PlainGiven). AskedLink n mid below below₂) (sym is) by
+  where
+    by : AskedLink (Some g) mid below below₂
+    by c l None x fits put link first = absurd (no_packet first)
+    by c l (Some p) x fits put link first = drives c l p x fits put link
+
 pub drove_with : {T : Type 0} (u : T) (g : PlainGiven) (s : code.LinkState) (old mid new : layer_code.Layer) (below below₂ : ShownLink)
     (request : LayerRequest) → IsTold s below → ((c : LayerSettings) (l : Layer) → LayerPuts (asked_where c s.is_up s.is_full l request))
-    → (let r : Result T LayerError = Ok u in Answers old mid r s request) → WithLayer g mid below new → WithLink g mid below below₂
+    → (let r : Result T LayerError = Ok u in Answers old mid r s request) → AskedLayer (Some g) mid below new → AskedLink (Some g) mid below below₂
     → (let r : Result T LayerError = Ok u in DrivesWith g old below new below₂ r request)
 drove_with {T = T} u g s old mid new below below₂ request told puts a layers links = record {
   layer = λ c l x fits link. subst (λ (n : Answered). let r : Result T LayerError = Ok u in LayerGives c new r n)
       (sym (told_in s below x (seen_with g x) told link refl refl c l request))
-      (layer_went u g c mid new below x _ (puts c l) link (a.does.gives c l fits) layers);
+      (layer_went u g c mid new below x _ (puts c l) link (a.does.gives c l fits) (λ d k p y h i j. layers d k (Some p) y h i j refl));
   link = λ c l x fits link. subst (λ (n : Answered). let r : Result T LayerError = Ok u in GoesWith below₂ g x r n)
       (sym (told_in s below x (seen_with g x) told link refl refl c l request))
-      (link_went u g c mid below below₂ x _ (puts c l) link (a.does.gives c l fits) links);
+      (link_went u g c mid below below₂ x _ (puts c l) link (a.does.gives c l fits) (λ d k p y h i j. links d k (Some p) y h i j refl));
   layer_stays = λ c l fits. tt;
   link_stays = λ x fits. tt;
+  missing = λ none. cc;
 }
 
 link_not : (T : Type 0) {U : Type 0} (r : Result U LayerError) (e : LayerError) (g : PlainGiven) (below₂ : ShownLink) (x : LinkState) (a : Answered)
@@ -171,10 +212,34 @@ drove_with_not T r e g s old mid below request told is a = record {
   link = λ c l x fits link. link_not T r e g below x _ is;
   layer_stays = λ c l fits. on_err r (a.does.stays c l fits);
   link_stays = λ x fits. on_err r fits;
+  missing = λ none. a.does.missing (ap (λ (f : LayerError). let x : Result T LayerError = Err f in x) (same_err r e error.NoMemory is none));
 }
 
--- of three parts
-pub last_part : (a b d : Bool) → (a && (b && d)) ≡ true → d ≡ true
-last_part true true d is = is
-last_part true false d is = absurd (cc)
-last_part false b d is = absurd (cc)
+-- ---- with or without
+
+pub drove_asked : {T : Type 0} (u : T) (o : Option PlainGiven) (s : code.LinkState) (old mid new : layer_code.Layer) (below below₂ : ShownLink)
+    (request : LayerRequest) → IsTold s below
+    → IfSome o (λ g. (c : LayerSettings) (l : Layer) → LayerPuts (asked_where c s.is_up s.is_full l request))
+    → (let r : Result T LayerError = Ok u in Answers old mid r s request) → AskedLayer o mid below new → AskedLink o mid below below₂
+    → (let r : Result T LayerError = Ok u in DrivesAsked o old below new below₂ r request)
+drove_asked u None s old mid new below below₂ request told puts a layers links = drove u s old mid new below below₂ request told a
+    (λ c l packet x fits put link. layers c l packet x fits put link tt) (λ c l packet x fits put link. links c l packet x fits put link tt)
+drove_asked u (Some g) s old mid new below below₂ request told puts a layers links =
+    drove_with u g s old mid new below below₂ request told puts a layers links
+
+pub drove_asked_not : {U : Type 0} (T : Type 0) (r : Result U LayerError) (e : LayerError) (o : Option PlainGiven) (s : code.LinkState)
+    (old mid : layer_code.Layer) (below : ShownLink) (request : LayerRequest) → IsTold s below → IsErrAnd r (λ f. f ≡ e)
+    → (let x : Result T LayerError = Err e in Answers old mid x s request) → DrivesAsked o old below mid below r request
+drove_asked_not T r e None s old mid below request told is a = drove_not T r e s old mid below request told is a
+drove_asked_not T r e (Some g) s old mid below request told is a = drove_with_not T r e g s old mid below request told is a
+
+-- what a request to a circuit puts, where it suits what is given
+pub puts_asked : (o : Option PlainGiven) (up full : Bool) (h : ℕ) (request : Request) → IfSome o (λ g. suits g (Asks h request) ≡ true)
+    → IfSome o (λ g. (c : LayerSettings) (l : Layer) → LayerPuts (asked_where c up full l (Asks h request)))
+puts_asked None up full h request is = tt
+puts_asked (Some g) up full h request is = λ c l. asked_puts g c up full l h request is
+
+pub puts_dialled : (o : Option PlainGiven) (up full : Bool) (called calling user : List ℕ) (proposal : Proposal)
+    → IfSome o (λ g. (c : LayerSettings) (l : Layer) → LayerPuts (asked_where c up full l (Dials called calling user proposal)))
+puts_dialled None up full called calling user proposal = tt
+puts_dialled (Some g) up full called calling user proposal = λ c l. dial_puts c up full l called calling user proposal

@@ -7,9 +7,7 @@ use Rattle.x25_circuit.specs.declared.params.Params.{Params}
 use Rattle.x25_circuit.specs.Calling.{Request, Accepts, Clears, Sends, Interrupts, Resets, SaysReady, SaysNotReady}
 use Rattle.x25_layer.specs.Layer.{Layer}
 use Rattle.x25_layer.specs.Calls.{LayerRequest, Asks, Dials, Restarts, PullsAll, asks_memory}
-use Rattle.x25_given.specs.Given.{PlainGiven, plain_given}
-use Rattle.x25_station.specs.declared.command.CallCmd.{CallCmd}
-use Rattle.x25_station.specs.declared.command.CallCmd.TheVariants as of_call
+use Rattle.x25_given.specs.Given.{PlainGiven, given_with}
 use Rattle.x25_station.specs.declared.command.Cmd.{Cmd}
 use Rattle.x25_station.specs.declared.command.Cmd.TheVariants as code
 
@@ -23,25 +21,25 @@ pub data Command : Type 0 where
   Probes : Command
   Relinks : Command
 
+-- with or without something given
+abbrev pub requesting : Option PlainGiven → LayerRequest → Command
+requesting None request = Requests request
+requesting (Some given) request = RequestsWith given request
+
 -- an acceptance with these packet sizes and windows, or with those proposed
 abbrev pub answer_in_brief : Option Params → Option Proposal
 answer_in_brief None = None
 answer_in_brief (Some params) = Some (in_brief params)
 
-abbrev pub request_of : CallCmd → LayerRequest
-request_of (of_call.Call called calling user params) =
-    Dials called.now calling.now user.now (in_brief (unwrap_or params default_params))
-request_of (of_call.Accept channel params) = Asks channel (Accepts (answer_in_brief params))
-request_of (of_call.Clear channel cause diagnostic) = Asks channel (Clears cause diagnostic)
-
 -- A call takes a free channel; the others name theirs. Where no packet sizes and windows are named, a call proposes the
 -- defaults, and an acceptance takes what is proposed.
 abbrev pub command_of : Cmd → Command
-command_of (code.Call called calling user params) =
-    Requests (Dials called.now calling.now user.now (in_brief (unwrap_or params default_params)))
-command_of (code.Accept channel params) = Requests (Asks channel (Accepts (answer_in_brief params)))
-command_of (code.Clear channel cause diagnostic) = Requests (Asks channel (Clears cause diagnostic))
-command_of (code.With given call) = RequestsWith (plain_given given) (request_of call)
+command_of (code.Call called calling user params given) =
+    requesting (given_with given) (Dials called.now calling.now user.now (in_brief (unwrap_or params default_params)))
+command_of (code.Accept channel params given) =
+    requesting (given_with given) (Asks channel (Accepts (answer_in_brief params)))
+command_of (code.Clear channel cause diagnostic given) =
+    requesting (given_with given) (Asks channel (Clears cause diagnostic))
 command_of (code.Send channel q d user) =
     Requests (Asks channel (Sends (record { q = q; d = d }) user.now))
 command_of (code.Interrupt channel user) = Requests (Asks channel (Interrupts user.now))
@@ -64,11 +62,11 @@ abbrev pub may_ask : Bool → LayerRequest → Bool
 may_ask wide (Asks h (Sends marks user)) = may_mark wide marks
 may_ask wide request = true
 
--- ---- a call, an acceptance and a message want memory for a message, and what is given for what is put
+-- ---- a call, an acceptance and a message want memory for a message
 
 abbrev pub may_lack : Command → Bool
 may_lack (Requests request) = asks_memory request
-may_lack (RequestsWith given request) = true
+may_lack (RequestsWith given request) = asks_memory request
 may_lack command = false
 
 -- ---- with the setting, calls and acceptances say all packet sizes and windows

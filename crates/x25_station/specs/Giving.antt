@@ -1,6 +1,6 @@
 -- What may be given beside the packet of a call, and how it is put: what is put is written with it (sections 5.2.1 to
 -- 5.2.3), and all else is as without (profile).
-use Rattle.std.specs.Prelude.{◌==◌, Bool, true, false, not, ◌&&◌, List, [], ◌∷◌, length}
+use Rattle.std.specs.Prelude.{◌==◌, Bool, true, false, not, ◌&&◌, List, [], ◌∷◌, length, Option, Some, None}
 use Rattle.x25_packet.specs.Packet.{PlainPacket}
 use Rattle.x25_packet.specs.Spelling.{spelling_of}
 use Rattle.x25_link.specs.Outgoing.{waits}
@@ -15,6 +15,7 @@ use Rattle.x25_given.specs.Given.{PlainGiven, may_give}
 use Rattle.x25_given.specs.Writing.{write}
 use Rattle.x25_station.specs.declared.error.StationError.{StationError}
 use Rattle.x25_station.specs.declared.error.StationError.TheVariants as error
+use Rattle.x25_station.specs.Command.{may_ask}
 use Rattle.x25_station.specs.Config.{Settings}
 use Rattle.x25_station.specs.Station.{behind, all_put}
 
@@ -28,6 +29,11 @@ suits g request = false
 -- by a station that reads packets in all their forms
 abbrev pub is_taken : Settings → PlainGiven → LayerRequest → Bool
 is_taken c g request = c.wide && (may_give g && suits g request)
+
+-- with or without something given
+abbrev pub may_ask_with : Bool → Option PlainGiven → LayerRequest → Bool
+may_ask_with wide None request = may_ask wide request
+may_ask_with wide (Some g) request = wide && (may_give g && suits g request)
 
 -- the first packet is put with what is given, and the others as they are
 abbrev pub all_given : LinkSettings → PlainGiven → List PlainPacket → Side → Side

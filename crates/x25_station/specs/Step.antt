@@ -193,6 +193,11 @@ gives_of c link g taken s request =
 abbrev pub gives : Settings → Station → PlainGiven → LayerRequest → Outcome
 gives c s g request = gives_of c s.link g (is_taken c g request) s request
 
+-- with or without something given
+abbrev pub asks : Settings → Station → Option PlainGiven → LayerRequest → Outcome
+asks c s None request = requests c s request
+asks c s (Some given) request = gives c s given request
+
 abbrev pub gives_said : Settings → Station → PlainGiven → LayerRequest → Outcome
 gives_said c s g request = gives c s g (said_by c.say_sizes s.layer request)
 

@@ -1,6 +1,6 @@
 -- What the code's values stand for: contracts and proofs need it, and a reader of the claims doesn't.
 pub mod PlainEntry
-pub mod Memory
+pub mod Entries
 pub mod FitsParts
 pub mod OverLink
 pub mod FitsStation

@@ -1,5 +1,5 @@
 //! What the user asks of the packet layer: the layer's call, and its entry.
-ghost use Rattle.std.specs.Prelude.{◌≡◌, ◌+◌, ℕ, [], ◌∷◌, Some, None, false, map, true};
+ghost use Rattle.std.specs.Prelude.{◌≡◌, [], ◌∷◌, Option, false, true};
 ghost use Rattle.x25_circuit.specs.Calling.{Calls, Accepts};
 ghost use Rattle.x25_circuit.specs.Request.{plain_request};
 ghost use Rattle.x25_circuit.specs.Params.{in_brief};
@@ -8,16 +8,17 @@ ghost use Rattle.x25_layer.specs.Calls.{Asks, Dials, Restarts, PullsAll, asks_me
 ghost use Rattle.x25_layer.specs.code.FitsLayer.{FitsLayer};
 ghost use Rattle.x25_layer.specs.laws.Transcript.{Asked as WasAsked, name_of};
 ghost use Rattle.x25_layer.specs.laws.TwoLayers.{shown};
-ghost use Rattle.x25_station.specs.Command.{Requests, answer_in_brief, command_of, may_ask, may_lack, proposal_said};
+ghost use Rattle.x25_station.specs.Command.{answer_in_brief, command_of, may_lack, proposal_said, requesting};
 ghost use Rattle.x25_station.specs.Entry.{of_channel};
 ghost use Rattle.x25_station.specs.code.Clock.{TellsTimer};
 ghost use Rattle.x25_station.specs.code.FitsStation.{FitsStation, Does, IsEmpty, RefusesOnly};
-ghost use Rattle.x25_station.specs.code.Memory.{IsBrief, all_memory, messages_asked, texts_asked};
-ghost use Rattle.x25_station.specs.code.PlainEntry.{plain_asked, plain_entry};
+ghost use Rattle.x25_circuit.specs.code.PartialMessage.{spares};
+ghost use Rattle.x25_station.specs.code.Entries.{IsBrief};
+ghost use Rattle.x25_station.specs.code.PlainEntry.{plain_asked};
 ghost use Rattle.x25_station.specs.Config.{Settings};
 ghost use Rattle.x25_station.specs.Station.{Station as State};
-ghost use Rattle.x25_given.specs.Given.{PlainGiven};
-ghost use Rattle.x25_station.specs.Step.{commands, gives, gives_said, requests};
+ghost use Rattle.x25_given.specs.Given.{PlainGiven, given_with};
+ghost use Rattle.x25_station.specs.Step.{asks, commands, requests};
 
 use crate::command::Cmd;
 use crate::driving::{ask, call, pull, restart, state};
@@ -25,25 +26,25 @@ use crate::entering::name_on;
 use crate::entries::Entries;
 use crate::entry::{Asked, Entry};
 use crate::error::StationError;
-use crate::giving::NOT_TAKEN;
+use crate::giving::{NOT_TAKEN, may_ask, may_dial};
 use crate::law::steps_keep_bounds;
-use crate::memory::Memory;
+use crate::lent::Lent;
 use crate::station::Station;
 use crate::step::Step;
 use x25_circuit::{Proposal, Request};
+use x25_given::Given;
 use x25_layer::{Layer, Params};
 use x25_link::holds_few;
 use x25_packet::Marks;
 
 // What is asked of a channel, for an entry: an acceptance shows the packet sizes and windows in force.
 #[inline(always)]
-fn asked_of(memory: &mut Memory, layer: &Layer, channel: u16, request: &Request<'_>) -> Asked
-    requires { memory.old ≡ all_memory }
-    ensures texts { memory.new.texts + texts_asked result ≡ 5 }
-    ensures messages { memory.new.messages + messages_asked result ≡ 1 }
+fn asked_of(lent: &mut Lent, layer: &Layer, channel: u16, request: &Request<'_>) -> Asked
+    requires { spares lent.old.message ≡ 1 }
+    ensures message { spares lent.new.message ≡ 1 }
     ensures asked { (c : LayerSettings) (l : LayerState) → FitsLayer c layer.now l
         → is_channel c.channels channel ≡ true → IsBrief (plain_request request.now)
-        → plain_asked result ≡ shown (l.circuits channel) (plain_request request.now) }
+        → plain_asked lent.new result ≡ shown (l.circuits channel) (plain_request request.now) }
 {
     match request {
         Request::Call {
@@ -51,12 +52,14 @@ fn asked_of(memory: &mut Memory, layer: &Layer, channel: u16, request: &Request<
             calling,
             user,
             proposal,
-        } => Asked::Call {
-            called: memory.text(called.as_bytes()),
-            calling: memory.text(calling.as_bytes()),
-            user: memory.text(user),
-            params: proposal.params(),
-        },
+        } => {
+            lent.called.set(called.as_bytes());
+            lent.calling.set(calling.as_bytes());
+            lent.user.set(user);
+            Asked::Call {
+                params: proposal.params(),
+            }
+        }
         Request::Accept { .. } => Asked::Accept {
             params: layer.params(channel).unwrap_or(Params::default()),
         },
@@ -64,13 +67,14 @@ fn asked_of(memory: &mut Memory, layer: &Layer, channel: u16, request: &Request<
             cause: *cause,
             diagnostic: *diagnostic,
         },
-        Request::Send { marks, user } => Asked::Send {
-            marks: *marks,
-            user: memory.message(user),
-        },
-        Request::Interrupt { user } => Asked::Interrupt {
-            user: memory.text(user),
-        },
+        Request::Send { marks, user } => {
+            lent.set_message(user);
+            Asked::Send { marks: *marks }
+        }
+        Request::Interrupt { user } => {
+            lent.user.set(user);
+            Asked::Interrupt
+        }
         Request::Reset { cause, diagnostic } => Asked::Reset {
             cause: *cause,
             diagnostic: *diagnostic,
@@ -86,29 +90,19 @@ pub(crate) fn enter_asked(layer: &Layer, entries: &mut Entries, channel: u16, re
     requires { entries.old.items ≡ [] }
     ensures { (c : LayerSettings) (l : LayerState) → FitsLayer c layer.now l
         → is_channel c.channels channel ≡ true → IsBrief (plain_request request.now)
-        → map plain_entry entries.new.items ≡ of_channel (record {
+        → entries.new.items ≡ of_channel (record {
           channel = channel;
           name = name_of l channel;
           said = WasAsked (shown (l.circuits channel) (plain_request request.now));
         }) ∷ [] }
 {
-    let asked = asked_of(&mut entries.memory, layer, channel, request);
+    let asked = asked_of(&mut entries.lent, layer, channel, request);
     let name = name_on(layer, channel);
     entries.list.push_reserved(Entry::Asked {
         channel,
         name,
         asked,
     });
-}
-
-// Whether this may be asked: confirmation by a station that reads packets in all their forms.
-fn may_ask(wide: bool, request: &Request<'_>) -> bool
-    ensures { (h : ℕ) → result ≡ may_ask wide (Asks h (plain_request request.now)) }
-{
-    match request {
-        Request::Send { marks, .. } => !marks.d || wide,
-        _ => true,
-    }
 }
 
 impl Station {
@@ -121,10 +115,10 @@ impl Station {
     /// configured and a call with 41 where no channel is free; then, but for a message, with 10 where 256 packets wait;
     /// and then as the circuit refuses it, with 30 to 34, and `Restart` with 34 where the user of this end may not give
     /// its cause. A message of which confirmation is asked is refused as without, and then with 34 where `Cfg::wide`
-    /// isn't set. `With` is refused as without what is given, and then with 34 where `Cfg::wide` isn't set, where that
-    /// isn't allowed (`Given::is_allowed`), where user data is given beside a call, and where D is beside a clearing.
-    /// Else 70 alone, and that of a call, an acceptance, a message and `With` alone: they want memory for a message of
-    /// their channel, or for what is given. The station is as before then.
+    /// isn't set. What is asked with something given is refused as without, and then with 34 where `Cfg::wide` isn't
+    /// set, where that isn't allowed (`Given::is_allowed`), where user data is given beside a call, and where D is
+    /// beside a clearing. Else 70 alone, and that of a call, an acceptance and a message alone: they want memory for a
+    /// message of their channel. The station is as before then.
     #[inline(always)]
     pub fn command(&mut self, command: Cmd<'_>, out: &mut Step) -> Result<(), StationError>
         ensures does { Does self.old self.new out.new result (λ c s. commands c s (command_of command.entry)) }
@@ -136,7 +130,7 @@ impl Station {
         out.clear();
         let ran = self.link.timer_runs();
         let answer = self.carry_out(&command, out);
-        out.timer = self.timer_behind(ran, false, false, out.entries.as_slice());
+        out.timer = self.timer_behind(ran, false, false, &out.entries);
         answer
     }
 
@@ -149,17 +143,23 @@ impl Station {
             → FitsStation c self.old s → RefusesOnly result (commands c s (command_of command.now)) }
     {
         match command {
-            Cmd::Accept { channel, params } => self.accept(*channel, *params, out),
+            Cmd::Accept {
+                channel,
+                params,
+                given,
+            } => self.accept(*channel, *params, *given, out),
             Cmd::Clear {
                 channel,
                 cause,
                 diagnostic,
+                given,
             } => self.ask(
                 *channel,
                 Request::Clear {
                     cause: *cause,
                     diagnostic: *diagnostic,
                 },
+                *given,
                 out,
             ),
             Cmd::Send {
@@ -173,11 +173,13 @@ impl Station {
                     marks: Marks { q: *q, d: *d },
                     user,
                 },
+                None,
                 out,
             ),
             Cmd::Interrupt { channel, user } => self.ask(
                 *channel,
                 Request::Interrupt { user },
+                None,
                 out,
             ),
             Cmd::Reset {
@@ -190,20 +192,21 @@ impl Station {
                     cause: *cause,
                     diagnostic: *diagnostic,
                 },
+                None,
                 out,
             ),
-            Cmd::Ready { channel } => self.ask(*channel, Request::Ready, out),
-            Cmd::NotReady { channel } => self.ask(*channel, Request::NotReady, out),
+            Cmd::Ready { channel } => self.ask(*channel, Request::Ready, None, out),
+            Cmd::NotReady { channel } => self.ask(*channel, Request::NotReady, None, out),
             Cmd::Call {
                 called,
                 calling,
                 user,
                 params,
+                given,
             } => {
                 let params = params.unwrap_or(Params::default());
-                self.call(called, calling, user, params, out)
+                self.call(called, calling, user, params, *given, out)
             }
-            Cmd::With { given, call } => self.give(given, call, out),
             Cmd::Restart { cause, diagnostic } => self.restart(*cause, *diagnostic, out),
             Cmd::Pull => self.pull_asked(out),
             Cmd::Connect => self.connect_asked(out),
@@ -237,11 +240,13 @@ impl Station {
         &mut self,
         channel: u16,
         params: Option<Params>,
+        given: Option<&Given<'_>>,
         out: &mut Step,
     ) -> Result<(), StationError>
         requires { IsEmpty out.old }
         ensures does { Does self.old self.new out.new result
-            (λ c s. commands c s (Requests (Asks channel (Accepts (answer_in_brief params))))) }
+            (λ c s. commands c s (requesting (given_with given.entry)
+            (Asks channel (Accepts (answer_in_brief params))))) }
     {
         match self.answer(channel, params) {
             Some(answer) => self.ask(
@@ -249,20 +254,18 @@ impl Station {
                 Request::Accept {
                     answer: Some(&answer),
                 },
+                given,
                 out,
             ),
-            None => self.ask(channel, Request::Accept { answer: None }, out),
+            None => self.ask(channel, Request::Accept { answer: None }, given, out),
         }
     }
 
     // What an acceptance says, where it says anything.
-    pub(crate) fn answer(&self, channel: u16, params: Option<Params>) -> Option<Proposal>
-        ensures asked { (c : Settings) (s : State) → FitsStation c self.now s
-            → commands c s (Requests (Asks channel (Accepts (answer_in_brief params))))
-            ≡ requests c s (Asks channel (Accepts result)) }
-        ensures given { (c : Settings) (s : State) (g : PlainGiven) → FitsStation c self.now s
-            → gives_said c s g (Asks channel (Accepts (answer_in_brief params)))
-            ≡ gives c s g (Asks channel (Accepts result)) }
+    fn answer(&self, channel: u16, params: Option<Params>) -> Option<Proposal>
+        ensures { (c : Settings) (s : State) (given : Option PlainGiven) → FitsStation c self.now s
+            → commands c s (requesting given (Asks channel (Accepts (answer_in_brief params))))
+            ≡ asks c s given (Asks channel (Accepts result)) }
     {
         if let Some(params) = params {
             return Some(Proposal::new(params, self.manner.say_sizes));
@@ -283,18 +286,19 @@ impl Station {
         calling: &str,
         user: &[u8],
         params: Params,
+        given: Option<&Given<'_>>,
         out: &mut Step,
     ) -> Result<(), StationError>
         requires { IsEmpty out.old }
-        ensures does { Does self.old self.new out.new result
-            (λ c s. commands c s (Requests (Dials called.now calling.now user.now (in_brief params)))) }
+        ensures does { Does self.old self.new out.new result (λ c s. commands c s
+            (requesting (given_with given.entry) (Dials called.now calling.now user.now (in_brief params)))) }
     {
         let proposal = self.proposal(params);
-        self.dial(called, calling, user, &proposal, out)
+        self.dial(called, calling, user, &proposal, given, out)
     }
 
     // What a call says.
-    pub(crate) fn proposal(&self, params: Params) -> Proposal
+    fn proposal(&self, params: Params) -> Proposal
         ensures { (c : Settings) (s : State) → FitsStation c self.now s
             → proposal_said c.say_sizes (in_brief params) ≡ result }
     {
@@ -308,21 +312,33 @@ impl Station {
         calling: &str,
         user: &[u8],
         proposal: &Proposal,
+        given: Option<&Given<'_>>,
         out: &mut Step,
     ) -> Result<(), StationError>
         requires { IsEmpty out.old }
         ensures does { Does self.old self.new out.new result
-            (λ c s. requests c s (Dials called.now calling.now user.now proposal.now)) }
+            (λ c s. asks c s (given_with given.entry) (Dials called.now calling.now user.now proposal.now)) }
     {
         steps_keep_bounds();
         holds_few();
+        if !may_dial(self.manner.wide, given) {
+            if let Some(error) = self
+                .layer
+                .call_refusal(state(&self.link), called, calling, user, proposal)
+            {
+                return Err(StationError::of_layer(error));
+            }
+            return Err(NOT_TAKEN);
+        }
         match call(
             &mut self.layer,
             &mut self.link,
+            &mut self.writing,
             called,
             calling,
             user,
             proposal,
+            given,
         ) {
             Ok(channel) => {
                 let request = Request::Call {
@@ -345,26 +361,34 @@ impl Station {
         &mut self,
         channel: u16,
         request: Request<'_>,
+        given: Option<&Given<'_>>,
         out: &mut Step,
     ) -> Result<(), StationError>
         requires { IsEmpty out.old }
         ensures does { Does self.old self.new out.new result
-            (λ c s. requests c s (Asks channel (plain_request request.entry))) }
+            (λ c s. asks c s (given_with given.entry) (Asks channel (plain_request request.entry))) }
         ensures only { asks_memory (Asks channel (plain_request request.entry)) ≡ false → (c : Settings) (s : State)
             → FitsStation c self.old s
-            → RefusesOnly result (requests c s (Asks channel (plain_request request.entry))) }
+            → RefusesOnly result (asks c s (given_with given.entry) (Asks channel (plain_request request.entry))) }
     {
         steps_keep_bounds();
         holds_few();
         // A copy is lent, so that the kind of the request itself stays known where this stands in its callers' place.
         let asked = request;
-        if !may_ask(self.manner.wide, &asked) {
+        if !may_ask(self.manner.wide, &asked, given) {
             if let Some(error) = self.layer.refusal(state(&self.link), channel, &asked) {
                 return Err(StationError::of_layer(error));
             }
             return Err(NOT_TAKEN);
         }
-        match ask(&mut self.layer, &mut self.link, channel, request) {
+        match ask(
+            &mut self.layer,
+            &mut self.link,
+            &mut self.writing,
+            channel,
+            request,
+            given,
+        ) {
             Ok(()) => {
                 enter_asked(&self.layer, &mut out.entries, channel, &asked);
                 self.link.swap_frames(&mut out.frames);

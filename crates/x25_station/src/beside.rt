@@ -1,9 +1,9 @@
 //! What a packet brings beside what the station takes it for.
 ghost use Rattle.std.specs.Prelude.{◌≡◌, true};
 ghost use Rattle.x25_station.specs.Entry.{entries_beside};
-ghost use Rattle.x25_station.specs.Beside.{AreFew, beside_in, beside_kind, of_block, of_fields, plain_beside};
+ghost use Rattle.x25_station.specs.Beside.{AreFew, beside_in, beside_kind, of_fields, plain_beside};
 ghost use Rattle.x25_station.specs.Beside.{may_diagnose, without_user};
-ghost use Rattle.x25_packet.specs.Block.{plain_fields, optional_at};
+ghost use Rattle.x25_packet.specs.Block.{plain_fields};
 ghost use Rattle.x25_packet.specs.Form.{plain_kind};
 
 use x25_packet::codes::DIAGNOSTIC;
@@ -46,40 +46,16 @@ fn without_user<'a>(fields: Option<Fields<'a>>) -> Option<Fields<'a>>
     }
 }
 
-fn of_body<'a>(a: bool, body: &'a [u8]) -> Beside<'a>
-    ensures { plain_beside result ≡ of_block (optional_at a body.now) }
-{
-    if body.is_empty() {
-        return Beside::Nothing;
-    }
-    of_fields(Block::of(a, body).fields)
-}
-
 fn beside_kind<'a>(a: bool, kind: Kind<'a>) -> Beside<'a>
     ensures { plain_beside result ≡ beside_kind (plain_kind a kind.entry) }
 {
     match kind {
         Kind::Call { body } => of_fields(without_user(Block::of(a, body).fields)),
-        Kind::Accept { body } | Kind::ClearConf { body } => of_body(a, body),
-        Kind::ExtendedClear { body, .. } => of_fields(Block::of(a, body).fields),
+        Kind::Accept { body } | Kind::ClearConf { body } | Kind::ExtendedClear { body, .. } => {
+            of_fields(Block::of(a, body).fields)
+        }
         Kind::Diagnostic { code, .. } => Beside::Diagnostic(code),
         _ => Beside::Nothing,
-    }
-}
-
-/// What octets bring beside the packet that a station takes them for, where it reads packets in all their forms.
-/// Nothing where they are a packet in the form that it writes, or none. A CALL may have 128 octets of user data here.
-fn read_beside<'a>(octets: &'a [u8]) -> Beside<'a>
-    ensures exact { plain_beside result ≡ beside_in true octets.now }
-    // At most 109 octets of facilities, and 128 of user data.
-    ensures few { AreFew (plain_beside result) }
-{
-    if decode_within(FAST_SELECT_OCTETS, octets).is_ok() {
-        return Beside::Nothing;
-    }
-    match decode(FAST_SELECT_OCTETS, octets) {
-        Ok(packet) => beside_kind(packet.bit_8, packet.kind),
-        Err(_) => Beside::Nothing,
     }
 }
 
@@ -93,15 +69,24 @@ fn may_diagnose(octets: &[u8]) -> bool
     }
 }
 
-/// What octets bring beside the packet that a station takes them for, and its user is told: fields beside what is told
-/// on this channel, or a DIAGNOSTIC. No other octets are read again.
+/// What octets bring beside the packet that a station takes them for, where it reads packets in all their forms, and
+/// its user is told: fields beside what is told on this channel, or a DIAGNOSTIC. No other octets are read again.
+///
+/// Nothing where they are a packet in the form that it writes, or none. A CALL may have 128 octets of user data here.
 pub(crate) fn beside_of<'a>(octets: &'a [u8], channel: Option<u16>) -> Beside<'a>
     ensures told { entries_beside (plain_beside result) channel ≡ entries_beside (beside_in true octets.now) channel }
+    // At most 109 octets of facilities, and 128 of user data.
     ensures few { AreFew (plain_beside result) }
 {
     if channel.is_none() && !may_diagnose(octets) {
         reading_is_the_grammar();
         return Beside::Nothing;
     }
-    read_beside(octets)
+    if decode_within(FAST_SELECT_OCTETS, octets).is_ok() {
+        return Beside::Nothing;
+    }
+    match decode(FAST_SELECT_OCTETS, octets) {
+        Ok(packet) => beside_kind(packet.bit_8, packet.kind),
+        Err(_) => Beside::Nothing,
+    }
 }

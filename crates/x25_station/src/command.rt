@@ -2,7 +2,9 @@ use x25_given::Given;
 use x25_layer::Params;
 
 /// What the user of a station asks for. Channels are 1 to the number configured; addresses are texts of digits, and
-/// user data octets.
+/// user data octets. `given` goes beside a packet where `Cfg::wide` is set: facilities, behind those that the station
+/// writes itself, user data of an acceptance or a clearing, and the D bit of a call or an acceptance. User data of a
+/// call stands in the call itself.
 #[derive(Clone, Copy, Debug)]
 pub enum Cmd<'a> {
     /// Calls the other end on a free channel, with addresses of 0 to 15 digits and at most 16 octets of user data, or
@@ -12,25 +14,21 @@ pub enum Cmd<'a> {
         calling: &'a str,
         user: &'a [u8],
         params: Option<Params>,
+        given: Option<&'a Given<'a>>,
     },
     /// Accepts an incoming call with these packet sizes and windows, each from the one proposed to the default, or
     /// without `params` with those that it proposes.
     Accept {
         channel: u16,
         params: Option<Params>,
+        given: Option<&'a Given<'a>>,
     },
     /// Clears a call, with a cause that its end may give and any diagnostic.
     Clear {
         channel: u16,
         cause: u8,
         diagnostic: u8,
-    },
-    /// Does one of these with something given beside its packet, where `Cfg::wide` is set: facilities, which go behind
-    /// those that the station writes itself, user data of an acceptance or a clearing, and the D bit of a call or an
-    /// acceptance. User data of a call stands in the call itself.
-    With {
-        given: Given<'a>,
-        call: CallCmd<'a>,
+        given: Option<&'a Given<'a>>,
     },
     /// Sends a message of at most `Ranges::message` octets, with the qualifier `q`. With `d`, where `Cfg::wide` is set,
     /// confirmation of its delivery is asked by its last packet.
@@ -76,27 +74,4 @@ pub enum Cmd<'a> {
     Probe,
     /// Sets a link that is up up anew: the link goes down, as the entry behind its own tells, and SABM goes.
     Relink,
-}
-
-/// What the user of a station asks of a call whose packet has facilities and user data.
-#[derive(Clone, Copy, Debug)]
-pub enum CallCmd<'a> {
-    /// As `Cmd::Call`.
-    Call {
-        called: &'a str,
-        calling: &'a str,
-        user: &'a [u8],
-        params: Option<Params>,
-    },
-    /// As `Cmd::Accept`.
-    Accept {
-        channel: u16,
-        params: Option<Params>,
-    },
-    /// As `Cmd::Clear`.
-    Clear {
-        channel: u16,
-        cause: u8,
-        diagnostic: u8,
-    },
 }

@@ -5,7 +5,7 @@ ghost use Rattle.x25_layer.specs.Layer.{Layer as State};
 ghost use Rattle.x25_layer.specs.code.FitsLayer.{FitsLayer};
 ghost use Rattle.x25_station.specs.Confirming.{confirmed};
 ghost use Rattle.x25_station.specs.code.Confirming.{Stands, Tells};
-ghost use Rattle.x25_station.specs.code.Memory.{messages_in, texts_in};
+ghost use Rattle.x25_station.specs.code.Entries.{IsWhole};
 
 use crate::entry::Entry;
 use x25_layer::{Layer, Stretch};
@@ -40,8 +40,7 @@ pub(crate) fn unconfirmed_on(layer: &Layer, channel: u16) -> Option<Unconfirmed>
 pub(crate) fn confirmed(before: Option<Unconfirmed>, layer: &Layer) -> Option<Entry>
     ensures tells { (c : LayerSettings) (h : ℕ) (l next : State) → Stands c l h before → FitsLayer c layer.now next
         → Tells next h (confirmed c l next h) result }
-    ensures texts { IfSome result (λ entry. texts_in entry ≡ 0) }
-    ensures messages { IfSome result (λ entry. messages_in entry ≡ 0) }
+    ensures whole { IfSome result (λ entry. IsWhole entry) }
 {
     let Some(before) = before else {
         return None;

@@ -1,8 +1,8 @@
 //! The packet layer over the link: what a call of the layer has to put is put, and then the data packets that wait, in
 //! rounds (profile): channels in rising order, one packet each, until a round gives none, while fewer than 8 wait.
-ghost use Rattle.std.specs.Prelude.{◌≡◌, ◌==◌, ◌⊎◌, ◌+◌, ◌<◌, ◌≤◌, [], length, true, false, Option, Some, IfOk};
+ghost use Rattle.std.specs.Prelude.{◌≡◌, ◌==◌, ◌⊎◌, ◌+◌, ◌<◌, ◌≤◌, [], length, true, false, Option, Some, IfOk, IfSome};
+ghost use Rattle.std.specs.Prelude.{IsSome};
 ghost use Rattle.x25_packet.specs.Packet.{PlainPacket};
-ghost use Rattle.x25_packet.specs.Spelling.{spelling_of};
 ghost use Rattle.x25_circuit.specs.Request.{plain_request};
 ghost use Rattle.x25_link.specs.code.FitsLink.{LinkState as State, FitsWhole, after_put_to, limit_of, up_of};
 ghost use Rattle.x25_link.specs.code.FitsLink.{waiting_of};
@@ -14,13 +14,14 @@ ghost use Rattle.x25_layer.specs.laws.Rounds.{Putting, begin, rounds, comes_up};
 ghost use Rattle.x25_layer.specs.code.Answering.{spelled};
 ghost use Rattle.x25_layer.specs.code.FitsLayer.{FitsLayer};
 ghost use Rattle.x25_station.specs.code.OverLink.{after_all, after_octets, seen_at, Drives};
-ghost use Rattle.x25_station.specs.code.OverLink.{all_with, seen_with, DrivesWith};
+ghost use Rattle.x25_station.specs.code.OverLink.{all_asked, seen_asked, DrivesAsked};
+ghost use Rattle.x25_given.specs.Given.{given_with, may_give, plain_given};
 ghost use Rattle.x25_given.specs.Writing.{write};
 ghost use Rattle.x25_station.specs.Giving.{suits};
 ghost use Rattle.x25_station.specs.Receiving.{CanPut, PutsBehind};
 
 use x25_circuit::{Proposal, Request};
-use x25_given::Writing;
+use x25_given::{Given, Writing};
 use x25_layer::{Layer, LayerError, LinkState, calls_are_runs};
 use x25_link::Link;
 
@@ -114,6 +115,55 @@ pub(crate) fn drive(layer: &mut Layer, link: &mut Link)
     pull_all(layer, link);
 }
 
+// Puts what a call of the layer has to put, with what is given beside it, and pulls.
+fn drive_with(layer: &mut Layer, link: &mut Link, writing: &mut Writing, given: Option<&Given<'_>>)
+    requires allowed { IfSome (given_with given) (λ g. may_give g ≡ true) }
+    requires up { up_of link.old ≡ true }
+    requires free { (layer.old.sheet ≡ []) ⊎ (waiting_of link.old < 256) }
+    requires places { 16 ≤ places_left link.old.frames }
+    requires longest { 4099 ≤ limit_of link.old }
+    requires short { length layer.old.sheet ≤ 260 }
+    ensures layer { (c : LayerSettings) (l : LayerState) (packet : Option PlainPacket) (x : State)
+        → FitsLayer c layer.old l → layer.old.sheet ≡ spelled packet → FitsWhole link.old x
+        → IfSome (given_with given.entry) (λ g. IsSome packet)
+        → FitsLayer c layer.new (rounds (seen_asked (given_with given.entry) x) c (begin l packet)).layer }
+    ensures link { (c : LayerSettings) (l : LayerState) (packet : Option PlainPacket) (x : State)
+        → FitsLayer c layer.old l → layer.old.sheet ≡ spelled packet → FitsWhole link.old x
+        → IfSome (given_with given.entry) (λ g. IsSome packet)
+        → FitsWhole link.new (all_asked (given_with given.entry) x
+        (rounds (seen_asked (given_with given.entry) x) c (begin l packet)).put) }
+{
+    let Some(given) = given else {
+        drive(layer, link);
+        return;
+    };
+    if layer.to_put().is_empty() {
+        return;
+    }
+    put_with(link, layer.to_put(), writing, given);
+    pull_all(layer, link);
+}
+
+// Puts the octets of a packet with what is given.
+fn put_with(link: &mut Link, octets: &[u8], writing: &mut Writing, given: &Given<'_>)
+    requires allowed { may_give (plain_given given.now) ≡ true }
+    requires up { up_of link.old ≡ true }
+    requires free { waiting_of link.old < 256 }
+    requires places { 0 < places_left link.old.frames }
+    requires longest { 4099 ≤ limit_of link.old }
+    requires short { length octets.now ≤ 260 }
+    ensures link { (x : State) → FitsWhole link.old x
+        → FitsWhole link.new (after_put_to x (write (plain_given given.now) octets.now)) }
+    ensures places { places_left link.old.frames ≤ places_left link.new.frames + 1 }
+    ensures up { up_of link.new ≡ up_of link.old }
+    ensures longest { limit_of link.new ≡ limit_of link.old }
+{
+    match writing.written(given, octets) {
+        Some(written) => link.put(written).unwrap(),
+        None => link.put(octets).unwrap(),
+    }
+}
+
 /// LinkUp: RESTART is put alone.
 pub(crate) fn come_up_alone(layer: &mut Layer, link: &mut Link)
     requires put { CanPut link.old }
@@ -124,20 +174,25 @@ pub(crate) fn come_up_alone(layer: &mut Layer, link: &mut Link)
     put(link, layer.to_put());
 }
 
-/// What a user asks of the circuit of a channel.
+/// What a user asks of the circuit of a channel, with what is given beside its packet.
 #[inline(always)]
 pub(crate) fn ask(
     layer: &mut Layer,
     link: &mut Link,
+    writing: &mut Writing,
     channel: u16,
     request: Request<'_>,
+    given: Option<&Given<'_>>,
 ) -> Result<(), LayerError>
+    requires allowed { IfSome (given_with given) (λ g. may_give g ≡ true) }
+    requires suits { IfSome (given_with given) (λ g. suits g (Asks channel (plain_request request)) ≡ true) }
     requires longest { 4099 ≤ limit_of link.old }
     requires places { 16 ≤ places_left link.old.frames }
-    ensures { Drives layer.old link.old layer.new link.new result (Asks channel (plain_request request.entry)) }
+    ensures { DrivesAsked (given_with given.entry) layer.old link.old layer.new link.new result
+        (Asks channel (plain_request request.entry)) }
 {
     layer.ask(state(link), channel, request)?;
-    drive(layer, link);
+    drive_with(layer, link, writing, given);
     Ok(())
 }
 
@@ -170,105 +225,26 @@ pub(crate) fn pull(layer: &mut Layer, link: &mut Link) -> Result<(), LayerError>
     Ok(())
 }
 
-/// A new call.
+/// A new call, with what is given beside its packet.
 pub(crate) fn call(
     layer: &mut Layer,
     link: &mut Link,
+    writing: &mut Writing,
     called: &str,
     calling: &str,
     user: &[u8],
     proposal: &Proposal,
+    given: Option<&Given<'_>>,
 ) -> Result<u16, LayerError>
+    requires allowed { IfSome (given_with given) (λ g. may_give g ≡ true) }
     requires longest { 4099 ≤ limit_of link.old }
     requires places { 16 ≤ places_left link.old.frames }
-    ensures does { Drives layer.old link.old layer.new link.new result
+    ensures does { DrivesAsked (given_with given.entry) layer.old link.old layer.new link.new result
         (Dials called.now calling.now user.now proposal.now) }
     ensures channel { (c : LayerSettings) (l : LayerState) → FitsLayer c layer.old l
         → IfOk result (λ channel. free_channel c.circuit.role l.circuits c.channels ≡ Some channel) }
 {
     let channel = layer.call(state(link), called, calling, user, proposal)?;
-    drive(layer, link);
-    Ok(channel)
-}
-
-// Puts what a call of the layer has to put, with what is given, and pulls.
-fn drive_with(layer: &mut Layer, link: &mut Link, writing: Writing<'_>)
-    requires up { up_of link.old ≡ true }
-    requires free { (layer.old.sheet ≡ []) ⊎ (waiting_of link.old < 256) }
-    requires places { 16 ≤ places_left link.old.frames }
-    requires longest { 4099 ≤ limit_of link.old }
-    requires short { length layer.old.sheet ≤ 260 }
-    ensures layer { (c : LayerSettings) (l : LayerState) (packet : PlainPacket) (x : State) → FitsLayer c layer.old l
-        → layer.old.sheet ≡ spelling_of packet → FitsWhole link.old x
-        → FitsLayer c layer.new (rounds (seen_with writing.entry x) c (begin l (Some packet))).layer }
-    ensures link { (c : LayerSettings) (l : LayerState) (packet : PlainPacket) (x : State) → FitsLayer c layer.old l
-        → layer.old.sheet ≡ spelling_of packet → FitsWhole link.old x
-        → FitsWhole link.new (all_with writing.entry x
-        (rounds (seen_with writing.entry x) c (begin l (Some packet))).put) }
-{
-    if layer.to_put().is_empty() {
-        return;
-    }
-    put_with(link, layer.to_put(), writing);
-    pull_all(layer, link);
-}
-
-// Puts the octets of a packet with what is given.
-fn put_with(link: &mut Link, octets: &[u8], writing: Writing<'_>)
-    requires up { up_of link.old ≡ true }
-    requires free { waiting_of link.old < 256 }
-    requires places { 0 < places_left link.old.frames }
-    requires longest { 4099 ≤ limit_of link.old }
-    requires short { length octets.now ≤ 260 }
-    ensures link { (x : State) → FitsWhole link.old x
-        → FitsWhole link.new (after_put_to x (write writing.entry octets.now)) }
-    ensures places { places_left link.old.frames ≤ places_left link.new.frames + 1 }
-    ensures up { up_of link.new ≡ up_of link.old }
-    ensures longest { limit_of link.new ≡ limit_of link.old }
-{
-    match writing.written(octets) {
-        Some(written) => link.put(&written).unwrap(),
-        None => link.put(octets).unwrap(),
-    }
-}
-
-/// What a user asks of the circuit of a channel, with what is given beside its packet.
-pub(crate) fn ask_with(
-    layer: &mut Layer,
-    link: &mut Link,
-    writing: Writing<'_>,
-    channel: u16,
-    request: Request<'_>,
-) -> Result<(), LayerError>
-    requires packet { suits writing (Asks channel (plain_request request)) ≡ true }
-    requires longest { 4099 ≤ limit_of link.old }
-    requires places { 16 ≤ places_left link.old.frames }
-    ensures { DrivesWith writing.entry layer.old link.old layer.new link.new result
-        (Asks channel (plain_request request.entry)) }
-{
-    layer.ask(state(link), channel, request)?;
-    drive_with(layer, link, writing);
-    Ok(())
-}
-
-/// A new call, with what is given beside its packet.
-pub(crate) fn call_with(
-    layer: &mut Layer,
-    link: &mut Link,
-    writing: Writing<'_>,
-    called: &str,
-    calling: &str,
-    user: &[u8],
-    proposal: &Proposal,
-) -> Result<u16, LayerError>
-    requires longest { 4099 ≤ limit_of link.old }
-    requires places { 16 ≤ places_left link.old.frames }
-    ensures does { DrivesWith writing.entry layer.old link.old layer.new link.new result
-        (Dials called.now calling.now user.now proposal.now) }
-    ensures channel { (c : LayerSettings) (l : LayerState) → FitsLayer c layer.old l
-        → IfOk result (λ channel. free_channel c.circuit.role l.circuits c.channels ≡ Some channel) }
-{
-    let channel = layer.call(state(link), called, calling, user, proposal)?;
-    drive_with(layer, link, writing);
+    drive_with(layer, link, writing, given);
     Ok(channel)
 }

@@ -1,6 +1,7 @@
-//! Entries of what the packet layer tells, in memory of the step.
-ghost use Rattle.std.specs.Prelude.{◌≡◌, ◌+◌, ◌<◌, ◌≤◌, ◌++◌, [], ◌∷◌, length, map, Some, true};
+//! Entries of what the packet layer tells.
+ghost use Rattle.std.specs.Prelude.{◌≡◌, ◌+◌, ◌<◌, ◌++◌, [], ◌∷◌, length, map, Some, true};
 ghost use Rattle.std.specs.List.{sum_by};
+ghost use Rattle.x25_circuit.specs.code.PartialMessage.{spares};
 ghost use Rattle.x25_circuit.specs.code.Replies.{handed_over, plain_notice};
 ghost use Rattle.x25_layer.specs.Layer.{Layer as LayerState, LayerSettings, is_channel};
 ghost use Rattle.x25_layer.specs.code.FitsLayer.{FitsLayer};
@@ -10,13 +11,13 @@ ghost use Rattle.x25_station.specs.Entry.{bringing, entries_beside, of_channel, 
 ghost use Rattle.x25_station.specs.code.PlainEntry.{plain_entry, plain_name, plain_told};
 ghost use Rattle.x25_station.specs.Receiving.{IsShort, AreTellable};
 ghost use Rattle.x25_station.specs.Beside.{AreFew, plain_beside};
-ghost use Rattle.x25_station.specs.code.Memory.{GrowsBy, HasPlaces};
-ghost use Rattle.x25_station.specs.code.Memory.{Lends, messages_in, messages_told, texts_in, texts_told};
+ghost use Rattle.x25_station.specs.code.Entries.{GrowsBy, HasPlaces, comes_beside};
+ghost use Rattle.x25_station.specs.declared.lent.Lent.{Lent as Said};
 
 use crate::beside::Beside;
 use crate::entries::Entries;
 use crate::entry::{Entry, Told};
-use crate::memory::Memory;
+use crate::lent::Lent;
 use x25_circuit::Notice;
 use x25_layer::{Layer, Report, Stretch};
 use x25_packet::{called_digits, calling_digits, user_data};
@@ -38,19 +39,22 @@ pub(crate) fn name_on(layer: &Layer, channel: u16) -> Stretch
 }
 
 // Enters what was reported to the user of a configured channel, behind the other entries.
-fn tell(layer: &Layer, entries: &mut Vec<Entry>, channel: u16, told: Told)
-    requires { HasPlaces 1 entries.old }
-    ensures few { GrowsBy 1 entries.old entries.new }
-    ensures texts { sum_by texts_in entries.new.items ≡ sum_by texts_in entries.old.items + texts_told told }
-    ensures messages { sum_by messages_in entries.new.items
-        ≡ sum_by messages_in entries.old.items + messages_told told }
-    ensures entered { (c : LayerSettings) (l : LayerState) → FitsLayer c layer.now l
+fn tell(layer: &Layer, list: &mut Vec<Entry>, channel: u16, told: Told)
+    requires { HasPlaces 1 list.old }
+    ensures few { GrowsBy 1 list.old list.new }
+    ensures beside { (said : Said) → sum_by comes_beside (map (plain_entry said) list.new.items)
+        ≡ sum_by comes_beside (map (plain_entry said) list.old.items) }
+    ensures entered { (said : Said) (c : LayerSettings) (l : LayerState) → FitsLayer c layer.now l
         → is_channel c.channels channel ≡ true →
-        map plain_entry entries.new.items ≡ map plain_entry entries.old.items
-        ++ of_channel (record { channel = channel; name = name_of l channel; said = WasTold (plain_told told) }) ∷ [] }
+        map (plain_entry said) list.new.items ≡ map (plain_entry said) list.old.items
+        ++ of_channel (record {
+          channel = channel;
+          name = name_of l channel;
+          said = WasTold (plain_told said told);
+        }) ∷ [] }
 {
     let name = name_on(layer, channel);
-    entries.push_reserved(Entry::Told {
+    list.push_reserved(Entry::Told {
         channel,
         name,
         told,
@@ -58,57 +62,49 @@ fn tell(layer: &Layer, entries: &mut Vec<Entry>, channel: u16, told: Told)
 }
 
 // What a notice tells the user of a channel, where its user data are at most 128 octets.
-fn told_of(memory: &mut Memory, notice: Notice<'_>) -> Told
-    requires { 3 ≤ memory.old.texts }
-    ensures told { IsShort (plain_notice notice.entry) → plain_told result ≡ plain_notice notice.entry }
-    ensures texts { memory.new.texts + texts_told result ≡ memory.old.texts }
-    ensures few { texts_told result ≤ 3 }
-    ensures messages { memory.new.messages ≡ memory.old.messages }
-    ensures handed { messages_told result ≡ handed_over (Some notice.entry) }
+fn told_of(lent: &mut Lent, notice: Notice<'_>) -> Told
+    requires { spares lent.old.message + handed_over (Some notice) ≡ 1 }
+    ensures message { spares lent.new.message ≡ 1 }
+    ensures told { IsShort (plain_notice notice.entry)
+        → plain_told lent.new result ≡ plain_notice notice.entry }
 {
     match notice {
         Notice::Incoming { a, params, body } => {
-            let called = memory.digits(&called_digits(a, body));
-            let calling = memory.digits(&calling_digits(a, body));
-            let user = memory.text(user_data(a, body));
-            Told::Incoming {
-                called,
-                calling,
-                user,
-                params,
-            }
+            lent.called.set_digits(&called_digits(a, body));
+            lent.calling.set_digits(&calling_digits(a, body));
+            lent.user.set(user_data(a, body));
+            Told::Incoming { params }
         }
         Notice::Connected { params } => Told::Connected { params },
         Notice::Cleared { cause, diagnostic } => Told::Cleared { cause, diagnostic },
         Notice::ClearDone => Told::ClearDone,
         Notice::WasReset { cause, diagnostic } => Told::WasReset { cause, diagnostic },
         Notice::ResetDone => Told::ResetDone,
-        Notice::Delivered { marks, user } => Told::Delivered { marks, user },
+        Notice::Delivered { marks, user } => {
+            lent.message = Some(user);
+            Told::Delivered { marks }
+        }
         Notice::Interrupted { user } => {
-            let user = memory.text(user);
-            Told::Interrupted { user }
+            lent.user.set(user);
+            Told::Interrupted
         }
         Notice::InterruptDone => Told::InterruptDone,
         Notice::Fault { diagnostic } => Told::Fault { diagnostic },
     }
 }
 
-/// Enters what the layer reported: of a channel first that this end's own call was dropped, where it was.
-pub(crate) fn enter_told(
-    layer: &Layer,
-    memory: &mut Memory,
-    told: Report<'_>,
-    entries: &mut Vec<Entry>,
-)
-    requires texts { 3 ≤ memory.old.texts }
-    requires room { HasPlaces 2 entries.old }
-    ensures few { GrowsBy 2 entries.old entries.new }
-    ensures lends { Lends (handed_over_in told.entry) entries.old.items entries.new.items memory.old memory.new }
-    ensures least { memory.old.texts ≤ memory.new.texts + 3 }
+/// Enters what the layer reported, into a list that is empty: of a channel first that this end's own call was dropped,
+/// where it was.
+pub(crate) fn enter_told(layer: &Layer, lent: &mut Lent, told: Report<'_>, list: &mut Vec<Entry>)
+    requires message { spares lent.old.message + handed_over_in told ≡ 1 }
+    requires room { HasPlaces 2 list.old }
+    requires none { list.old.items ≡ [] }
+    ensures message { spares lent.new.message ≡ 1 }
+    ensures few { GrowsBy 2 list.old list.new }
+    ensures beside { (said : Said) → sum_by comes_beside (map (plain_entry said) list.new.items) ≡ 0 }
     ensures entered { (c : LayerSettings) (l : LayerState) → FitsLayer c layer.now l
         → AreTellable c (plain_report told.entry) →
-        map plain_entry entries.new.items ≡ map plain_entry entries.old.items
-        ++ station_told l (plain_report told.entry) }
+        map (plain_entry lent.new) list.new.items ≡ station_told l (plain_report told.entry) }
 {
     match told {
         Report::Nothing => {}
@@ -118,18 +114,18 @@ pub(crate) fn enter_told(
             notice,
         } => {
             if collided {
-                tell(layer, entries, channel, Told::Collided);
+                tell(layer, list, channel, Told::Collided);
             }
             if let Some(notice) = notice {
-                let told = told_of(memory, notice);
-                tell(layer, entries, channel, told);
+                let told = told_of(lent, notice);
+                tell(layer, list, channel, told);
             }
         }
         Report::Restarted { cause, diagnostic } => {
-            entries.push_reserved(Entry::WasRestarted { cause, diagnostic });
+            list.push_reserved(Entry::WasRestarted { cause, diagnostic });
         }
-        Report::RestartDone => entries.push_reserved(Entry::RestartDone),
-        Report::Fault { diagnostic } => entries.push_reserved(Entry::Fault { diagnostic }),
+        Report::RestartDone => list.push_reserved(Entry::RestartDone),
+        Report::Fault { diagnostic } => list.push_reserved(Entry::Fault { diagnostic }),
     }
 }
 
@@ -155,10 +151,10 @@ pub(crate) fn bringing(told: &Report<'_>) -> Option<u16>
 
 /// Enters what a packet brought beside what was told of it on this channel.
 pub(crate) fn enter_beside(beside: Beside<'_>, channel: Option<u16>, entries: &mut Entries)
-    requires texts { sum_by texts_in entries.old.items ≤ 3 }
+    requires none { sum_by comes_beside entries.old.items ≡ 0 }
     requires room { length entries.old.items < 3 }
     requires few { AreFew (plain_beside beside) }
-    ensures entered { map plain_entry entries.new.items ≡ map plain_entry entries.old.items
+    ensures entered { entries.new.items ≡ entries.old.items
         ++ entries_beside (plain_beside beside.entry) channel }
 {
     match (beside, channel) {

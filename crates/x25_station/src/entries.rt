@@ -1,31 +1,37 @@
 ghost use Rattle.std.specs.Prelude.{◌≡◌, ◌<◌, ◌≤◌, ◌++◌, [], ◌∷◌, length, map, nat_le, vec_capacity, IfOk};
 ghost use Rattle.std.specs.List.{sum_by};
+ghost use Rattle.x25_circuit.specs.code.PartialMessage.{spares};
 ghost use Rattle.x25_station.specs.Entry.{came_beside};
-ghost use Rattle.x25_station.specs.code.Memory.{IsWhole, messages_in, texts_in};
+ghost use Rattle.x25_station.specs.Timer.{is_of_link, tells_link as tell_link};
+ghost use Rattle.x25_station.specs.code.Entries.{IsWhole, comes_beside};
 ghost use Rattle.x25_station.specs.code.PlainEntry.{plain_entry};
+ghost use Rattle.x25_station.specs.declared.lent.Lent.{Lent as Said};
 
 use crate::entry::Entry;
-use crate::memory::Memory;
+use crate::lent::Lent;
 use crate::step::MOST_ENTRIES;
 use std::alloc::{AllocError, Global};
 use std::marker::Model;
 
-/// The entries of a step, in order, at most three. They own what they say, in memory that was made with the list and
-/// comes back to it.
+/// The entries of a step, in order, at most three, and what they say, in memory that is made with them. Contracts see
+/// them with that, as `items`.
 #[derive(Drop)]
 pub struct Entries {
     pub(crate) list: Vec<Entry>,
-    pub(crate) memory: Memory,
-    ghost few: { length list.items ≤ 3 },
-    ghost whole: { IsWhole list memory },
+    pub(crate) lent: Lent,
+    ghost few: { length (map (plain_entry lent) list.items) ≤ 3 },
+    ghost places: { vec_capacity list ≡ 3 },
+    ghost message: { spares lent.message ≡ 1 },
 }
 
 impl Model for Entries {
-    ghost use Rattle.x25_station.specs.code.Memory.{ShownEntries};
+    ghost use Rattle.std.specs.Prelude.{map};
+    ghost use Rattle.x25_station.specs.code.Entries.{ShownEntries};
+    ghost use Rattle.x25_station.specs.code.PlainEntry.{plain_entry};
 
     ghost Value = { ShownEntries };
 
-    ghost view = { λ e. record { items = e.list.items; few = e.few } };
+    ghost view = { λ e. record { lent = e.lent; items = map (plain_entry e.lent) e.list.items; few = e.few } };
 
     ghost invariant = { λ _. Unit {0} };
 }
@@ -35,9 +41,10 @@ impl Entries {
     pub fn new(alloc: Global) -> Result<Entries, AllocError>
         ensures { IfOk result (λ entries. entries.items ≡ []) }
     {
-        let list = Vec::with_capacity(alloc, MOST_ENTRIES)?;
-        let memory = Memory::new(alloc)?;
-        Ok(Entries { list, memory })
+        Ok(Entries {
+            list: Vec::with_capacity(alloc, MOST_ENTRIES)?,
+            lent: Lent::new(alloc)?,
+        })
     }
 
     /// How many entries there are.
@@ -57,52 +64,67 @@ impl Entries {
 
     /// Lends the entries.
     pub fn as_slice(&self) -> &[Entry]
-        ensures { result.now ≡ self.now.items }
+        ensures { map (plain_entry self.now.lent) result.now ≡ self.now.items }
     {
         self.list.as_slice()
     }
 
-    /// Puts an entry behind the others that has nothing of the memory.
+    /// Lends what they say.
+    pub fn lent(&self) -> &Lent
+        ensures { result.now ≡ self.now.lent }
+    {
+        &self.lent
+    }
+
+    /// Whether the link came up or went down.
+    pub(crate) fn tells_link(&self) -> bool
+        ensures { result ≡ tell_link self.now.items }
+    {
+        tells_link(self.list.as_slice())
+    }
+
+    /// Puts an entry behind the others that says all itself.
     pub(crate) fn push(&mut self, entry: Entry)
         requires place { length self.old.items < 3 }
-        requires texts { texts_in entry ≡ 0 }
-        requires messages { messages_in entry ≡ 0 }
-        ensures { self.new.items ≡ self.old.items ++ entry ∷ [] }
+        requires whole { IsWhole entry }
+        ensures { self.new.items ≡ self.old.items ++ plain_entry self.old.lent entry ∷ [] }
     {
         self.list.push_reserved(entry);
     }
 
-    /// Puts the entry of facilities and user data that came beside a packet behind the others.
+    /// Puts the entry of facilities and user data that came beside a packet behind the others, of which none is such.
     pub(crate) fn push_beside(&mut self, channel: u16, facilities: &[u8], user: &[u8])
-        requires texts { sum_by texts_in self.old.items ≤ 3 }
         requires place { length self.old.items < 3 }
-        ensures { length facilities.now ≤ 128 → length user.now ≤ 128 → map plain_entry self.new.items
-            ≡ map plain_entry self.old.items ++ came_beside channel facilities.now user.now ∷ [] }
+        requires none { sum_by comes_beside self.old.items ≡ 0 }
+        ensures { length facilities.now ≤ 128 → length user.now ≤ 128 →
+            self.new.items ≡ self.old.items ++ came_beside channel facilities.now user.now ∷ [] }
     {
-        let facilities = self.memory.text(facilities);
-        let user = self.memory.text(user);
-        self.list.push_reserved(Entry::Beside {
-            channel,
-            facilities,
-            user,
-        });
+        self.lent.facilities.set(facilities);
+        self.lent.beside.set(user);
+        self.list.push_reserved(Entry::Beside { channel });
     }
 
-    /// Lets go of all entries. Their memory comes back.
+    /// Takes all entries out. The memory of what they said serves other ones.
     pub(crate) fn clear(&mut self)
         ensures { self.new.items ≡ [] }
     {
-        while let Some(entry) = self.list.pop() {
-            self.memory.take_back(entry);
+        self.list.clear();
+    }
+}
+
+fn is_of_link(entry: &Entry) -> bool
+    ensures { (lent : Said) → result ≡ is_of_link (plain_entry lent entry.now) }
+{
+    matches!(entry, Entry::LinkUp | Entry::LinkDown(_))
+}
+
+fn tells_link(list: &[Entry]) -> bool
+    ensures { (lent : Said) → result ≡ tell_link (map (plain_entry lent) list.now) }
+{
+    for entry in list {
+        if is_of_link(entry) {
+            return true;
         }
     }
-
-    /// The list of the entries, with what they say.
-    pub fn into_vec(self) -> Vec<Entry>
-        ensures entries { result.items ≡ self.items }
-        ensures places { vec_capacity result ≡ 3 }
-    {
-        let Entries { list, .. } = self;
-        list
-    }
+    false
 }

@@ -1,12 +1,10 @@
-use crate::text::Text;
-use x25_circuit::Octets;
 use x25_layer::{Params, Stretch};
 use x25_link::Reason;
 use x25_packet::Marks;
 
 /// An entry of the transcript of a station (profile): what its user asked, what the link noted, or what the packet
-/// layer reported. It owns what it says, in memory of its step.
-#[derive(Debug, Drop)]
+/// layer reported. Addresses, user data, messages and facilities its step lends (`Entries::lent`).
+#[derive(Clone, Copy, Debug)]
 pub enum Entry {
     /// What the user of a channel asked, under the name of the stretch that stood then.
     Asked {
@@ -50,8 +48,6 @@ pub enum Entry {
     /// octets, and the user data, at most 128, of which a call has none here.
     Beside {
         channel: u16,
-        facilities: Text,
-        user: Text,
     },
     /// So many messages more of this stretch are confirmed, of those whose confirmation was asked, in their order.
     Confirmed {
@@ -66,39 +62,21 @@ pub enum Entry {
 }
 
 /// What the user of a channel asked.
-#[derive(Debug, Drop)]
+#[derive(Clone, Copy, Debug)]
 pub enum Asked {
     /// A call, with addresses of 0 to 15 figures and at most 16 octets of user data, or 128 where `Cfg::long_data` is
     /// set, and the packet sizes and windows that it proposes.
-    Call {
-        called: Text,
-        calling: Text,
-        user: Text,
-        params: Params,
-    },
+    Call { params: Params },
     /// That the incoming call be accepted, with the packet sizes and windows that are then in force.
-    Accept {
-        params: Params,
-    },
+    Accept { params: Params },
     /// That the call be cleared.
-    Clear {
-        cause: u8,
-        diagnostic: u8,
-    },
+    Clear { cause: u8, diagnostic: u8 },
     /// That a message be sent: its qualifier, whether confirmation of its delivery is asked, and at most 65,535 octets.
-    Send {
-        marks: Marks,
-        user: Octets,
-    },
+    Send { marks: Marks },
     /// That an interrupt of 1 to 32 octets be sent.
-    Interrupt {
-        user: Text,
-    },
+    Interrupt,
     /// That the call be reset.
-    Reset {
-        cause: u8,
-        diagnostic: u8,
-    },
+    Reset { cause: u8, diagnostic: u8 },
     /// That the other end send data packets.
     Ready,
     /// That the other end send no data packets for now.
@@ -106,48 +84,28 @@ pub enum Asked {
 }
 
 /// What was reported to the user of a channel.
-#[derive(Debug, Drop)]
+#[derive(Clone, Copy, Debug)]
 pub enum Told {
     /// The other end calls, and proposes packet sizes and windows. Addresses are lists of 0 to 15 digits, each 0 to 9.
-    Incoming {
-        called: Text,
-        calling: Text,
-        user: Text,
-        params: Params,
-    },
+    Incoming { params: Params },
     /// The other end accepted the call, with the packet sizes and windows in force.
-    Connected {
-        params: Params,
-    },
+    Connected { params: Params },
     /// This end's own call was dropped for the incoming one.
     Collided,
     /// The other end cleared the call.
-    Cleared {
-        cause: u8,
-        diagnostic: u8,
-    },
+    Cleared { cause: u8, diagnostic: u8 },
     /// This end's clearing is confirmed.
     ClearDone,
     /// The other end reset the call.
-    WasReset {
-        cause: u8,
-        diagnostic: u8,
-    },
+    WasReset { cause: u8, diagnostic: u8 },
     /// This end's reset is confirmed.
     ResetDone,
     /// A message came: its qualifier, whether confirmation of its delivery is asked, and at most 65,535 octets.
-    Delivered {
-        marks: Marks,
-        user: Octets,
-    },
+    Delivered { marks: Marks },
     /// An interrupt came.
-    Interrupted {
-        user: Text,
-    },
+    Interrupted,
     /// This end's interrupt is confirmed.
     InterruptDone,
     /// A packet was an error of procedure, which this end reports to the other by this diagnostic.
-    Fault {
-        diagnostic: u8,
-    },
+    Fault { diagnostic: u8 },
 }

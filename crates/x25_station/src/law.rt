@@ -97,7 +97,7 @@ pub fn steps_keep_bounds()
 /// What a station holds at most: 256 packets that wait in its link, 7 that were sent and aren't acknowledged, and for
 /// each channel 8 messages that wait, and one more whose last packet was pulled, until the next is begun, and one of
 /// which some packets came. A message, also one in part, has at most as many octets as the settings say. In all, with
-/// the places of packets and frames, it is at most 236,539 octets, and for each channel 589,815 and those of the
+/// the places of packets and frames, it is at most 236,796 octets, and for each channel 589,815 and those of the
 /// longest message.
 pub fn stations_hold_few()
     ensures wait { FewWait }

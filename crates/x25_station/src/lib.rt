@@ -13,8 +13,8 @@ mod entry;
 mod error;
 mod giving;
 mod law;
+mod lent;
 mod linking;
-mod memory;
 mod pulling;
 mod receiving;
 mod reusing;
@@ -24,7 +24,7 @@ mod step;
 mod text;
 mod timer;
 
-pub use command::{CallCmd, Cmd};
+pub use command::Cmd;
 pub use config::Cfg;
 pub use entries::Entries;
 pub use entry::{Asked, Entry, Told};
@@ -34,13 +34,13 @@ pub use law::{
     puts_beside_peers_are_readable, silence_is_asked, stations_ask_or_rest, stations_hold_few,
     steps_are_joined, steps_keep_bounds, ways_out_lead_on, what_is_given_is_told,
 };
+pub use lent::Lent;
 pub use station::Station;
 pub use status::{Channel, Status};
 pub use step::{MOST_ENTRIES, MOST_FRAMES, Step};
-pub use text::Text;
 pub use timer::Timer;
 pub use x25_bits::Role;
-pub use x25_circuit::{Marks, Octets};
+pub use x25_circuit::Marks;
 pub use x25_frame::N1;
 pub use x25_given::Given;
 pub use x25_layer::{Awaits, Ranges};

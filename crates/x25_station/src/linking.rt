@@ -1,11 +1,10 @@
 //! Calls that the link alone answers, and at LinkDown the packet layer.
-ghost use Rattle.std.specs.Prelude.{◌≡◌, ◌+◌, ◌<◌, ◌≤◌, ◌++◌, length, map, true, false, None};
+ghost use Rattle.std.specs.Prelude.{◌≡◌, ◌+◌, ◌<◌, ◌≤◌, ◌++◌, length, true, false, None};
 ghost use Rattle.x25_layer.specs.Layer.{Layer as LayerState, LayerSettings};
 ghost use Rattle.x25_layer.specs.code.FitsLayer.{FitsLayer};
 ghost use Rattle.x25_station.specs.Entry.{entries_down};
 ghost use Rattle.x25_station.specs.code.Clock.{TellsTimer};
 ghost use Rattle.x25_station.specs.code.FitsStation.{FitsStation, Does, IsEmpty, RefusesOnly};
-ghost use Rattle.x25_station.specs.code.PlainEntry.{plain_entry};
 ghost use Rattle.x25_station.specs.Config.{Settings};
 ghost use Rattle.x25_station.specs.Station.{Station as State};
 ghost use Rattle.x25_station.specs.Step.{connects_asked, disconnects, fires, layer_down, probes, relinks};
@@ -48,7 +47,7 @@ impl Station {
         out.clear();
         let ran = self.link.timer_runs();
         let answer = self.fire(out);
-        out.timer = self.timer_behind(ran, answer.is_ok(), false, out.entries.as_slice());
+        out.timer = self.timer_behind(ran, answer.is_ok(), false, &out.entries);
         answer
     }
 
@@ -131,7 +130,7 @@ pub(crate) fn note_down(layer: &mut Layer, down: Option<Reason>, entries: &mut E
     ensures nothing { down ≡ None → entries.new ≡ entries.old }
     ensures layer { (c : LayerSettings) (l : LayerState) → FitsLayer c layer.old l
         → FitsLayer c layer.new (layer_down l down) }
-    ensures entries { map plain_entry entries.new.items ≡ map plain_entry entries.old.items ++ entries_down down }
+    ensures entries { entries.new.items ≡ entries.old.items ++ entries_down down }
 {
     if let Some(reason) = down {
         layer.down();

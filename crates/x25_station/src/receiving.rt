@@ -1,5 +1,5 @@
 //! Octets that come: the step of the link, and what the packet layer does at it.
-ghost use Rattle.std.specs.Prelude.{◌≡◌, ◌<◌, ◌≤◌, ◌++◌, [], length, map, true, false, option_copied, Ok, IfSome};
+ghost use Rattle.std.specs.Prelude.{◌≡◌, ◌<◌, ◌≤◌, ◌++◌, [], length, true, false, option_copied, Ok, IfSome};
 ghost use Rattle.std.specs.List.{sum_by};
 ghost use Rattle.x25_link.specs.Station.{Side};
 ghost use Rattle.x25_link.specs.code.FitsLink.{FitsWhole, up_of};
@@ -11,8 +11,7 @@ ghost use Rattle.x25_station.specs.Entry.{bringing, entries_up, entries_noted};
 ghost use Rattle.x25_station.specs.Confirming.{named_by};
 ghost use Rattle.x25_station.specs.code.Clock.{SaysAcknowledged, TellsTimer};
 ghost use Rattle.x25_station.specs.code.FitsStation.{FitsStation, Does, IsEmpty};
-ghost use Rattle.x25_station.specs.code.Memory.{texts_in};
-ghost use Rattle.x25_station.specs.code.PlainEntry.{plain_entry};
+ghost use Rattle.x25_station.specs.code.Entries.{comes_beside};
 ghost use Rattle.x25_station.specs.Receiving.{kept_of, CanPut, PutsBehind};
 ghost use Rattle.x25_station.specs.Config.{Settings, link_settings, layer_settings};
 ghost use Rattle.x25_station.specs.Station.{Station as State};
@@ -47,7 +46,7 @@ fn come_up(layer: &mut Layer, link: &mut Link, entries: &mut Entries)
     requires put { CanPut link.old }
     requires entries { length entries.old.items < 3 }
     ensures puts { PutsBehind layer.old link.old layer.new link.new (λ view c l. (comes_up view c).step) }
-    ensures entries { map plain_entry entries.new.items ≡ map plain_entry entries.old.items ++ entries_up true }
+    ensures entries { entries.new.items ≡ entries.old.items ++ entries_up true }
 {
     entries.push(Entry::LinkUp);
     come_up_alone(layer, link);
@@ -68,20 +67,20 @@ fn hear(
         (λ view c l. (hears view c wide l packet.now).step) }
     ensures entries { (c : Settings) (l : LayerState) (t : Side) → FitsLayer (layer_settings c) layer.old l
         → FitsWhole link.old (kept_of (link_settings c) t) →
-        map plain_entry entries.new.items ≡ entries_of_answer (layer_answer (layer_settings c) wide l packet.now) }
+        entries.new.items ≡ entries_of_answer (layer_answer (layer_settings c) wide l packet.now) }
     ensures few { length entries.new.items ≤ 2 }
-    ensures texts { sum_by texts_in entries.new.items ≤ 3 }
+    ensures none { sum_by comes_beside entries.new.items ≡ 0 }
     ensures bringing { (c : Settings) (l : LayerState) (t : Side) → FitsLayer (layer_settings c) layer.old l
         → FitsWhole link.old (kept_of (link_settings c) t) →
         result ≡ bringing (layer_answer (layer_settings c) wide l packet.now).notices }
 {
     taking_keeps_octets();
-    let mut spare = entries.memory.take_spare();
+    let mut spare = entries.lent.message.take();
     let told = layer.packet(wide, packet, &mut spare);
     drive(layer, link);
-    entries.memory.give_spare(spare);
+    entries.lent.message = spare;
     let channel = bringing(&told);
-    enter_told(layer, &mut entries.memory, told, &mut entries.list);
+    enter_told(layer, &mut entries.lent, told, &mut entries.list);
     channel
 }
 
@@ -94,7 +93,7 @@ fn hear_all(layer: &mut Layer, link: &mut Link, packet: &[u8], entries: &mut Ent
         (λ view c l. (hears view c true l packet.now).step) }
     ensures entries { (c : Settings) (l : LayerState) (t : Side) → FitsLayer (layer_settings c) layer.old l
         → FitsWhole link.old (kept_of (link_settings c) t) →
-        map plain_entry entries.new.items ≡ entries_of_packet (layer_settings c) true l packet.now }
+        entries.new.items ≡ entries_of_packet (layer_settings c) true l packet.now }
 {
     let before = unconfirmed_on(layer, named(packet));
     let bringing = hear(layer, link, true, packet, entries);
@@ -121,7 +120,7 @@ fn follow(
         (λ view c l. layer_at view c wide l (option_copied packet.entry) notes.down notes.up) }
     ensures entries { (c : Settings) (l : LayerState) (t : Side) → FitsLayer (layer_settings c) layer.old l
         → FitsWhole link.old (kept_of (link_settings c) t) →
-        map plain_entry entries.new.items ≡ entries_noted notes
+        entries.new.items ≡ entries_noted notes
         ++ entries_heard (layer_settings c) wide l (option_copied packet.entry) notes.down notes.up }
 {
     note_down(layer, notes.down, entries);
@@ -153,7 +152,7 @@ impl Station {
         out.clear();
         let ran = self.link.timer_runs();
         let acknowledged = self.take(octets, out);
-        out.timer = self.timer_behind(ran, false, acknowledged, out.entries.as_slice());
+        out.timer = self.timer_behind(ran, false, acknowledged, &out.entries);
     }
 
     // A count is at its most: the octets are dropped, and the link goes down.

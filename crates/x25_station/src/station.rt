@@ -6,6 +6,7 @@ use crate::status::{Channel, Status};
 use std::alloc::Global;
 use x25_bits::Role;
 use x25_frame::N1;
+use x25_given::Writing;
 use x25_layer::{Awaits, Layer, LayerError, Stretch};
 use x25_link::{Link, LinkError};
 
@@ -17,7 +18,7 @@ pub struct Station {
     pub(crate) link: Link,
     pub(crate) layer: Layer,
     pub(crate) manner: Manner,
-    pub(crate) alloc: Global,
+    pub(crate) writing: Writing,
     ghost meant: { AreMeant manner link layer },
 }
 
@@ -56,6 +57,9 @@ impl Station {
         let Ok(layer) = Layer::with(alloc, role, cfg.channels, cfg.long_data) else {
             return Err(StationError::NoMemory);
         };
+        let Ok(writing) = Writing::new(alloc) else {
+            return Err(StationError::NoMemory);
+        };
         Ok(Station {
             link,
             layer,
@@ -63,7 +67,7 @@ impl Station {
                 say_sizes: cfg.say_sizes,
                 wide: cfg.wide,
             },
-            alloc,
+            writing,
         })
     }
 

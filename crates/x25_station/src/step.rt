@@ -1,11 +1,10 @@
-ghost use Rattle.std.specs.Prelude.{◌≡◌, map, IfOk};
+ghost use Rattle.std.specs.Prelude.{◌≡◌, IfOk};
 ghost use Rattle.x25_station.specs.code.FitsStation.{IsEmpty, RefusesForMemory};
-ghost use Rattle.x25_station.specs.code.PlainEntry.{plain_entry};
 ghost use Rattle.x25_station.specs.Timer.{tells_link as tell_link};
 
 use crate::entries::Entries;
 use crate::error::StationError;
-use crate::timer::{Timer, tells_link};
+use crate::timer::Timer;
 use std::alloc::Global;
 use x25_link::Frames;
 
@@ -51,9 +50,9 @@ impl Step {
 
     /// Whether the link came up or went down.
     pub fn tells_link(&self) -> bool
-        ensures { result ≡ tell_link (map plain_entry self.now.entries.items) }
+        ensures { result ≡ tell_link self.now.entries.items }
     {
-        tells_link(self.entries.as_slice())
+        self.entries.tells_link()
     }
 
     /// Takes all out. The memory of frames and entries stays, and becomes that of other ones.

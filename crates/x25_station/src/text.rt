@@ -9,9 +9,9 @@ use x25_packet::Halves;
 /// facilities have fewer.
 const LONGEST_TEXT: usize = 128;
 
-/// A text of an entry: at most 128 octets, in memory for so many. Contracts see the list of them.
-#[derive(Debug, Drop)]
-pub struct Text {
+/// A text that entries lend: at most 128 octets, in memory for so many. Contracts see the list of them.
+#[derive(Drop)]
+pub(crate) struct Text {
     octets: Vec<u8>,
 }
 
@@ -27,7 +27,7 @@ impl Model for Text {
 
 impl Text {
     /// No octets. Err: no memory.
-    pub fn new(alloc: Global) -> Result<Text, AllocError>
+    pub(crate) fn new(alloc: Global) -> Result<Text, AllocError>
         ensures { IfOk result (λ text. text ≡ []) }
     {
         Ok(Text {
@@ -36,7 +36,7 @@ impl Text {
     }
 
     /// Puts the first 128 of these octets in the place of its own.
-    pub fn set(&mut self, octets: &[u8])
+    pub(crate) fn set(&mut self, octets: &[u8])
         ensures { self.new ≡ take 128 octets.now }
     {
         let count = LONGEST_TEXT.min(octets.len());
@@ -54,7 +54,7 @@ impl Text {
     }
 
     /// Lends the octets.
-    pub fn as_slice(&self) -> &[u8]
+    pub(crate) fn as_slice(&self) -> &[u8]
         ensures items { result.now ≡ self.now }
         ensures short { length result.now ≤ 128 }
     {

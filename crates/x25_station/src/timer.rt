@@ -1,15 +1,14 @@
 //! What becomes of timer T1 at a step.
-ghost use Rattle.std.specs.Prelude.{◌≡◌, not, map};
+ghost use Rattle.std.specs.Prelude.{◌≡◌, not};
 ghost use Rattle.x25_station.specs.code.FitsStation.{FitsStation};
-ghost use Rattle.x25_station.specs.code.PlainEntry.{plain_entry};
 ghost use Rattle.x25_station.specs.Config.{Settings};
 ghost use Rattle.x25_station.specs.Station.{Station as State};
 ghost use Rattle.x25_station.specs.Step.{Did, Step as PlainStep};
 ghost use Rattle.x25_station.specs.Timer as definition;
 ghost use Rattle.x25_station.specs.Timer.{is_acknowledged, pulled_timer, runs as runs_in};
-ghost use Rattle.x25_station.specs.Timer.{standing as standing_timer, tells_link as tell_link, timer_at};
+ghost use Rattle.x25_station.specs.Timer.{standing as standing_timer, timer_at};
 
-use crate::entry::Entry;
+use crate::entries::Entries;
 use crate::station::Station;
 
 /// What becomes of timer T1 at a step, for one who has a clock: he stops it, sets it anew, or leaves it as it is.
@@ -53,18 +52,6 @@ impl Timer {
     }
 }
 
-/// Whether the link came up or went down.
-pub(crate) fn tells_link(entries: &[Entry]) -> bool
-    ensures { result ≡ tell_link (map plain_entry entries.now) }
-{
-    for entry in entries {
-        if matches!(entry, Entry::LinkUp | Entry::LinkDown(_)) {
-            return true;
-        }
-    }
-    false
-}
-
 impl Station {
     /// Behind no step T1 is as it was.
     pub(crate) fn standing(&self) -> Timer
@@ -80,13 +67,13 @@ impl Station {
         ran: bool,
         has_fired: bool,
         acknowledged: bool,
-        entries: &[Entry],
+        entries: &Entries,
     ) -> Timer
         ensures { (c : Settings) (s : State) (step : PlainStep) → ran ≡ runs_in s → FitsStation c self.now step.near
-            → map plain_entry entries.now ≡ step.entries → acknowledged ≡ is_acknowledged s.link step.near.link
+            → entries.now.items ≡ step.entries → acknowledged ≡ is_acknowledged s.link step.near.link
             → result ≡ timer_at s has_fired (Did step) }
     {
-        let is_noted = tells_link(entries);
+        let is_noted = entries.tells_link();
         let is_anew = !ran | (has_fired | (is_noted | acknowledged));
         Timer::of(self.link.timer_runs(), is_anew)
     }

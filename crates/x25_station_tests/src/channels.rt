@@ -24,12 +24,14 @@ const CLEAR: Cmd<'static> = Cmd::Clear {
     channel: 4095,
     cause: 0,
     diagnostic: 0,
+    given: None,
 };
 
 const CLEAR_BEHIND_IT: Cmd<'static> = Cmd::Clear {
     channel: 4096,
     cause: 0,
     diagnostic: 0,
+    given: None,
 };
 
 // Frames of the DCE on channel 4,095: CALL ACCEPTED, DATA, and CLEAR CONFIRMATION.

@@ -4,7 +4,7 @@ use crate::calls::{ask, receive, station};
 use crate::steps::{CALLS, DCE_RESTARTS, DTE_RESTARTS, RR_1, SABM, SETTINGS, UA};
 use std::alloc::Global;
 use x25_layer::Params;
-use x25_station::{CallCmd, Cfg, Cmd, Given, Role, Station, StationError, Step};
+use x25_station::{Cfg, Cmd, Given, Role, Station, StationError, Step};
 
 const WIDE: Cfg = Cfg {
     wide: true,
@@ -13,51 +13,53 @@ const WIDE: Cfg = Cfg {
 
 /// Facilities, user data and D that are given beside what is asked, and what that brings: the number of a refusal or 0,
 /// and the octets of the packet.
-type Row = (
-    &'static [u8],
-    &'static [u8],
-    bool,
-    CallCmd<'static>,
-    u8,
-    &'static [u8],
-);
+type Row = (&'static [u8], &'static [u8], bool, Asks, u8, &'static [u8]);
 
-const CALL: CallCmd<'static> = CallCmd::Call {
-    called: "1",
-    calling: "2",
-    user: &[0x68, 0x69],
-    params: None,
-};
+/// What is asked.
+#[derive(Clone, Copy)]
+enum Asks {
+    Call,
+    // Packets of 256 octets, and the windows that stand without a facility.
+    CallOfSizes,
+    Accept,
+    Clear(u16),
+}
 
-/// Packets of 256 octets, and the windows that stand without a facility.
-const SAYS_SIZES: CallCmd<'static> = CallCmd::Call {
-    called: "123",
-    calling: "",
-    user: &[],
-    params: Some(Params {
-        size_called: 8,
-        size_calling: 8,
-        win_called: 2,
-        win_calling: 2,
-    }),
-};
-
-const ACCEPT: CallCmd<'static> = CallCmd::Accept {
-    channel: 1,
-    params: None,
-};
-
-const CLEAR: CallCmd<'static> = CallCmd::Clear {
-    channel: 1,
-    cause: 0,
-    diagnostic: 0,
-};
-
-const CLEAR_2: CallCmd<'static> = CallCmd::Clear {
-    channel: 2,
-    cause: 0,
-    diagnostic: 0,
-};
+fn command<'a>(asks: Asks, given: &'a Given<'a>) -> Cmd<'a> {
+    let given = Some(given);
+    match asks {
+        Asks::Call => Cmd::Call {
+            called: "1",
+            calling: "2",
+            user: &[0x68, 0x69],
+            params: None,
+            given,
+        },
+        Asks::CallOfSizes => Cmd::Call {
+            called: "123",
+            calling: "",
+            user: &[],
+            params: Some(Params {
+                size_called: 8,
+                size_calling: 8,
+                win_called: 2,
+                win_calling: 2,
+            }),
+            given,
+        },
+        Asks::Accept => Cmd::Accept {
+            channel: 1,
+            params: None,
+            given,
+        },
+        Asks::Clear(channel) => Cmd::Clear {
+            channel,
+            cause: 0,
+            diagnostic: 0,
+            given,
+        },
+    }
+}
 
 const BEHIND_A_MARKER: &[u8] = &[0x01, 0x01, 0x00, 0xFF, 0x42, 0x07, 0x07];
 
@@ -84,26 +86,40 @@ const LONG: &[u8] = &[0x55; 129];
 
 // A DTE whose link is up: refusals, each of which leaves it as it was, a call, and its clearing.
 static DTE: [Row; 13] = [
-    (&[0x01], &[], false, CALL, 34, &[]),
-    (&[0xC9, 0x02, 0xAA], &[], false, CALL, 34, &[]),
-    (FIFTY_TWO, &[], false, CALL, 34, &[]),
-    (&[0x42, 0x07, 0x07], &[], false, CALL, 34, &[]),
-    (&[0x01, 0x01, 0x43, 0x02, 0x02], &[], false, CALL, 34, &[]),
-    (&[], &[0x68], false, CALL, 34, &[]),
-    (&[], LONG, false, CALL, 34, &[]),
-    (&[], &[], false, CLEAR_2, 42, &[]),
-    (&[0x01], &[], false, ACCEPT, 30, &[]),
+    (&[0x01], &[], false, Asks::Call, 34, &[]),
+    (&[0xC9, 0x02, 0xAA], &[], false, Asks::Call, 34, &[]),
+    (FIFTY_TWO, &[], false, Asks::Call, 34, &[]),
+    (&[0x42, 0x07, 0x07], &[], false, Asks::Call, 34, &[]),
+    (
+        &[0x01, 0x01, 0x43, 0x02, 0x02],
+        &[],
+        false,
+        Asks::Call,
+        34,
+        &[],
+    ),
+    (&[], &[0x68], false, Asks::Call, 34, &[]),
+    (&[], LONG, false, Asks::Call, 34, &[]),
+    (&[], &[], false, Asks::Clear(2), 42, &[]),
+    (&[0x01], &[], false, Asks::Accept, 30, &[]),
     (
         &[0x01, 0x80],
         &[],
         false,
-        SAYS_SIZES,
+        Asks::CallOfSizes,
         0,
         SIZES_AND_FAST_SELECT,
     ),
-    (&[], &[], false, CALL, 41, &[]),
-    (&[], &[], true, CLEAR, 34, &[]),
-    (&[], &[0x01, 0x02], false, CLEAR, 0, CLEARED_WITH_DATA),
+    (&[], &[], false, Asks::Call, 41, &[]),
+    (&[], &[], true, Asks::Clear(1), 34, &[]),
+    (
+        &[],
+        &[0x01, 0x02],
+        false,
+        Asks::Clear(1),
+        0,
+        CLEARED_WITH_DATA,
+    ),
 ];
 
 // A DCE that is called.
@@ -112,20 +128,20 @@ static DCE: [Row; 2] = [
         &[0xC9, 0x01, 0xAA],
         &[0x4F, 0x4B],
         true,
-        ACCEPT,
+        Asks::Accept,
         0,
         ACCEPTED_WITH_ALL,
     ),
-    (&[], &[], false, CLEAR, 0, CLEARED_AT_LENGTH),
+    (&[], &[], false, Asks::Clear(1), 0, CLEARED_AT_LENGTH),
 ];
 
 // A DTE that calls with D, and with packet sizes that a marker says are another's.
-static CALLS_WITH_D: [Row; 1] = [(BEHIND_A_MARKER, &[], true, CALL, 0, CALLED_WITH_D)];
+static CALLS_WITH_D: [Row; 1] = [(BEHIND_A_MARKER, &[], true, Asks::Call, 0, CALLED_WITH_D)];
 
 // A station that doesn't read packets in all their forms.
 static NARROW: [Row; 2] = [
-    (&[], &[], false, CALL, 34, &[]),
-    (&[], &[], false, CLEAR_2, 42, &[]),
+    (&[], &[], false, Asks::Call, 34, &[]),
+    (&[], &[], false, Asks::Clear(2), 42, &[]),
 ];
 
 fn number(answer: Result<(), StationError>) -> u8 {
@@ -146,14 +162,13 @@ fn carries(step: &Step, packet: &[u8]) -> bool {
 
 // The first row that brings something else.
 fn odd_row(station: &mut Station, out: &mut Step, rows: &[Row]) -> Option<usize> {
-    for (row, &(facilities, user, d, call, refusal, packet)) in rows.iter().enumerate() {
+    for (row, &(facilities, user, d, asks, refusal, packet)) in rows.iter().enumerate() {
         let given = Given {
             facilities,
             user,
             d,
         };
-        let command = Cmd::With { given, call };
-        if number(ask(station, command, out)) != refusal || !carries(out, packet) {
+        if number(ask(station, command(asks, &given), out)) != refusal || !carries(out, packet) {
             return Some(row);
         }
     }

@@ -148,6 +148,7 @@ impl Peer {
         let command = Cmd::Accept {
             channel: 1,
             params: None,
+            given: None,
         };
         if ask(&mut self.station, command, &mut self.out).is_ok() {
             self.seen.step(&self.out);

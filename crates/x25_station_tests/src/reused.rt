@@ -4,7 +4,7 @@ use crate::calls::{ask, reuse, station};
 use crate::steps::SETTINGS;
 use std::alloc::Global;
 use std::mem::replace;
-use x25_station::{Cmd, Entries, Role, Station, Step, Text};
+use x25_station::{Cmd, Entries, Role, Station, Step};
 
 /// SABM with P=1 of the DTE.
 static SABM: [u8; 4] = [0x01, 0x3f, 0xeb, 0xdf];
@@ -41,7 +41,7 @@ fn kept(alloc: Global, station: &mut Station, out: &mut Step) -> Option<(usize, 
     ask(station, Cmd::Connect, out).ok()?;
     let count = out.entries.len();
     let entries = replace(&mut out.entries, Entries::new(alloc).ok()?);
-    Some((count, entries.into_vec().len(), out.entries.len()))
+    Some((count, entries.len(), out.entries.len()))
 }
 
 fn kept_of_new(alloc: Global) -> Option<(usize, usize, usize)> {
@@ -52,18 +52,4 @@ fn kept_of_new(alloc: Global) -> Option<(usize, usize, usize)> {
 #[test]
 fn entries_are_kept_with_what_they_say(rt: HostRuntime) {
     assert_eq!(rt; kept_of_new(rt.alloc()), Some((1, 1, 0)));
-}
-
-// How many octets a text has of 200, and then of 3.
-fn lengths_of_text(alloc: Global) -> Option<(usize, usize)> {
-    let mut text = Text::new(alloc).ok()?;
-    text.set(&[7; 200]);
-    let long = text.as_slice().len();
-    text.set(&[7; 3]);
-    Some((long, text.as_slice().len()))
-}
-
-#[test]
-fn a_text_has_at_most_128_octets(rt: HostRuntime) {
-    assert_eq!(rt; lengths_of_text(rt.alloc()), Some((128, 3)));
 }

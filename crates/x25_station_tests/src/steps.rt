@@ -92,6 +92,7 @@ const BAD_CALL: Cmd<'static> = Cmd::Call {
     calling: "x",
     user: &[],
     params: None,
+    given: None,
 };
 
 pub const CALL: Cmd<'static> = Cmd::Call {
@@ -99,11 +100,13 @@ pub const CALL: Cmd<'static> = Cmd::Call {
     calling: "2",
     user: &[],
     params: None,
+    given: None,
 };
 
 const ACCEPT: Cmd<'static> = Cmd::Accept {
     channel: 1,
     params: None,
+    given: None,
 };
 
 const SEND: Cmd<'static> = Cmd::Send {

@@ -14,7 +14,7 @@ use std::alloc::{AllocError, Global};
 use x25_layer::{Params, Stretch};
 use x25_link::Reason;
 use x25_packet::Marks;
-use x25_station::{Asked, Entry, Role, Told};
+use x25_station::{Asked, Entry, Lent, Role, Told};
 use x25_text::Text;
 
 #[inline(always)]
@@ -155,44 +155,34 @@ fn push_under(word: &[u8], channel: u16, name: &Stretch, text: &mut Text) -> Res
 fn push_asked(
     channel: u16,
     name: &Stretch,
-    asked: &Asked,
+    asked: Asked,
+    lent: &Lent,
     text: &mut Text,
 ) -> Result<(), AllocError>
-    ensures { OnOk result (text.new ≡ text.old ++ request_text channel (plain_name name.now) (plain_asked asked.now)) }
+    ensures { OnOk result (text.new ≡ text.old ++ request_text channel (plain_name name.now)
+        (plain_asked lent.now asked)) }
 {
     match asked {
-        Asked::Call {
-            called,
-            calling,
-            user,
-            params,
-        } => {
+        Asked::Call { params } => {
             push_under(b"call", channel, name, text)?;
-            push_address(b" called=", called.as_slice(), text)?;
-            push_address(b" calling=", calling.as_slice(), text)?;
-            push_user(user.as_slice(), text)?;
-            push_params(*params, text)
+            push_address(b" called=", lent.called(), text)?;
+            push_address(b" calling=", lent.calling(), text)?;
+            push_user(lent.user(), text)?;
+            push_params(params, text)
         }
-        Asked::Accept { params } => push_agreed(b"accept", channel, *params, text),
+        Asked::Accept { params } => push_agreed(b"accept", channel, params, text),
         Asked::Clear { cause, diagnostic } => {
             push_at(b"clear", channel, text)?;
-            push_given(*cause, *diagnostic, text)
+            push_given(cause, diagnostic, text)
         }
-        Asked::Send { marks, user } => push_message(
-            b"send",
-            channel,
-            name,
-            *marks,
-            user.as_slice(),
-            text,
-        ),
-        Asked::Interrupt { user } => {
+        Asked::Send { marks } => push_message(b"send", channel, name, marks, lent.message(), text),
+        Asked::Interrupt => {
             push_under(b"int", channel, name, text)?;
-            push_user(user.as_slice(), text)
+            push_user(lent.user(), text)
         }
         Asked::Reset { cause, diagnostic } => {
             push_at(b"reset", channel, text)?;
-            push_given(*cause, *diagnostic, text)
+            push_given(cause, diagnostic, text)
         }
         Asked::Ready => push_at(b"ready", channel, text),
         Asked::NotReady => push_at(b"notready", channel, text),
@@ -200,50 +190,52 @@ fn push_asked(
 }
 
 /// Appends what was reported to the user of a channel.
-fn push_told(channel: u16, name: &Stretch, told: &Told, text: &mut Text) -> Result<(), AllocError>
-    ensures { OnOk result (text.new ≡ text.old ++ notice_text channel (plain_name name.now) (plain_told told.now)) }
+fn push_told(
+    channel: u16,
+    name: &Stretch,
+    told: Told,
+    lent: &Lent,
+    text: &mut Text,
+) -> Result<(), AllocError>
+    ensures { OnOk result (text.new ≡ text.old ++ notice_text channel (plain_name name.now)
+        (plain_told lent.now told)) }
 {
     match told {
-        Told::Incoming {
-            called,
-            calling,
-            user,
-            params,
-        } => {
+        Told::Incoming { params } => {
             push_under(b"incoming", channel, name, text)?;
-            push_digits(b" called=", called.as_slice(), text)?;
-            push_digits(b" calling=", calling.as_slice(), text)?;
-            push_user(user.as_slice(), text)?;
-            push_params(*params, text)
+            push_digits(b" called=", lent.called(), text)?;
+            push_digits(b" calling=", lent.calling(), text)?;
+            push_user(lent.user(), text)?;
+            push_params(params, text)
         }
-        Told::Connected { params } => push_agreed(b"connected", channel, *params, text),
+        Told::Connected { params } => push_agreed(b"connected", channel, params, text),
         Told::Collided => push_at(b"collided", channel, text),
         Told::Cleared { cause, diagnostic } => {
             push_at(b"cleared", channel, text)?;
-            push_reason(*cause, *diagnostic, text)
+            push_reason(cause, diagnostic, text)
         }
         Told::ClearDone => push_at(b"cleardone", channel, text),
         Told::WasReset { cause, diagnostic } => {
             push_at(b"wasreset", channel, text)?;
-            push_reason(*cause, *diagnostic, text)
+            push_reason(cause, diagnostic, text)
         }
         Told::ResetDone => push_at(b"resetdone", channel, text),
-        Told::Delivered { marks, user } => push_message(
+        Told::Delivered { marks } => push_message(
             b"message",
             channel,
             name,
-            *marks,
-            user.as_slice(),
+            marks,
+            lent.message(),
             text,
         ),
-        Told::Interrupted { user } => {
+        Told::Interrupted => {
             push_under(b"interrupt", channel, name, text)?;
-            push_user(user.as_slice(), text)
+            push_user(lent.user(), text)
         }
         Told::InterruptDone => push_at(b"intdone", channel, text),
         Told::Fault { diagnostic } => {
             push_at(b"fault", channel, text)?;
-            text.try_push_number(b" diag=", u64::from(*diagnostic))
+            text.try_push_number(b" diag=", u64::from(diagnostic))
         }
     }
 }
@@ -302,20 +294,20 @@ fn push_confirmed(
     text.try_push_number(b" count=", count as u64)
 }
 
-fn push_entry_text(entry: &Entry, text: &mut Text) -> Result<(), AllocError>
-    ensures { OnOk result (text.new ≡ text.old ++ entry_text (plain_entry entry.now)) }
+fn push_entry_text(entry: &Entry, lent: &Lent, text: &mut Text) -> Result<(), AllocError>
+    ensures { OnOk result (text.new ≡ text.old ++ entry_text (plain_entry lent.now entry.now)) }
 {
     match entry {
         Entry::Asked {
             channel,
             name,
             asked,
-        } => push_asked(*channel, name, asked, text),
+        } => push_asked(*channel, name, *asked, lent, text),
         Entry::Told {
             channel,
             name,
             told,
-        } => push_told(*channel, name, told, text),
+        } => push_told(*channel, name, *told, lent, text),
         Entry::RestartAsked { cause, diagnostic } => {
             text.try_push(b"restart")?;
             push_given(*cause, *diagnostic, text)
@@ -337,11 +329,9 @@ fn push_entry_text(entry: &Entry, text: &mut Text) -> Result<(), AllocError>
             push_at(b"fault", 0, text)?;
             text.try_push_number(b" diag=", u64::from(*diagnostic))
         }
-        Entry::Beside {
-            channel,
-            facilities,
-            user,
-        } => push_beside(*channel, facilities.as_slice(), user.as_slice(), text),
+        Entry::Beside { channel } => {
+            push_beside(*channel, lent.facilities(), lent.beside(), text)
+        }
         Entry::Confirmed {
             channel,
             name,
@@ -354,38 +344,39 @@ fn push_entry_text(entry: &Entry, text: &mut Text) -> Result<(), AllocError>
 fn push_end(at: Role, text: &mut Text) -> Result<(), AllocError>
     ensures { OnOk result (text.new ≡ text.old ++ end_text at) }
 {
-    match at {
-        Role::Dte => text.try_push(b"dte "),
-        Role::Dce => text.try_push(b"dce "),
-    }
+    text.try_push(match at {
+        Role::Dte => b"dte ",
+        Role::Dce => b"dce ",
+    })
 }
 
 #[tactic(auto, unfolding(crate::specs::EntryText::entry_line))]
-fn push_line(at: Role, entry: &Entry, text: &mut Text) -> Result<(), AllocError>
-    ensures { OnOk result (text.new ≡ text.old ++ line_of at (plain_entry entry.now)) }
+fn push_line(at: Role, entry: &Entry, lent: &Lent, text: &mut Text) -> Result<(), AllocError>
+    ensures { OnOk result (text.new ≡ text.old ++ line_of at (plain_entry lent.now entry.now)) }
 {
     push_end(at, text)?;
-    push_entry_text(entry, text)?;
+    push_entry_text(entry, lent, text)?;
     text.try_push(b"\n")
 }
 
-/// Appends the line of an entry at an end, with its line feed. Err: no memory; the text is empty then.
-pub fn push_entry(at: Role, entry: &Entry, text: &mut Text) -> Result<(), AllocError>
-    ensures text { OnOk result (text.new ≡ text.old ++ line_of at (plain_entry entry.now)) }
+/// Appends the line of an entry at an end, with what its step lends and its line feed. Err: no memory; the text is
+/// empty then.
+pub fn push_entry(at: Role, entry: &Entry, lent: &Lent, text: &mut Text) -> Result<(), AllocError>
+    ensures text { OnOk result (text.new ≡ text.old ++ line_of at (plain_entry lent.now entry.now)) }
     ensures cleared { OnErr result (text.new ≡ []) }
 {
-    if let Err(error) = push_line(at, entry, text) {
+    if let Err(error) = push_line(at, entry, lent, text) {
         text.clear();
         return Err(error);
     }
     Ok(())
 }
 
-/// The line of an entry at an end, with its line feed, in memory of its own. Err: no memory.
-pub fn entry_line(alloc: Global, at: Role, entry: &Entry) -> Result<Text, AllocError>
-    ensures { IfOk result (λ text. text ≡ line_of at (plain_entry entry.now)) }
+/// The line of an entry at an end, as above, in memory of its own. Err: no memory.
+pub fn entry_line(alloc: Global, at: Role, entry: &Entry, lent: &Lent) -> Result<Text, AllocError>
+    ensures { IfOk result (λ text. text ≡ line_of at (plain_entry lent.now entry.now)) }
 {
     let mut text = Text::new(alloc)?;
-    push_entry(at, entry, &mut text)?;
+    push_entry(at, entry, lent, &mut text)?;
     Ok(text)
 }

@@ -11,6 +11,8 @@ mod frames;
 #[cfg(test)]
 mod lines;
 #[cfg(test)]
+mod said;
+#[cfg(test)]
 mod script;
 #[cfg(test)]
 mod shown;

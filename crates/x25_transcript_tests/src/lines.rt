@@ -1,18 +1,13 @@
 use std::alloc::{AllocError, Global};
-use x25_circuit::Octets;
 use x25_layer::Stretch;
-use x25_station::{Asked, Entry, Marks, Role, Told};
+use x25_station::{Asked, Entries, Entry, Marks, Role, Told};
 use x25_text::Text;
 use x25_transcript::{entry_line, push_entry};
 
-/// Whether this is the line of the entry at this end.
-pub fn is_line(
-    alloc: Global,
-    at: Role,
-    entry: Result<Entry, AllocError>,
-    line: &str,
-) -> Result<bool, AllocError> {
-    let found = entry_line(alloc, at, &entry?)?;
+/// Whether this is the line of the entry at this end, where its step lends nothing.
+pub fn is_line(alloc: Global, at: Role, entry: Entry, line: &str) -> Result<bool, AllocError> {
+    let entries = Entries::new(alloc)?;
+    let found = entry_line(alloc, at, &entry, entries.lent())?;
     Ok(found.as_slice() == line.as_bytes())
 }
 
@@ -23,9 +18,10 @@ fn are_lines(
     at_dte: &Entry,
     lines: &[u8],
 ) -> Result<bool, AllocError> {
+    let entries = Entries::new(alloc)?;
     let mut text = Text::new(alloc)?;
-    push_entry(Role::Dce, at_dce, &mut text)?;
-    push_entry(Role::Dte, at_dte, &mut text)?;
+    push_entry(Role::Dce, at_dce, entries.lent(), &mut text)?;
+    push_entry(Role::Dte, at_dte, entries.lent(), &mut text)?;
     Ok(text.as_slice() == lines)
 }
 
@@ -51,94 +47,44 @@ const LATE: Stretch = Stretch {
 };
 
 // A message of no octets that came.
-fn delivered(alloc: Global) -> Result<Entry, AllocError> {
-    Ok(Entry::Told {
-        channel: 16,
-        name: LATE,
-        told: Told::Delivered {
-            marks: Marks::with_q(true),
-            user: Octets::new(alloc)?,
-        },
-    })
-}
+const DELIVERED: Entry = Entry::Told {
+    channel: 16,
+    name: LATE,
+    told: Told::Delivered {
+        marks: Marks { q: true, d: false },
+    },
+};
 
 #[test]
 fn writes_deliveries_of_larger_numbers(rt: HostRuntime) {
     let line = "dce message ch=16 at 10.3.18446744073709551615 q=1 data=-\n";
-    assert_eq!(rt;
-        is_line(rt.alloc(), Role::Dce, delivered(rt.alloc()), line),
-        Ok(true)
-    );
+    assert_eq!(rt; is_line(rt.alloc(), Role::Dce, DELIVERED, line), Ok(true));
 }
 
 // A message of no octets whose confirmation is asked.
-fn asking(alloc: Global) -> Result<Entry, AllocError> {
-    Ok(Entry::Asked {
-        channel: 16,
-        name: LATE,
-        asked: Asked::Send {
-            marks: Marks { q: false, d: true },
-            user: Octets::new(alloc)?,
-        },
-    })
-}
+const ASKING: Entry = Entry::Asked {
+    channel: 16,
+    name: LATE,
+    asked: Asked::Send {
+        marks: Marks { q: false, d: true },
+    },
+};
 
 #[test]
 fn shows_that_confirmation_is_asked(rt: HostRuntime) {
     let line = "dte send ch=16 at 10.3.18446744073709551615 q=0 d=1 data=-\n";
-    assert_eq!(rt;
-        is_line(rt.alloc(), Role::Dte, asking(rt.alloc()), line),
-        Ok(true)
-    );
+    assert_eq!(rt; is_line(rt.alloc(), Role::Dte, ASKING, line), Ok(true));
 }
 
-// A message of so many octets that is to be sent.
-fn sent(alloc: Global, channel: u16, name: Stretch, count: u16) -> Result<Entry, AllocError> {
-    let octets = vec![in alloc; 0xabu8; usize::from(count)]?;
-    let mut user = Octets::new(alloc)?;
-    user.set(octets.as_slice());
-    Ok(Entry::Asked {
+// A message that is to be sent.
+fn sent(channel: u16, name: Stretch) -> Entry {
+    Entry::Asked {
         channel,
         name,
         asked: Asked::Send {
             marks: Marks::with_q(true),
-            user,
         },
-    })
-}
-
-// The line of the longest message there, and a line behind it.
-fn longest(alloc: Global) -> Result<Vec<u8>, AllocError> {
-    let mut wanted = Vec::new(alloc);
-    wanted.extend_from_slice(b"dte send ch=1 at 10.3.18446744073709551615 q=1 data=")?;
-    for _ in 0..65_535u32 {
-        wanted.extend_from_slice(b"ab")?;
     }
-    wanted.extend_from_slice(b"\ndte linkup\n")?;
-    Ok(wanted)
-}
-
-fn is_longest(text: &Text, alloc: Global) -> Result<bool, AllocError> {
-    let wanted = longest(alloc)?;
-    Ok(text.as_slice() == wanted.as_slice())
-}
-
-fn push_longest(text: &mut Text, alloc: Global) -> Result<(), AllocError> {
-    let entry = sent(alloc, 1, LATE, 65_535)?;
-    push_entry(Role::Dte, &entry, text)
-}
-
-fn writes_longest(alloc: Global) -> Result<bool, AllocError> {
-    let mut text = Text::new(alloc)?;
-    push_longest(&mut text, alloc)?;
-    push_entry(Role::Dte, &Entry::LinkUp, &mut text)?;
-    is_longest(&text, alloc)
-}
-
-/// More characters than the text has room for.
-#[test]
-fn writes_the_longest_message(rt: HostRuntime) {
-    assert_eq!(rt; writes_longest(rt.alloc()), Ok(true));
 }
 
 /// Channels and stretches whose numbers have one digit, two, three and more, and the lines of messages there.
@@ -150,7 +96,7 @@ static NUMBERS: [(u16, Stretch, &str); 9] = [
             clears: 9,
             resets: 5,
         },
-        "dte send ch=9 at 0.9.5 q=1 data=abab\n",
+        "dte send ch=9 at 0.9.5 q=1 data=-\n",
     ),
     (
         10,
@@ -159,7 +105,7 @@ static NUMBERS: [(u16, Stretch, &str); 9] = [
             clears: 0,
             resets: 9,
         },
-        "dte send ch=10 at 9.0.9 q=1 data=abab\n",
+        "dte send ch=10 at 9.0.9 q=1 data=-\n",
     ),
     (
         1,
@@ -168,7 +114,7 @@ static NUMBERS: [(u16, Stretch, &str); 9] = [
             clears: 10,
             resets: 4,
         },
-        "dte send ch=1 at 1.10.4 q=1 data=abab\n",
+        "dte send ch=1 at 1.10.4 q=1 data=-\n",
     ),
     (
         1,
@@ -177,7 +123,7 @@ static NUMBERS: [(u16, Stretch, &str); 9] = [
             clears: 99,
             resets: 42,
         },
-        "dte send ch=1 at 1.99.42 q=1 data=abab\n",
+        "dte send ch=1 at 1.99.42 q=1 data=-\n",
     ),
     (
         1,
@@ -186,7 +132,7 @@ static NUMBERS: [(u16, Stretch, &str); 9] = [
             clears: 100,
             resets: 7,
         },
-        "dte send ch=1 at 1.100.7 q=1 data=abab\n",
+        "dte send ch=1 at 1.100.7 q=1 data=-\n",
     ),
     (
         3,
@@ -195,7 +141,7 @@ static NUMBERS: [(u16, Stretch, &str); 9] = [
             clears: 137,
             resets: 0,
         },
-        "dte send ch=3 at 1.137.0 q=1 data=abab\n",
+        "dte send ch=3 at 1.137.0 q=1 data=-\n",
     ),
     (
         57,
@@ -204,7 +150,7 @@ static NUMBERS: [(u16, Stretch, &str); 9] = [
             clears: 999,
             resets: 480,
         },
-        "dte send ch=57 at 306.999.480 q=1 data=abab\n",
+        "dte send ch=57 at 306.999.480 q=1 data=-\n",
     ),
     (
         128,
@@ -213,7 +159,7 @@ static NUMBERS: [(u16, Stretch, &str); 9] = [
             clears: 1_000,
             resets: 9_999,
         },
-        "dte send ch=128 at 12.1000.9999 q=1 data=abab\n",
+        "dte send ch=128 at 12.1000.9999 q=1 data=-\n",
     ),
     (
         4_095,
@@ -222,14 +168,14 @@ static NUMBERS: [(u16, Stretch, &str); 9] = [
             clears: 5,
             resets: 123_456_789,
         },
-        "dte send ch=4095 at 65536.5.123456789 q=1 data=abab\n",
+        "dte send ch=4095 at 65536.5.123456789 q=1 data=-\n",
     ),
 ];
 
 #[test]
 fn writes_numbers_of_one_digit_and_more(rt: HostRuntime) {
     for &(channel, name, shown) in &NUMBERS {
-        let entry = sent(rt.alloc(), channel, name, 2);
+        let entry = sent(channel, name);
         assert_eq!(rt;
             is_line(rt.alloc(), Role::Dte, entry, shown),
             Ok(true),

@@ -6,7 +6,7 @@ use Rattle.x25_station.specs.{declared.config.Cfg.{Cfg}, Config.{settings_from}}
 use Rattle.x25_world.specs.World.{World, AtEnd, mirrored, WorldOutcome, Happened, Declined, swapped_back, delivered, Event, happens, refusal_of, after, run}
 use Rattle.x25_world.specs.declared.error.WorldError.{WorldError}
 use Rattle.x25_world.specs.Healing.{receipt, all_received, next_end, arrivals_from, arrivals, deliveries, one_if, if_accepted, behind, received_in}
-use Rattle.x25_world.specs.{declared.told.Entered.{Entered}, code.PlainTold.{plain_entered}, code.ShownWorld.{ShownWorld}}
+use Rattle.x25_world.specs.{declared.told.Entered.{Entered}, code.PlainTold.{plain_told}, code.ShownWorld.{ShownWorld}}
 use Rattle.x25_world.specs.{code.FitsWorld.{FitsWorld, IsRefusal}, code.FitsHealing.{TellingWorld, telling, Tells, GoesBy, GoesPartly}}
 use Rattle.x25_world.proofs.WorldLemmas.{run_append, accepted_append}
 use Rattle.x25_world.specs.declared.error.WorldError.TheVariants as error
@@ -45,7 +45,7 @@ stops_behind {cfg} {xs} {w} {u} {v} {before} f h = record {
 
 -- where nothing was told yet
 pub tells_nothing : {cfg : Cfg} {v : ShownWorld} (told : List Entered) {w : World} → told ≡ [] → FitsWorld cfg v w → Tells cfg (telling v told) w w.transcript
-tells_nothing told {w} none fits = record { fits = fits; told = sym (append-nil w.transcript) ∙ ap (λ l. w.transcript ++ map plain_entered l) (sym none) }
+tells_nothing told {w} none fits = record { fits = fits; told = sym (append-nil w.transcript) ∙ ap (λ l. w.transcript ++ plain_told l) (sym none) }
 
 -- ---- a list that has begun
 

@@ -6,7 +6,7 @@ use Rattle.x25_bits.specs.{Role.{other}, declared.role.Role.{Role}, declared.rol
 use Rattle.x25_frame.specs.Spelling.{spelling_of}
 use Rattle.x25_link.specs.Station.{awaits_ua}
 use Rattle.x25_station.specs.{declared.config.Cfg.{Cfg}, declared.error.StationError.{StationError}, Entry.{StationEntry}}
-use Rattle.x25_station.specs.{code.FitsStation.{FitsStation, Leaves, Sends, Enters, Refuses}, code.PlainEntry.{plain_entry}, Config.{Settings, settings_from}}
+use Rattle.x25_station.specs.{code.FitsStation.{FitsStation, Leaves, Sends, Enters, Refuses}, Config.{Settings, settings_from}}
 use Rattle.x25_station.specs.Step.{Step, Outcome, Did, Refused, fires, receives}
 use Rattle.x25_world.specs.{declared.error.WorldError.{WorldError}, Error.{error_of}}
 use Rattle.x25_world.specs.World.{World, WorldOutcome, Happened, Declined, after_step, of_station, delivered, on_line, is_on_line, fired, refusal_of, entered}
@@ -62,9 +62,9 @@ ok = Ok tt
 pub has_happened : (cfg : Cfg) {at : Role} (near : code.Station) {line : ShownLine} {w : World} (outcome : Outcome) (answer : code_step.Step)
     → FitsShared at line w w.back → Leaves (settings_from at cfg) near ok outcome
     → Sends (settings_from at cfg) answer ok outcome → Enters answer ok outcome → Refuses ok outcome
-    → HasHappened cfg at near (put_by line at answer.frames) (entered at (map plain_entry answer.entries.items)) w (of_station (settings_from at cfg) w outcome)
+    → HasHappened cfg at near (put_by line at answer.frames) (entered at answer.entries.items) w (of_station (settings_from at cfg) w outcome)
 has_happened cfg {at} near {line} {w} (Did step) answer shared leaves sends enters refuses =
-    step_told cfg at step answer.frames (map plain_entry answer.entries.items) shared leaves sends enters
+    step_told cfg at step answer.frames answer.entries.items shared leaves sends enters
 has_happened cfg near (Refused e) answer shared leaves sends enters refuses = absurd refuses
 
 -- ---- a refused one
@@ -110,7 +110,7 @@ pub has_arrived : (cfg : Cfg) (at : Role) (near : code.Station) (line : ShownLin
     → Leaves (settings_from at cfg) near ok (Did (receives (settings_from at cfg) w.near octets))
     → Sends (settings_from at cfg) answer ok (Did (receives (settings_from at cfg) w.near octets))
     → Enters answer ok (Did (receives (settings_from at cfg) w.near octets))
-    → HasHappened cfg at near (put_by (with_line_to line at (remove (line_to line at) 0)) at answer.frames) (entered at (map plain_entry answer.entries.items))
+    → HasHappened cfg at near (put_by (with_line_to line at (remove (line_to line at) 0)) at answer.frames) (entered at answer.entries.items)
     w
     (delivered (settings_from at cfg) w back)
 has_arrived cfg at near line w [] octets answer shared front leaves sends enters = cc
@@ -118,7 +118,7 @@ has_arrived cfg at near line w (o ∷ left) octets answer shared front leaves se
     let same : octets ≡ o = cc in
     let step = receives (settings_from at cfg) w.near octets in
     rw (sym same)
-    (step_told cfg at step answer.frames (map plain_entry answer.entries.items) (taken_off at o left shared) leaves sends enters)
+    (step_told cfg at step answer.frames answer.entries.items (taken_off at o left shared) leaves sends enters)
 
 -- ---- octets on the line are lost, or others come in their place
 

@@ -1,10 +1,9 @@
 //! What happens at one end, and on the line to it.
-ghost use Rattle.std.specs.Prelude.{◌≡◌, ◌&&◌, ◌+◌, ◌*◌, ◌≤◌, ◌++◌, ◌⊎◌, [], length, map, max, vec_len, vec_capacity};
+ghost use Rattle.std.specs.Prelude.{◌≡◌, ◌&&◌, ◌+◌, ◌*◌, ◌≤◌, ◌++◌, ◌⊎◌, ◌<◌, [], length, max, vec_len, vec_capacity};
 ghost use Rattle.std.specs.Prelude.{Err, IfErr, OnOk, OnErr};
 ghost use Rattle.x25_link.specs.Station.{awaits_ua};
 ghost use Rattle.x25_line.specs.laws.Stations.{is_visible};
 ghost use Rattle.x25_station.specs.Command.{command_of};
-ghost use Rattle.x25_station.specs.code.PlainEntry.{plain_entry};
 ghost use Rattle.x25_station.specs.declared.config.Cfg.{Cfg};
 ghost use Rattle.x25_station.specs.Config.{settings_from};
 ghost use Rattle.x25_station.specs.code.FitsStation.{IsEmpty};
@@ -12,7 +11,7 @@ ghost use Rattle.x25_station.specs.Step.{commands};
 ghost use Rattle.x25_world.specs.World as definition;
 ghost use Rattle.x25_world.specs.World.{Happened, Declined, of_station, delivered, is_on_line, fired, on_line, lost};
 ghost use Rattle.x25_world.specs.World.{damaged, acts, entered, event_of};
-ghost use Rattle.x25_world.specs.code.PlainTold.{plain_entered};
+ghost use Rattle.x25_world.specs.code.PlainTold.{plain_told};
 ghost use Rattle.x25_world.specs.code.ShownLine.{put_by, line_to, with_line_to, with_room_of, TakesFew};
 ghost use Rattle.x25_world.specs.code.FitsWorld.{FitsWorld, FitsSide, IsStepOf, IsStepOfAct, HasActed, HasActedAt};
 ghost use Rattle.x25_world.specs.code.ShownWorld.{shown_with};
@@ -22,9 +21,10 @@ use crate::event::Event;
 use crate::line::Line;
 use crate::set_up::is_on_line;
 use crate::told::Entered;
+use std::mem::replace;
 use x25_bits::{Role, check};
 use x25_link::Frames;
-use x25_station::{Cmd, Entries, Entry, MOST_ENTRIES, Station, Step};
+use x25_station::{Cmd, Entries, Station, Step};
 
 /// The event happens at its end, or on the line to it. What it tells comes into the step, in place of what was there,
 /// and its frames go on the line. Refused with the one ground that applies, 50, 51, 52, 53 or 54, or with 70; all is
@@ -41,7 +41,7 @@ pub fn act_at_end(
     ensures places { TakesFew 9 line.old line.new }
     ensures acted { (cfg : Cfg) (w : definition.World) → FitsWorld cfg (shown_with dte.old dce.old line.old) w →
         HasActedAt cfg (shown_with dte.new dce.new line.new)
-        (entered (event_of event.entry).at (map plain_entry out.new.entries.items)) result w (event_of event.entry) }
+        (entered (event_of event.entry).at out.new.entries.items) result w (event_of event.entry) }
 {
     match event.at() {
         Role::Dte => act(Role::Dte, dte, line, out, event),
@@ -62,7 +62,7 @@ fn act(
     ensures step { IsStepOfAct result out.new (event_of event.entry).act }
     ensures places { TakesFew 9 line.old line.new }
     ensures acted { (cfg : Cfg) (w : definition.World) → FitsSide cfg at near.old line.old w →
-        HasActed cfg at near.new line.new (entered at (map plain_entry out.new.entries.items)) result w
+        HasActed cfg at near.new line.new (entered at out.new.entries.items) result w
         (acts (settings_from at cfg) w (event_of event.entry).act) }
 {
     match event {
@@ -101,7 +101,7 @@ pub fn command(
     ensures step { IsStepOf result out.new 3 }
     ensures places { TakesFew 9 line.old line.new }
     ensures acted { (cfg : Cfg) (w : definition.World) → FitsSide cfg at near.old line.old w →
-        HasActed cfg at near.new line.new (entered at (map plain_entry out.new.entries.items)) result w
+        HasActed cfg at near.new line.new (entered at out.new.entries.items) result w
         (of_station (settings_from at cfg) w (commands (settings_from at cfg) w.near (command_of cmd.entry))) }
 {
     if let Err(error) = reserve_frames(line) {
@@ -122,7 +122,7 @@ fn deliver(at: Role, near: &mut Station, line: &mut Line, out: &mut Step) -> Res
     ensures step { IsStepOf result out.new 3 }
     ensures places { TakesFew 9 line.old line.new }
     ensures acted { (cfg : Cfg) (w : definition.World) → FitsSide cfg at near.old line.old w →
-        HasActed cfg at near.new line.new (entered at (map plain_entry out.new.entries.items)) result w
+        HasActed cfg at near.new line.new (entered at out.new.entries.items) result w
         (delivered (settings_from at cfg) w w.back) }
 {
     if let Err(error) = reserve_frames(line) {
@@ -156,7 +156,7 @@ fn fire(at: Role, near: &mut Station, line: &mut Line, out: &mut Step) -> Result
     ensures step { IsStepOf result out.new 3 }
     ensures places { TakesFew 9 line.old line.new }
     ensures acted { (cfg : Cfg) (w : definition.World) → FitsSide cfg at near.old line.old w →
-        HasActed cfg at near.new line.new (entered at (map plain_entry out.new.entries.items)) result w
+        HasActed cfg at near.new line.new (entered at out.new.entries.items) result w
         (fired (settings_from at cfg) w) }
 {
     if awaits_frames(at, near, line) {
@@ -195,39 +195,38 @@ fn reserve_frames(line: &mut Line) -> Result<(), WorldError>
     Ok(())
 }
 
-/// Room for what an event tells, and the entries of a step that has none: their memory takes the place of that which
+/// A place for what an event tells, and the entries of a step that has none: their memory takes the place of that which
 /// goes with what is told.
 pub fn reserve_entries(transcript: &mut Vec<Entered>) -> Result<Entries, WorldError>
-    ensures room { OnOk result (vec_len transcript.new + 3 ≤ vec_capacity transcript.new) }
+    ensures room { OnOk result (vec_len transcript.new < vec_capacity transcript.new) }
     ensures items { transcript.new.items ≡ transcript.old.items }
     ensures refused { IfErr result (λ e. e ≡ WorldError.NoMemory) }
-    ensures few { vec_capacity transcript.new ≤ max (vec_capacity transcript.old) (2 * vec_len transcript.old + 3) }
+    ensures few { vec_capacity transcript.new ≤ max (vec_capacity transcript.old) (2 * vec_len transcript.old + 1) }
 {
     let Ok(entries) = Entries::new(*transcript.allocator()) else {
         return Err(WorldError::NoMemory);
     };
-    if transcript.capacity() - transcript.len() >= MOST_ENTRIES {
+    if transcript.len() < transcript.capacity() {
         return Ok(entries);
     }
-    if transcript
-        .reserve_exact(transcript.len().max(MOST_ENTRIES))
-        .is_err()
-    {
+    if transcript.reserve_exact(transcript.len().max(1)).is_err() {
         return Err(WorldError::NoMemory);
     }
     Ok(entries)
 }
 
-/// What an end told comes into the transcript, in room that there is.
-pub fn enter(at: Role, told: &mut Vec<Entry>, transcript: &mut Vec<Entered>)
-    requires room { vec_len transcript.old + vec_len told.old ≤ vec_capacity transcript.old }
-    ensures entries { map plain_entered transcript.new.items ≡ map plain_entered transcript.old.items
-        ++ entered at (map plain_entry told.old.items) }
+/// What an end told comes into the transcript, in a place that there is, where it told anything. The fresh entries take
+/// the place of these.
+pub fn enter(at: Role, told: &mut Entries, fresh: Entries, transcript: &mut Vec<Entered>)
+    requires room { vec_len transcript.old < vec_capacity transcript.old }
+    ensures entries { plain_told transcript.new.items ≡ plain_told transcript.old.items ++ entered at told.old.items }
     ensures capacity { vec_capacity transcript.new ≡ vec_capacity transcript.old }
 {
-    for entry in told.drain(..) {
-        transcript.push_reserved(Entered { at, entry });
+    if told.is_empty() {
+        return;
     }
+    let entries = replace(told, fresh);
+    transcript.push_reserved(Entered { at, entries });
 }
 
 // The frame at this place on the line to the end is lost.

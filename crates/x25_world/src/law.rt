@@ -1,7 +1,8 @@
 //! Two stations over a line, as laws about their definition. Each is the contract of a function that does nothing.
-ghost use Rattle.x25_given.specs.Given.{plain_given};
-ghost use Rattle.x25_station.specs.Command.{RequestsWith, request_of};
-ghost use Rattle.x25_station.specs.laws.ReadLaw.{AreOctets};
+ghost use Rattle.x25_given.specs.Given.{given_with};
+ghost use Rattle.x25_layer.specs.Calls.{LayerRequest};
+ghost use Rattle.x25_station.specs.Command.{requesting};
+ghost use Rattle.x25_station.specs.laws.ReadLaw.{AreOctets, RequestsOctets};
 ghost use Rattle.x25_world.specs.World.{event_of};
 ghost use Rattle.x25_world.specs.rows.WorldRows.{GivenArrives, ConfirmedArrives};
 ghost use Rattle.x25_world.specs.rows.WorldRows.{ConnectGoesAgain, SecondMeetsFirst, SecondMeet};
@@ -28,7 +29,7 @@ use x25_line::{each_session_event_hands_one, links_keep_order, sessions_keep_ord
 use x25_link::{notes_what_changes, sets_up_by_rows};
 use x25_packet::{reading_is_the_grammar, taking_keeps_octets};
 use x25_station::{
-    CallCmd, Cmd, Given, puts_are_readable, stations_hold_few, steps_are_joined, steps_keep_bounds,
+    Cmd, Given, puts_are_readable, stations_hold_few, steps_are_joined, steps_keep_bounds,
     what_is_given_is_told,
 };
 
@@ -170,7 +171,7 @@ pub fn messages_wait_for_users()
     x25_layer::messages_wait_for_users();
 }
 
-/// What a world holds at most: 781,330 octets, for each channel 1,179,630 and two of the longest messages, twice as
+/// What a world holds at most: 781,844 octets, for each channel 1,179,630 and two of the longest messages, twice as
 /// many as a station does, the memory of a step and for 34 frames, and those of the frames on its line, each of which
 /// counts as the longest.
 pub fn worlds_hold_few()
@@ -195,22 +196,26 @@ pub fn hands_down_octets(event: Event)
     ensures { ActsInOctets (event_of event.entry).act }
 {
     match event {
-        Event::Command(_, Cmd::Call { user, .. }) => are_octets(user),
+        Event::Command(_, Cmd::Call { user, given, .. }) => {
+            are_octets(user);
+            given_is_octets(given);
+        }
+        Event::Command(_, Cmd::Accept { given, .. } | Cmd::Clear { given, .. }) => {
+            given_is_octets(given)
+        }
         Event::Command(_, Cmd::Send { user, .. }) => are_octets(user),
         Event::Command(_, Cmd::Interrupt { user, .. }) => are_octets(user),
-        Event::Command(_, Cmd::With { given, call }) => gives_octets(given, call),
         _ => {}
     }
 }
 
-fn gives_octets(given: Given<'_>, call: CallCmd<'_>)
-    ensures { CommandsOctets (RequestsWith (plain_given given.entry) (request_of call.entry)) }
+fn given_is_octets(given: Option<&Given<'_>>)
+    ensures { (request : LayerRequest) → RequestsOctets request
+        → CommandsOctets (requesting (given_with given.entry) request) }
 {
-    are_octets(given.facilities);
-    are_octets(given.user);
-    match call {
-        CallCmd::Call { user, .. } => are_octets(user),
-        _ => {}
+    if let Some(given) = given {
+        are_octets(given.facilities);
+        are_octets(given.user);
     }
 }
 

@@ -1,9 +1,9 @@
 use x25_bits::Role;
-use x25_station::Entry;
+use x25_station::Entries;
 
-/// An entry of the transcript of an end.
-#[derive(Debug, Drop)]
+/// What a step of an end told.
+#[derive(Drop)]
 pub struct Entered {
     pub at: Role,
-    pub entry: Entry,
+    pub entries: Entries,
 }

@@ -6,11 +6,9 @@ ghost use Rattle.x25_station.specs.code.FitsStation.{FitsStation};
 ghost use Rattle.x25_circuit.specs.Calling.{Sends};
 ghost use Rattle.x25_layer.specs.Calls.{Asks};
 ghost use Rattle.x25_station.specs.Command.{Requests};
-ghost use Rattle.x25_station.specs.code.PlainEntry.{plain_entry};
 ghost use Rattle.x25_station.specs.Config.{settings_from, config_refusal};
 ghost use Rattle.x25_station.specs.Station as station;
 ghost use Rattle.x25_world.specs.BitDamage.{bit_damage};
-ghost use Rattle.x25_world.specs.code.PlainTold.{plain_entered};
 ghost use Rattle.x25_world.specs.code.ShownWorld.{line_from, line_of, station_of, TakesFewPlaces};
 ghost use Rattle.x25_world.specs.code.FitsHealing.{Tells, telling};
 ghost use Rattle.x25_world.specs.code.FitsWorld.{FitsWorld, Claims, ClaimsOfNew, and_then, IsRefusal};
@@ -29,7 +27,6 @@ use crate::line::Line;
 use crate::told::Entered;
 use std::alloc::Global;
 use std::marker::Model;
-use std::mem::replace;
 use x25_bits::{Bits, Direction, Role};
 use x25_station::{Cfg, Cmd, Station, StationError, Step};
 
@@ -199,7 +196,7 @@ impl World {
     #[inline(always)]
     pub fn step(&mut self, event: Event, out: &mut Step) -> Result<(), WorldError>
         ensures acted { (cfg : Cfg) (w : definition.World) → FitsWorld cfg self.old w →
-            HasActedAt cfg self.new (entered (event_of event.entry).at (map plain_entry out.new.entries.items)) result
+            HasActedAt cfg self.new (entered (event_of event.entry).at out.new.entries.items) result
             w (event_of event.entry) }
         ensures step { IsStepOfAct result out.new (event_of event.entry).act }
         ensures put { (cfg : Cfg) (w : definition.World) → FitsWorld cfg self.old w →
@@ -218,7 +215,7 @@ impl World {
     #[inline(always)]
     fn happen(&mut self, event: Event, out: &mut Step) -> Result<(), WorldError>
         ensures acted { (cfg : Cfg) (w : definition.World) → FitsWorld cfg self.old w →
-            HasActedAt cfg self.new (entered (event_of event.entry).at (map plain_entry out.new.entries.items)) result
+            HasActedAt cfg self.new (entered (event_of event.entry).at out.new.entries.items) result
             w (event_of event.entry) }
         ensures step { IsStepOfAct result out.new (event_of event.entry).act }
         ensures places { TakesFewPlaces self.old self.new }
@@ -233,7 +230,7 @@ impl World {
             OnOk result (Tells cfg (telling self.new told.new.items) (after w (happens cfg w
             (event_of event.entry))) before) }
         ensures places { TakesFewPlaces self.old self.new }
-        ensures memory { vec_capacity told.new ≤ max (vec_capacity told.old) (2 * vec_len told.old + 3) }
+        ensures memory { vec_capacity told.new ≤ max (vec_capacity told.old) (2 * vec_len told.old + 1) }
         ensures accepted { (cfg : Cfg) (w : definition.World) → FitsWorld cfg self.old w →
             OnOk result (refusal_of (happens cfg w (event_of event.entry)) ≡ None) }
         ensures refused { (cfg : Cfg) (w : definition.World) → FitsWorld cfg self.old w →
@@ -250,8 +247,7 @@ impl World {
             &mut self.out,
             event,
         )?;
-        let mut entries = replace(&mut self.out.entries, fresh).into_vec();
-        enter(event.at(), &mut entries, told);
+        enter(event.at(), &mut self.out.entries, fresh, told);
         Ok(())
     }
 

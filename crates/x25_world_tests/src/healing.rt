@@ -10,7 +10,7 @@ fn heal(world: &mut World, told: &mut Vec<Entered>) -> Result<Healed, WorldError
 }
 
 /// How many frames arrive, and how many when the line heals once more; whether both links are at rest each time, and
-/// how many entries are told.
+/// how many steps told something.
 type Brings = (u64, u64, bool, bool, usize);
 
 fn brings(world: &mut World, told: &mut Vec<Entered>) -> Result<Brings, WorldError> {

@@ -6,7 +6,6 @@ use Rattle.x25_station.specs.declared.error.StationError.{StationError}
 use Rattle.x25_station.specs.declared.station.Station as code
 use Rattle.x25_station.specs.declared.step.Step as code_step
 use Rattle.x25_station.specs.code.FitsStation as fits
-use Rattle.x25_station.specs.code.PlainEntry.{plain_entry}
 use Rattle.x25_station.specs.Config.{Settings}
 use Rattle.x25_station.specs.Station.{Station}
 use Rattle.x25_station.specs.Step.{Outcome}
@@ -43,7 +42,7 @@ pub record IsActed (c : Settings) (old now : Option (List ℕ)) (p : Pipe) (told
     (a : Act) : Type 0 where
   pub stands : Stands c old now p a.next (told ++ sayings_text c.role a.sayings) (refused || has_refusal a.sayings)
   pub timer : p.step.timer ≡ a.timer
-  pub entries : map plain_entry p.step.entries.items ≡ a.entries
+  pub entries : p.step.entries.items ≡ a.entries
   pub has_come : p.has_come ≡ a.has_come
 
 abbrev pub Acted : Settings → Option (List ℕ) → Option (List ℕ) → Pipe → List ℕ → Bool → Result Unit Fault → Act
@@ -71,4 +70,4 @@ IsError error o = fits.Refuses {T = Unit} (Err error) o
 
 -- what is said of a step that was answered
 abbrev pub answer_told : code_step.Step → List Saying
-answer_told step = map enters (map plain_entry step.entries.items) ++ map sends step.frames
+answer_told step = map enters step.entries.items ++ map sends step.frames

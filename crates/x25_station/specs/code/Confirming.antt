@@ -6,6 +6,7 @@ use Rattle.x25_layer.specs.code.FitsLayer.{is_open_at}
 use Rattle.x25_layer.specs.laws.Transcript.{name_of}
 use Rattle.x25_station.specs.declared.confirming.Unconfirmed.{Unconfirmed}
 use Rattle.x25_station.specs.declared.entry.Entry.{Entry}
+use Rattle.x25_station.specs.declared.lent.Lent.{Lent}
 use Rattle.x25_station.specs.Confirming.{confirmed}
 use Rattle.x25_station.specs.Entry.{StationEntry, entries_behind}
 use Rattle.x25_station.specs.code.PlainEntry.{plain_entry, plain_name}
@@ -25,5 +26,5 @@ Stands c l h (Some before) = StandsFor c l h before
 -- the entry of so many confirmed messages, where there are some
 abbrev pub Tells : Layer → ℕ → ℕ → Option Entry → Type 0
 Tells next h count None = count ≡ 0
-Tells next h count (Some entry) = (beside : List StationEntry)
-    → entries_behind next h count beside ≡ plain_entry entry ∷ []
+Tells next h count (Some entry) = (lent : Lent) (beside : List StationEntry)
+    → entries_behind next h count beside ≡ plain_entry lent entry ∷ []

@@ -14,7 +14,6 @@ use Rattle.x25_station.specs.Config.{Settings}
 use Rattle.x25_station.specs.Station.{Station}
 use Rattle.x25_station.specs.Step.{Outcome, Did, Refused}
 use Rattle.x25_station.specs.code.FitsParts.{FitsParts}
-use Rattle.x25_station.specs.code.PlainEntry.{plain_entry}
 
 abbrev pub FitsStation : Settings → code.Station → Station → Type 0
 FitsStation c v s = FitsParts c v.manner v.link v.layer s
@@ -41,7 +40,7 @@ Sends c out result (Refused e) = Unit {0}
 
 -- the entries are those of the step
 abbrev pub Enters : {T : Type 0} → code_step.Step → Result T StationError → Outcome → Type 0
-Enters out result (Did step) = OnOk result (map plain_entry out.entries.items ≡ step.entries)
+Enters out result (Did step) = OnOk result (out.entries.items ≡ step.entries)
 Enters out result (Refused e) = Unit {0}
 
 -- a call is refused for want of memory alone

@@ -1,6 +1,6 @@
 -- The packet layer over the link: the link's state after packets were put, what the layer sees of it, and what the
 -- calls of the layer leave where what they have to put is put, and then what is pulled.
-use Rattle.std.specs.Prelude.{◌≡◌, ℕ, List, [], ◌∷◌, Bool, true, Option, Some, None, Result, Err, OnOk, OnErr, IsErrOf}
+use Rattle.std.specs.Prelude.{◌≡◌, ℕ, List, [], ◌∷◌, true, Option, Some, None, Result, Err, OnOk, OnErr, IsErrOf}
 use Rattle.std.specs.Prelude.{MatchResult}
 use Rattle.x25_packet.specs.Packet.{PlainPacket}
 use Rattle.x25_packet.specs.Spelling.{spelling_of}
@@ -75,3 +75,19 @@ pub record DrivesWith {T : Type 0} (g : PlainGiven) (old : code.Layer) (below : 
       → GoesWith below₂ g x result (calls (seen_with g x) c l request)
   pub layer_stays : (c : LayerSettings) (l : Layer) → FitsLayer c old l → OnErr result (FitsLayer c new l)
   pub link_stays : (x : LinkState) → FitsWhole below x → OnErr result (FitsWhole below₂ x)
+  pub missing : IsErrOf result error.NoMemory → asks_memory request ≡ true
+
+-- ---- with or without it
+
+abbrev pub all_asked : Option PlainGiven → LinkState → List PlainPacket → LinkState
+all_asked None = after_all
+all_asked (Some g) = all_with g
+
+abbrev pub seen_asked : Option PlainGiven → LinkState → LinkView
+seen_asked None = seen_at
+seen_asked (Some g) = seen_with g
+
+abbrev pub DrivesAsked : {T : Type 0} → Option PlainGiven → code.Layer → ShownLink → code.Layer → ShownLink
+    → Result T LayerError → LayerRequest → Type 0
+DrivesAsked None = Drives
+DrivesAsked (Some g) = DrivesWith g

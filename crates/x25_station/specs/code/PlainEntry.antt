@@ -1,5 +1,5 @@
 -- Which entry of the definition an entry of the code is.
-use Rattle.std.specs.Prelude.{Some}
+use Rattle.std.specs.Prelude.{ℕ, List, [], Option, Some, None}
 use Rattle.x25_circuit.specs.Params.{in_brief}
 use Rattle.x25_circuit.specs.Notice.{PlainNotice, incoming, connected, collided, cleared, clear_done, was_reset}
 use Rattle.x25_circuit.specs.Notice.{reset_done, delivered, interrupted, interrupt_done, fault}
@@ -14,6 +14,7 @@ use Rattle.x25_station.specs.declared.entry.Asked.{Asked}
 use Rattle.x25_station.specs.declared.entry.Asked.TheVariants as asked
 use Rattle.x25_station.specs.declared.entry.Told.{Told}
 use Rattle.x25_station.specs.declared.entry.Told.TheVariants as told
+use Rattle.x25_station.specs.declared.lent.Lent.{Lent}
 use Rattle.x25_station.specs.Entry.{StationEntry, of_channel, restart_asked, connect_asked, disconnect_asked}
 use Rattle.x25_station.specs.Entry.{relink_asked, link_up}
 use Rattle.x25_station.specs.Entry.{link_down, was_restarted, restart_confirmed, at_fault, came_beside, was_diagnosed}
@@ -22,44 +23,50 @@ use Rattle.x25_station.specs.Entry.{was_confirmed}
 abbrev pub plain_name : Stretch → Name
 plain_name s = record { restarts = s.restarts; clears = s.clears; resets = s.resets }
 
-abbrev pub plain_asked : Asked → Request
-plain_asked (asked.Call called calling user params) = Calls called calling user (in_brief params)
-plain_asked (asked.Accept params) = Accepts (Some (in_brief params))
-plain_asked (asked.Clear cause diagnostic) = Clears cause diagnostic
-plain_asked (asked.Send marks user) = Sends marks user
-plain_asked (asked.Interrupt user) = Interrupts user
-plain_asked (asked.Reset cause diagnostic) = Resets cause diagnostic
-plain_asked asked.Ready = SaysReady
-plain_asked asked.NotReady = SaysNotReady
+-- what is lent as a message; none while a circuit has its memory
+abbrev pub message_in : Option (List ℕ) → List ℕ
+message_in None = []
+message_in (Some octets) = octets
 
-abbrev pub plain_told : Told → PlainNotice
-plain_told (told.Incoming called calling user params) = incoming
-    (record { called = called; calling = calling; user = user; params = params })
-plain_told (told.Connected params) = connected params
-plain_told told.Collided = collided
-plain_told (told.Cleared cause diagnostic) = cleared cause diagnostic
-plain_told told.ClearDone = clear_done
-plain_told (told.WasReset cause diagnostic) = was_reset cause diagnostic
-plain_told told.ResetDone = reset_done
-plain_told (told.Delivered marks user) = delivered (record { marks = marks; user = user })
-plain_told (told.Interrupted user) = interrupted user
-plain_told told.InterruptDone = interrupt_done
-plain_told (told.Fault diagnostic) = fault diagnostic
+abbrev pub plain_asked : Lent → Asked → Request
+plain_asked lent (asked.Call params) = Calls lent.called lent.calling lent.user (in_brief params)
+plain_asked lent (asked.Accept params) = Accepts (Some (in_brief params))
+plain_asked lent (asked.Clear cause diagnostic) = Clears cause diagnostic
+plain_asked lent (asked.Send marks) = Sends marks (message_in lent.message)
+plain_asked lent asked.Interrupt = Interrupts lent.user
+plain_asked lent (asked.Reset cause diagnostic) = Resets cause diagnostic
+plain_asked lent asked.Ready = SaysReady
+plain_asked lent asked.NotReady = SaysNotReady
 
-abbrev pub plain_entry : Entry → StationEntry
-plain_entry (code.Asked channel name what) = of_channel
-    (record { channel = channel; name = plain_name name; said = said.Asked (plain_asked what) })
-plain_entry (code.Told channel name what) = of_channel
-    (record { channel = channel; name = plain_name name; said = said.Told (plain_told what) })
-plain_entry (code.RestartAsked cause diagnostic) = restart_asked cause diagnostic
-plain_entry code.ConnectAsked = connect_asked
-plain_entry code.DisconnectAsked = disconnect_asked
-plain_entry code.RelinkAsked = relink_asked
-plain_entry code.LinkUp = link_up
-plain_entry (code.LinkDown reason) = link_down reason
-plain_entry (code.WasRestarted cause diagnostic) = was_restarted cause diagnostic
-plain_entry code.RestartDone = restart_confirmed
-plain_entry (code.Fault diagnostic) = at_fault diagnostic
-plain_entry (code.Beside channel facilities user) = came_beside channel facilities user
-plain_entry (code.Confirmed channel name count) = was_confirmed channel (plain_name name) count
-plain_entry (code.Diagnosed diagnostic) = was_diagnosed diagnostic
+abbrev pub plain_told : Lent → Told → PlainNotice
+plain_told lent (told.Incoming params) = incoming
+    (record { called = lent.called; calling = lent.calling; user = lent.user; params = params })
+plain_told lent (told.Connected params) = connected params
+plain_told lent told.Collided = collided
+plain_told lent (told.Cleared cause diagnostic) = cleared cause diagnostic
+plain_told lent told.ClearDone = clear_done
+plain_told lent (told.WasReset cause diagnostic) = was_reset cause diagnostic
+plain_told lent told.ResetDone = reset_done
+plain_told lent (told.Delivered marks) = delivered (record { marks = marks; user = message_in lent.message })
+plain_told lent told.Interrupted = interrupted lent.user
+plain_told lent told.InterruptDone = interrupt_done
+plain_told lent (told.Fault diagnostic) = fault diagnostic
+
+-- with what its step lends
+abbrev pub plain_entry : Lent → Entry → StationEntry
+plain_entry lent (code.Asked channel name what) = of_channel
+    (record { channel = channel; name = plain_name name; said = said.Asked (plain_asked lent what) })
+plain_entry lent (code.Told channel name what) = of_channel
+    (record { channel = channel; name = plain_name name; said = said.Told (plain_told lent what) })
+plain_entry lent (code.RestartAsked cause diagnostic) = restart_asked cause diagnostic
+plain_entry lent code.ConnectAsked = connect_asked
+plain_entry lent code.DisconnectAsked = disconnect_asked
+plain_entry lent code.RelinkAsked = relink_asked
+plain_entry lent code.LinkUp = link_up
+plain_entry lent (code.LinkDown reason) = link_down reason
+plain_entry lent (code.WasRestarted cause diagnostic) = was_restarted cause diagnostic
+plain_entry lent code.RestartDone = restart_confirmed
+plain_entry lent (code.Fault diagnostic) = at_fault diagnostic
+plain_entry lent (code.Beside channel) = came_beside channel lent.facilities lent.beside
+plain_entry lent (code.Confirmed channel name count) = was_confirmed channel (plain_name name) count
+plain_entry lent (code.Diagnosed diagnostic) = was_diagnosed diagnostic

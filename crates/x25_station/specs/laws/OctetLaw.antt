@@ -1,6 +1,6 @@
 -- How many octets a station holds at most (profile): each message counts as the longest, and the memory of `Frames` and
 -- of a `Sheet`, which contracts don't see, as all that this type may have.
-use Rattle.std.specs.Prelude.{ℕ, ◌+◌, ◌*◌, ◌≤◌, length}
+use Rattle.std.specs.Prelude.{ℕ, ◌+◌, ◌*◌, ◌≤◌, length, vec_capacity}
 use Rattle.std.specs.List.{sum_by}
 use Rattle.x25_link.specs.code.FitsLink.{ShownLink}
 use Rattle.x25_circuit.specs.declared.circuit.Circuit as circuit_code
@@ -28,15 +28,16 @@ circuit_octets u = 65535 * holds u + part_octets u
 abbrev pub layer_octets : layer_code.Layer → ℕ
 layer_octets y = sum_by circuit_octets y.circuits.items + 4099
 
+-- those, and the memory for a packet with what is given beside it
 abbrev pub octets_held : code.Station → ℕ
-octets_held v = link_octets v.link + layer_octets v.layer
+octets_held v = link_octets v.link + layer_octets v.layer + vec_capacity v.writing.octets
 
 -- so many, and so many for each channel
 abbrev pub FewOctets : Type 0
 FewOctets = (v : code.Station) → octets_held v
-    ≤ 236539 + (589815 * length v.layer.circuits.items + sum_by part_octets v.layer.circuits.items)
+    ≤ 236796 + (589815 * length v.layer.circuits.items + sum_by part_octets v.layer.circuits.items)
 
 -- with so many channels, and messages of so many octets, as its settings say
 abbrev pub FewOctetsInAll : Type 0
 FewOctetsInAll = (c : Settings) (v : code.Station) (s : Station) → FitsStation c v s
-    → octets_held v ≤ 236539 + (589815 + c.channels.message) * c.channels.count
+    → octets_held v ≤ 236796 + (589815 + c.channels.message) * c.channels.count

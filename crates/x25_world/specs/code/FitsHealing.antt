@@ -2,7 +2,7 @@
 use Rattle.std.specs.Prelude.{◌≡◌, ℕ, List, ◌++◌, map, OnOk, Result}
 use Rattle.x25_station.specs.declared.config.Cfg.{Cfg}
 use Rattle.x25_world.specs.{World.{World, AtEnd, Event, run, AreAccepted}, laws.Claims.{IsBeginning}}
-use Rattle.x25_world.specs.{Healing.{healing}, code.PlainTold.{plain_entered}, code.ShownWorld.{ShownWorld}}
+use Rattle.x25_world.specs.{Healing.{healing}, code.PlainTold.{plain_told}, code.ShownWorld.{ShownWorld}}
 use Rattle.x25_world.specs.{code.FitsWorld.{FitsWorld, FitsRun, Leaves}, declared.told.Entered.{Entered}}
 use Rattle.x25_world.specs.{declared.error.WorldError.{WorldError}, declared.error.WorldError.TheVariants.{NoMemory}}
 
@@ -16,7 +16,7 @@ pub record TellingWorld : Type 0 where
   pub told : List AtEnd
 
 abbrev pub telling : ShownWorld → List Entered → TellingWorld
-telling v told = record { world = v; told = map plain_entered told }
+telling v told = record { world = v; told = plain_told told }
 
 -- it stands for this world, and it told all but these entries before
 pub record Tells (cfg : Cfg) (v : TellingWorld) (w : World) (before : List AtEnd) : Type 0 where

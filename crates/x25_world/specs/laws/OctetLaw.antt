@@ -24,4 +24,4 @@ octets_held v = (station.octets_held v.dte + station.octets_held v.dce)
 -- with so many channels, and messages of so many octets, as its settings say
 abbrev pub FewOctets : Type 0
 FewOctets = (cfg : Cfg) (v : ShownWorld) (w : World) → FitsWorld cfg v w
-    → octets_held v ≤ 781330 + 2 * ((589815 + cfg.channels.message) * cfg.channels.count) + line_octets v
+    → octets_held v ≤ 781844 + 2 * ((589815 + cfg.channels.message) * cfg.channels.count) + line_octets v

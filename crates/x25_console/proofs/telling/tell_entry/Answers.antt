@@ -18,4 +18,4 @@ returns-in_err-push_entry-clause-tells g c = λ old told h.
 pub returns-clause-tells : goal.returns-clause-tells
 returns-clause-tells g c = λ old told h.
     more_waits old _ c.make_room.new.self _ told _ (c.in_ok-make_room.ensures.tells old told h)
-    (c.in_ok-push_entry.ensures.text ∙ ap (λ waits. waits ++ entry_line c.args.at (plain_entry c.args.entry.now)) c.text.ensures.value)
+    (c.in_ok-push_entry.ensures.text ∙ ap (λ waits. waits ++ entry_line c.args.at (plain_entry c.args.lent.now c.args.entry.now)) c.text.ensures.value)

@@ -6,7 +6,8 @@ use Rattle.x25_circuit.specs.Calling.{Calls, Accepts, Sends, Interrupts}
 use Rattle.x25_circuit.specs.Params.{in_brief}
 use Rattle.x25_circuit.specs.Request.{plain_request}
 use Rattle.x25_layer.specs.laws.TwoLayers.{shown}
-use Rattle.x25_station.specs.code.Memory.{IsBrief}
+use Rattle.x25_station.specs.code.Entries.{IsBrief}
+use Rattle.x25_station.specs.code.PlainEntry.{message_in}
 use Rattle.x25_station.proofs.ShownLemmas.{in_force}
 use Rattle.x25_station.proofs.asking.asked_of.Goals as goal
 
@@ -19,9 +20,9 @@ pub returns-in-Call-clause-asked : goal.returns-in-Call-clause-asked
 returns-in-Call-clause-asked c = λ c' l fits configured brief.
     let now = subst (λ (r : Request). IsBrief (plain_request r)) c.in-Call.is brief in
     call_is _ _ _ _ _ _ _ _
-    (c.text.ensures.text ∙ ap (λ (o : List ℕ). take 128 o) c.as_bytes.ensures.value ∙ take_all 128 c.in-Call.called.now now.0)
-    (c.text-in-Call.ensures.text ∙ ap (λ (o : List ℕ). take 128 o) c.as_bytes-in-Call.ensures.value ∙ take_all 128 c.in-Call.calling.now now.1.0)
-    (c.text-in-Call-2.ensures.text ∙ take_all 128 c.in-Call.user.now now.1.1)
+    (c.set.ensures ∙ ap (λ (o : List ℕ). take 128 o) c.as_bytes.ensures.value ∙ take_all 128 c.in-Call.called.now now.0)
+    (c.set-in-Call.ensures ∙ ap (λ (o : List ℕ). take 128 o) c.as_bytes-in-Call.ensures.value ∙ take_all 128 c.in-Call.calling.now now.1.0)
+    (c.set-in-Call-2.ensures ∙ take_all 128 c.in-Call.user.now now.1.1)
     c.params.ensures
     ∙ sym (ap (λ (r : Request). shown (l.circuits c.args.channel) (plain_request r)) c.in-Call.is)
 
@@ -34,11 +35,12 @@ returns-in-Accept-clause-asked c = λ c' l fits configured brief.
 pub returns-in-Send-clause-asked : goal.returns-in-Send-clause-asked
 returns-in-Send-clause-asked c = λ c' l fits configured brief.
     let now = subst (λ (r : Request). IsBrief (plain_request r)) c.in-Send.is brief in
-    ap (λ (x : List ℕ). Sends c.in-Send.marks x) (c.message.ensures.message ∙ take_all 65535 c.in-Send.user.now now)
+    ap (λ x. Sends c.in-Send.marks (message_in x)) c.set_message.ensures
+    ∙ ap (λ (x : List ℕ). Sends c.in-Send.marks x) (take_all 65535 c.in-Send.user.now now)
     ∙ sym (ap (λ (r : Request). shown (l.circuits c.args.channel) (plain_request r)) c.in-Send.is)
 
 pub returns-in-Interrupt-clause-asked : goal.returns-in-Interrupt-clause-asked
 returns-in-Interrupt-clause-asked c = λ c' l fits configured brief.
     let now = subst (λ (r : Request). IsBrief (plain_request r)) c.in-Interrupt.is brief in
-    ap (λ (x : List ℕ). Interrupts x) (c.text-in-Interrupt.ensures.text ∙ take_all 128 c.in-Interrupt.user.now now)
+    ap (λ (x : List ℕ). Interrupts x) (c.set-in-Interrupt.ensures ∙ take_all 128 c.in-Interrupt.user.now now)
     ∙ sym (ap (λ (r : Request). shown (l.circuits c.args.channel) (plain_request r)) c.in-Interrupt.is)

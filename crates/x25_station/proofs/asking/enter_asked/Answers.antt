@@ -5,15 +5,16 @@ use Rattle.x25_layer.specs.laws.Transcript.{Asked}
 use Rattle.x25_station.specs.declared.entry.Entry.{Entry}
 use Rattle.x25_station.specs.declared.entry.Entry.TheVariants as code
 use Rattle.x25_station.specs.Entry.{of_channel}
-use Rattle.x25_station.specs.code.Memory.{ShownEntries}
+use Rattle.x25_station.specs.code.Entries.{ShownEntries}
 use Rattle.x25_station.specs.code.PlainEntry.{plain_entry}
+use Rattle.x25_station.proofs.LentLemmas.{none_listed}
 use Rattle.x25_station.proofs.asking.enter_asked.Goals as goal
 
 pub returns : goal.returns
 returns c = λ c' l fits configured brief.
     let h = c.args.channel in
     let entry = code.Asked h c.name_on-name.result c.asked_of-asked.result in
-    ap (λ (es : List Entry). map plain_entry es)
-    (c.push_reserved.ensures.items ∙ ap (λ (es : List Entry). es ++ entry ∷ []) (ap (λ (e : ShownEntries). e.items) c.entries.view_is ∙ c.requires))
+    let none = none_listed c.entries.inside.lent c.entries.inside.list.items (ap (λ (e : ShownEntries). e.items) c.entries.view_is ∙ c.requires) in
+    ap (λ (es : List Entry). map (plain_entry c.asked_of-asked.new.lent) es) (c.push_reserved.ensures.items ∙ ap (λ (es : List Entry). es ++ entry ∷ []) none)
     ∙ ap₂ (λ (n : Name) (q : Request). of_channel (record { channel = h; name = n; said = Asked q }) ∷ []) (c.name_on-name.ensures c' l fits configured)
     (c.asked_of-asked.ensures.asked c' l fits configured brief)

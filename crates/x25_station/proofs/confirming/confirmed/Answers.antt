@@ -27,7 +27,7 @@ returns-then-count-eq0-clause-tells c = λ c' h l next stands fits.
     ∙ sym c.saturating_sub-count.ensures ∙ c.if-count-eq0.true
 
 pub returns-clause-tells : goal.returns-clause-tells
-returns-clause-tells c = λ c' h l next stands fits beside.
+returns-clause-tells c = λ c' h l next stands fits lent beside.
     let kept = subst (λ o. Stands c' l h o) c.in-Some.is stands in
     let opened = sym (c.is_open.ensures c' next fits) ∙ c.if-not-is_open.false in
     told_behind next h c.in-Some.before.channel c.saturating_sub-count.result _ _ beside c.if-count-eq0.false

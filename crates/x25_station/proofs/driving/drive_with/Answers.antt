@@ -3,37 +3,54 @@ use Rattle.x25_link.specs.code.FitsLink.{LinkState, FitsWhole, after_put_to}
 use Rattle.x25_layer.specs.laws.Rounds.{Putting, begin}
 use Rattle.x25_layer.specs.code.FitsLayer.{FitsLayer}
 use Rattle.x25_packet.specs.Spelling.{spelling_of}
+use Rattle.x25_given.specs.Given.{PlainGiven, given_with, plain_given}
 use Rattle.x25_given.specs.Writing.{write}
 use Rattle.x25_station.specs.code.OverLink.{all_with, seen_at, seen_with}
 use Rattle.x25_station.proofs.DriveLemmas.{rounds_go_behind, none_spelled, free_for}
+use Rattle.x25_station.proofs.GivingLemmas.{none_of}
+use Rattle.x25_station.proofs.WithLemmas.{layer_with, layer_without, link_with, link_without}
 use Rattle.x25_station.proofs.driving.drive_with.Goals as goal
 
+pub returns-in_default-clause-layer : goal.returns-in_default-clause-layer
+returns-in_default-clause-layer c = layer_without (given_with c.args.given) c.args.layer.now c.drive.new.layer c.args.link.now
+    (ap given_with (none_of c.args.given c.in_default.not-Some)) c.drive.ensures.layer
+
+pub returns-in_default-clause-link : goal.returns-in_default-clause-link
+returns-in_default-clause-link c = link_without (given_with c.args.given) c.args.layer.now c.args.link.now c.drive.new.link
+    (ap given_with (none_of c.args.given c.in_default.not-Some)) c.drive.ensures.link
+
 pub returns-then-is_empty-clause-layer : goal.returns-then-is_empty-clause-layer
-returns-then-is_empty-clause-layer c = λ s l p x fits put link. absurd
-    (none_spelled p c.to_put.result.now (c.to_put.ensures ∙ put) (sym c.is_empty.ensures ∙ c.if-is_empty.true))
+returns-then-is_empty-clause-layer c = layer_with (given_with c.args.given) (plain_given c.in-Some.given.now) c.args.layer.now c.args.layer.now c.args.link.now
+    (ap given_with c.in-Some.is) (λ s l p x fits put link. absurd
+    (none_spelled p c.to_put.result.now (c.to_put.ensures ∙ put) (sym c.is_empty.ensures ∙ c.if-is_empty.true)))
 
 pub returns-then-is_empty-clause-link : goal.returns-then-is_empty-clause-link
-returns-then-is_empty-clause-link c = λ s l p x fits put link. absurd
-    (none_spelled p c.to_put.result.now (c.to_put.ensures ∙ put) (sym c.is_empty.ensures ∙ c.if-is_empty.true))
+returns-then-is_empty-clause-link c = link_with (given_with c.args.given) (plain_given c.in-Some.given.now) c.args.layer.now c.args.link.now c.args.link.now
+    (ap given_with c.in-Some.is) (λ s l p x fits put link. absurd
+    (none_spelled p c.to_put.result.now (c.to_put.ensures ∙ put) (sym c.is_empty.ensures ∙ c.if-is_empty.true)))
 
 pub put_with-requires-clause-free : goal.put_with-requires-clause-free
 put_with-requires-clause-free c = free_for c.args.layer.now.sheet c.args.link.now
     (ap (λ (os : List ℕ). length os == 0) (sym c.to_put.ensures) ∙ sym c.is_empty.ensures ∙ c.if-is_empty.false) c.requires.free
 
 pub returns-clause-layer : goal.returns-clause-layer
-returns-clause-layer c = λ s l p x fits put link.
-    let y : LinkState = after_put_to x (write c.args.writing (spelling_of p)) in
+returns-clause-layer c =
+    let g : PlainGiven = plain_given c.in-Some.given.now in
+    layer_with (given_with c.args.given) g c.args.layer.now c.pull_all.new.layer c.args.link.now (ap given_with c.in-Some.is) (λ s l p x fits put link.
+    let y : LinkState = after_put_to x (write g (spelling_of p)) in
     subst (λ (t : Putting). FitsLayer s c.pull_all.new.layer t.layer)
-    (sym (rounds_go_behind (seen_with c.args.writing x) (seen_at y) s p (λ ps. refl) (begin l None)))
+    (sym (rounds_go_behind (seen_with g x) (seen_at y) s p (λ ps. refl) (begin l None)))
     (c.pull_all.ensures.layer s (begin l None) y fits
-    (subst (λ (os : List ℕ). FitsWhole c.put_with.new.link (after_put_to x (write c.args.writing os))) (c.to_put-2.ensures ∙ put)
-    (c.put_with.ensures.link x link)))
+    (subst (λ (os : List ℕ). FitsWhole c.put_with.new.link (after_put_to x (write g os))) (c.to_put-2.ensures ∙ put)
+    (c.put_with.ensures.link x link))))
 
 pub returns-clause-link : goal.returns-clause-link
-returns-clause-link c = λ s l p x fits put link.
-    let y : LinkState = after_put_to x (write c.args.writing (spelling_of p)) in
-    subst (λ (t : Putting). FitsWhole c.pull_all.new.link (all_with c.args.writing x t.put))
-    (sym (rounds_go_behind (seen_with c.args.writing x) (seen_at y) s p (λ ps. refl) (begin l None)))
+returns-clause-link c =
+    let g : PlainGiven = plain_given c.in-Some.given.now in
+    link_with (given_with c.args.given) g c.args.layer.now c.args.link.now c.pull_all.new.link (ap given_with c.in-Some.is) (λ s l p x fits put link.
+    let y : LinkState = after_put_to x (write g (spelling_of p)) in
+    subst (λ (t : Putting). FitsWhole c.pull_all.new.link (all_with g x t.put))
+    (sym (rounds_go_behind (seen_with g x) (seen_at y) s p (λ ps. refl) (begin l None)))
     (c.pull_all.ensures.link s (begin l None) y fits
-    (subst (λ (os : List ℕ). FitsWhole c.put_with.new.link (after_put_to x (write c.args.writing os))) (c.to_put-2.ensures ∙ put)
-    (c.put_with.ensures.link x link)))
+    (subst (λ (os : List ℕ). FitsWhole c.put_with.new.link (after_put_to x (write g os))) (c.to_put-2.ensures ∙ put)
+    (c.put_with.ensures.link x link))))

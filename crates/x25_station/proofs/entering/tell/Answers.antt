@@ -1,4 +1,4 @@
-use Rattle.std.proofs.Common.{[], ◌∷◌, ◌++◌, ap, ◌∙◌, map}
+use Rattle.std.proofs.Common.{[], ◌∷◌, ◌++◌, map, ap, ◌∙◌}
 use Rattle.std.proofs.lemmas.List.{map-append}
 use Rattle.x25_layer.specs.laws.Transcript.{Told}
 use Rattle.x25_station.specs.Entry.{of_channel}
@@ -7,10 +7,10 @@ use Rattle.x25_station.specs.declared.entry.Entry.TheVariants as code
 use Rattle.x25_station.proofs.entering.tell.Goals as goal
 
 pub returns-clause-entered : goal.returns-clause-entered
-returns-clause-entered c = λ c' l fits configured.
-    let before = c.args.entries.now.items in
+returns-clause-entered c = λ said c' l fits configured.
+    let before = c.args.list.now.items in
     let entry = code.Told c.args.channel c.name_on-name.result c.args.told in
-    ap (λ es. map plain_entry es) c.push_reserved.ensures.items
-    ∙ map-append plain_entry before (entry ∷ [])
-    ∙ ap (λ n. map plain_entry before ++ of_channel (record { channel = c.args.channel; name = n; said = Told (plain_told c.args.told) }) ∷ [])
+    ap (λ es. map (plain_entry said) es) c.push_reserved.ensures.items
+    ∙ map-append (plain_entry said) before (entry ∷ [])
+    ∙ ap (λ n. map (plain_entry said) before ++ of_channel (record { channel = c.args.channel; name = n; said = Told (plain_told said c.args.told) }) ∷ [])
     (c.name_on-name.ensures c' l fits configured)

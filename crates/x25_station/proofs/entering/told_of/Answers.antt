@@ -19,13 +19,13 @@ pub returns-in-Incoming-clause-told : goal.returns-in-Incoming-clause-told
 returns-in-Incoming-clause-told c = λ short.
     let now = subst (λ (n : Notice). IsShort (plain_notice n)) c.in-Incoming.is short in
     let user = user_of c.in-Incoming.a c.in-Incoming.body.now in
-    incoming_is _ _ _ _ _ _ c.in-Incoming.params (c.digits-called.ensures.text ∙ c.called_digits.ensures.digits)
-    (c.digits-calling.ensures.text ∙ c.calling_digits.ensures.digits)
-    (c.text-user.ensures.text ∙ ap (λ (octets : List ℕ). take 128 octets) c.user_data.ensures ∙ take_all 128 user now)
+    incoming_is _ _ _ _ _ _ c.in-Incoming.params (c.set_digits.ensures ∙ c.called_digits.ensures.digits)
+    (c.set_digits-in-Incoming.ensures ∙ c.calling_digits.ensures.digits)
+    (c.set.ensures ∙ ap (λ (octets : List ℕ). take 128 octets) c.user_data.ensures ∙ take_all 128 user now)
     ∙ sym (ap plain_notice c.in-Incoming.is)
 
 pub returns-in-Interrupted-clause-told : goal.returns-in-Interrupted-clause-told
 returns-in-Interrupted-clause-told c = λ short.
     let now = subst (λ (n : Notice). IsShort (plain_notice n)) c.in-Interrupted.is short in
-    ap (λ (x : List ℕ). interrupted x) (c.text-user-in-Interrupted.ensures.text ∙ take_all 128 c.in-Interrupted.user.now now)
+    ap (λ (x : List ℕ). interrupted x) (c.set-in-Interrupted.ensures ∙ take_all 128 c.in-Interrupted.user.now now)
     ∙ sym (ap plain_notice c.in-Interrupted.is)

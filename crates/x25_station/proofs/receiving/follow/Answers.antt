@@ -6,7 +6,6 @@ use Rattle.x25_station.specs.Config.{link_settings, layer_settings}
 use Rattle.x25_station.specs.Receiving.{kept_of}
 use Rattle.x25_station.specs.Station.{all_put, view_of}
 use Rattle.x25_station.specs.Step.{entries_of_answer, entries_of_packet, layer_answer, layer_down}
-use Rattle.x25_station.specs.code.PlainEntry.{plain_entry}
 use Rattle.x25_station.proofs.FollowLemmas.{is_none, at_up, at_down, at_heard, at_quiet, heard_entries, strict_entries}
 use Rattle.x25_station.proofs.receiving.follow.Goals as goal
 

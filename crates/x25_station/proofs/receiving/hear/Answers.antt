@@ -9,12 +9,9 @@ use Rattle.x25_layer.specs.Receiving.{answer_to, layer_hears}
 use Rattle.x25_layer.specs.laws.Rounds.{LinkView, begin, rounds, hears}
 use Rattle.x25_packet.specs.Spelling.{longest_user}
 use Rattle.x25_station.specs.Entry.{bringing, station_told}
-use Rattle.x25_station.specs.code.Memory.{ShownEntries}
-use Rattle.x25_station.specs.code.PlainEntry.{plain_entry}
 use Rattle.x25_station.specs.Config.{link_settings, layer_settings}
 use Rattle.x25_station.specs.Receiving.{kept_of, AreTellable}
 use Rattle.x25_station.specs.Station.{all_put, view_of}
-use Rattle.x25_station.specs.declared.entry.Entry.{Entry}
 use Rattle.x25_station.proofs.LinkLemmas.{put_by_put, seen_by, same_view}
 use Rattle.x25_station.proofs.NameLemmas.{rounds_name}
 use Rattle.x25_station.proofs.TellLemmas.{same_told}
@@ -56,7 +53,5 @@ returns-clause-entries c = λ c' l t fits link.
     (subst (λ (v : LinkView). FitsLayer lc c.drive.new.layer (rounds v lc (begin a.next a.owed)).layer) (same_view (link_settings c') t)
     (c.drive.ensures.layer lc a.next a.owed (kept_of (link_settings c') t) (c.packet-told.ensures.layer lc l fits) (c.packet-told.ensures.put lc l fits) link))
     (subst (λ (ns : List LayerNotice). AreTellable lc ns) (sym told) tellable)
-    ∙ ap (λ (es : List Entry). map plain_entry es ++ station_told next (plain_report c.packet-told.result))
-    (ap (λ (e : ShownEntries). e.items) c.entries.view_is ∙ c.requires.none)
     ∙ ap (λ ns. station_told next ns) told
     ∙ same_told next a.next a.notices (rounds_name view lc (begin a.next a.owed))

@@ -1,5 +1,4 @@
-use Rattle.std.proofs.Common.{true, ◌++◌, List, [], ◌∷◌, map, ap, subst, ◌∙◌, ℕ}
-use Rattle.std.proofs.lemmas.List.{map-append}
+use Rattle.std.proofs.Common.{true, ◌++◌, List, [], ◌∷◌, ap, subst, ◌∙◌, ℕ}
 use Rattle.x25_layer.specs.Layer.{Layer as LayerState}
 use Rattle.x25_station.specs.Confirming.{named_by}
 use Rattle.x25_layer.specs.laws.Rounds.{begin, rounds}
@@ -23,9 +22,9 @@ returns-in-Some-clause-entries c = λ c' l t fits link.
     let stands = subst (λ (h : ℕ). Stands lc l h c.unconfirmed_on-before.result) c.named.ensures (c.unconfirmed_on-before.ensures lc l fits) in
     let tells = subst (λ o. Tells next (named_by octets) (confirmed lc l next (named_by octets)) o) c.in-Some.is
     (c.confirmed.ensures.tells lc (named_by octets) l next stands (c.hear-bringing.ensures.puts.layer c' l t fits link)) in
-    heard_all (view_of (link_settings c') t.near) lc l octets _ _ (plain_entry c.in-Some.entry ∷ []) (c.hear-bringing.ensures.entries c' l t fits link)
-    (ap (λ es. map plain_entry es) c.push.ensures ∙ map-append plain_entry _ (c.in-Some.entry ∷ []))
-    (tells (entries_beside (beside_in true octets) (bringing a.notices)))
+    heard_all (view_of (link_settings c') t.near) lc l octets _ _ (plain_entry c.hear-bringing.new.entries.lent c.in-Some.entry ∷ []) (c.hear-bringing.ensures.entries c' l t fits link)
+    c.push.ensures
+    (tells c.hear-bringing.new.entries.lent (entries_beside (beside_in true octets) (bringing a.notices)))
 
 pub returns-in-None-clause-entries : goal.returns-in-None-clause-entries
 returns-in-None-clause-entries c = λ c' l t fits link.
@@ -38,6 +37,6 @@ returns-in-None-clause-entries c = λ c' l t fits link.
     (c.confirmed.ensures.tells lc (named_by octets) l next stands (c.hear-bringing.ensures.puts.layer c' l t fits link)) in
     heard_all (view_of (link_settings c') t.near) lc l octets _ _ (entries_beside (beside_in true octets) (bringing a.notices))
     (c.hear-bringing.ensures.entries c' l t fits link)
-    (c.enter_beside.ensures.entered ∙ ap (λ (es : List StationEntry). map plain_entry c.hear-bringing.new.entries.items ++ es)
+    (c.enter_beside.ensures.entered ∙ ap (λ (es : List StationEntry). c.hear-bringing.new.entries.items ++ es)
     (c.beside_of.ensures.told ∙ ap (entries_beside (beside_in true octets)) (c.hear-bringing.ensures.bringing c' l t fits link)))
     (nothing_behind next (named_by octets) (confirmed lc l next (named_by octets)) _ none)

@@ -5,8 +5,8 @@ use Rattle.x25_world.specs.laws.OctetLaw.{line_octets}
 use Rattle.x25_station.specs.laws.OctetLaw as station
 use Rattle.x25_world.proofs.law.worlds_hold_few.Goals as goal
 
--- both stations hold no more than so many, and 236,539
-both : (n dte dce line : ℕ) → dte ≤ 236539 + n → dce ≤ 236539 + n → (dte + dce) + (4103 * 34 + (4103 * 25 + (65535 + 128 * 5)) + line) ≤ 781330 + 2 * n + line
+-- both stations hold no more than so many, and 236,796
+both : (n dte dce line : ℕ) → dte ≤ 236796 + n → dce ≤ 236796 + n → (dte + dce) + (4103 * 34 + (4103 * 25 + (65535 + 128 * 5)) + line) ≤ 781844 + 2 * n + line
 both n dte dce line first second = omega (arith, first, second)
 
 pub returns : goal.returns

@@ -1,7 +1,6 @@
 use Rattle.std.proofs.Common.{◌≡◌, ◌∙◌, ◌++◌, map, ap, subst, sym}
 use Rattle.std.proofs.lemmas.Result.{MatchResult-weaker}
 use Rattle.x25_io.specs.code.Written.{AppendsPrefix, Tells}
-use Rattle.x25_station.specs.code.PlainEntry.{plain_entry}
 use Rattle.x25_station.specs.declared.step.Step as code_step
 use Rattle.x25_station.specs.Step.{Did}
 use Rattle.x25_station.specs.laws.TimerLaw as timer
@@ -30,7 +29,7 @@ returns-clause-acted g c = λ k old s event o told refused is timed come role te
           (subst (λ end. Tells old now q.output (told ++ sayings_text end (answer_told both))) role t) (c.tell_answer.ensures.is_refused ∙ status);
       timer = ap (λ (x : code_step.Step). x.timer) c.tell_answer.ensures.step
           ∙ pulled_timer_is k v u step both s event (Did plain) h (c.pull.ensures.timer c.requires k) timed;
-      entries = ap (λ (x : code_step.Step). map plain_entry x.entries.items) c.tell_answer.ensures.step ∙ here.enters;
+      entries = ap (λ (x : code_step.Step). x.entries.items) c.tell_answer.ensures.step ∙ here.enters;
       has_come = c.tell_answer.ensures.has_come ∙ come;
     })
     (λ _ b. begins_step k old now u both pulls told pulled (subst (λ end. AppendsPrefix old now (told ++ sayings_text end (answer_told both))) role b)))

@@ -1,7 +1,6 @@
 use Rattle.std.proofs.Common.{◌≡◌, ◌∙◌, Bool, map, ap, ap₂}
 use Rattle.x25_clock.specs.Clock.{Seen, seen}
 use Rattle.x25_layer.specs.code.FitsLayer.{awaited_at}
-use Rattle.x25_station.specs.code.PlainEntry.{plain_entry}
 use Rattle.x25_station.specs.Config.{layer_settings}
 use Rattle.x25_station.specs.Station.Told.{is_at_rest}
 use Rattle.x25_station.specs.Timer.{tells_link}
@@ -22,7 +21,7 @@ returns c = λ k times old now w told refused a h deadlines is_times time.
       awaited = λ h. awaited_at (layer_settings k) a.next.layer h;
     } in
     let same : seen k a.next step c.args.self.now.pipe.has_come ≡ seen_at k a =
-    ap (λ t. by t (tells_link (map plain_entry step.entries.items)) c.args.self.now.pipe.has_come) h.timer
+    ap (λ t. by t (tells_link step.entries.items) c.args.self.now.pipe.has_come) h.timer
     ∙ ap₂ (λ entries come. by a.timer (tells_link entries) come) h.entries h.has_come in
     record {
       pipe = h.stands;

@@ -2,7 +2,6 @@ use Rattle.std.proofs.Common.{arith, ◌≡◌, length, [], ◌++◌, map, ap, �
 use Rattle.x25_link.specs.Hearing.{LinkStep}
 use Rattle.x25_link.specs.Link.{abandon_step}
 use Rattle.x25_station.specs.Entry.{entries_down}
-use Rattle.x25_station.specs.code.PlainEntry.{plain_entry}
 use Rattle.x25_station.specs.Config.{link_settings, layer_settings}
 use Rattle.x25_station.specs.Step.{Step, receives}
 use Rattle.x25_station.proofs.DownLemmas.{fits_down, frames_down, entries_noted_down}
@@ -49,7 +48,7 @@ returns-clause-does c = record {
       let heard = c.abandon-heard.ensures.heard (link_settings c') s.link fits.link in
       entries_noted_down s.layer k [] _ _ (receives c' s c.args.octets.now) (gives_up c' s c.args.octets.now (c.requires.full c' s fits))
       (ap (λ n. n.down) heard.notes)
-      (c.note_down.ensures.entries ∙ ap (λ es. map plain_entry es ++ entries_down c.abandon-heard.result.notes.down) c.requires.empty.entries);
+      (c.note_down.ensures.entries ∙ ap (λ es. es ++ entries_down c.abandon-heard.result.notes.down) c.requires.empty.entries);
   refused = λ c' s fits. tt;
   stays = λ c' s fits. tt;
   empty = tt;

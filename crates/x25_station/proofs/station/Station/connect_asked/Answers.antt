@@ -6,8 +6,6 @@ use Rattle.x25_station.specs.declared.step.Step as code_step
 use Rattle.x25_station.specs.Config.{link_settings}
 use Rattle.x25_station.specs.Command.{Connects}
 use Rattle.x25_station.specs.Entry.{connect_asked}
-use Rattle.x25_station.specs.code.PlainEntry.{plain_entry}
-use Rattle.x25_station.specs.declared.entry.Entry.TheVariants.{ConnectAsked}
 use Rattle.x25_station.specs.Step.{Step, unless, follows, led_by, connects_asked}
 use Rattle.x25_station.proofs.DoesLemmas.{declines}
 use Rattle.x25_station.proofs.AskLemmas.{taken_link}
@@ -57,7 +55,7 @@ returns-in-Ok-clause-does c =
           (c.swap_frames.ensures.frames ∙ c.in-Ok.ensures.frames (link_settings c') s.link fits.link);
       entries = λ c' s fits. enters_unless r (connect_refusal s.link.phase)
           (led_by (connect_asked ∷ []) (follows c' s.layer (connect_step (link_settings c') s.link)))
-          (ap (map plain_entry) (c.push.ensures ∙ ap (λ es. es ++ ConnectAsked ∷ []) c.requires.entries));
+          (c.push.ensures ∙ ap (λ es. es ++ connect_asked ∷ []) c.requires.entries);
       refused = λ c' s fits. goes _ (connect_refusal s.link.phase) (led_by (connect_asked ∷ []) (follows c' s.layer (connect_step (link_settings c') s.link)))
           (c.in-Ok.ensures.refused (link_settings c') s.link fits.link);
       stays = λ c' s fits. tt;

@@ -1,14 +1,37 @@
-use Rattle.std.proofs.Common.{refl, ap, ◌∙◌}
+use Rattle.std.proofs.Common.{Some, None, refl, ap, ◌∙◌, sym}
 use Rattle.x25_layer.specs.Calls.{Dials}
+use Rattle.x25_given.specs.Given.{given_with}
 use Rattle.x25_station.specs.declared.step.Step as code_step
 use Rattle.x25_station.specs.Config.{layer_settings}
-use Rattle.x25_station.specs.Step.{requests}
-use Rattle.x25_station.proofs.OutcomeLemmas.{leaves_some, still_meant}
-use Rattle.x25_station.proofs.AskLemmas.{answers, still_fits}
-use Rattle.x25_station.proofs.DoesLemmas.{did_request, declines_request}
-use Rattle.x25_station.proofs.EnteredLemmas.{dialled_enters}
+use Rattle.x25_station.proofs.EitherLemmas.{allowed_asked, meant_asked, did_asked, enters_dialled, declines_first, declines_then, declines_last, meant_declined}
+use Rattle.x25_station.proofs.GivingLemmas.{none_of}
+use Rattle.x25_station.proofs.DriveLemmas.{judged_for}
 use Rattle.x25_station.proofs.TakeLemmas.{takes_longest, has_places}
 use Rattle.x25_station.proofs.station.Station.dial.Goals as goal
+
+pub returns-then-not-may_dial : goal.returns-then-not-may_dial
+returns-then-not-may_dial c = record {
+  does = declines_then (given_with c.args.given) c.args.self.now _ _ (Dials c.args.called.now c.args.calling.now c.args.user.now c.args.proposal.now)
+      (judged_for c.state.result c.args.self.now.link c.args.self.now.layer (Dials c.args.called.now c.args.calling.now c.args.user.now c.args.proposal.now)
+      None (record { up = c.state.ensures.up; full = c.state.ensures.waits })
+      (λ d k fits. sym (none_of c.call_refusal.result c.in_default.not-Some) ∙ c.call_refusal.ensures d k fits))
+      (sym (c.may_dial.ensures c.args.called.now c.args.calling.now c.args.user.now c.args.proposal.now) ∙ c.if-not-may_dial.true)
+      (λ c' s fits. fits) c.requires;
+}
+
+pub returns-in-Some : goal.returns-in-Some
+returns-in-Some c = record {
+  does = declines_first (given_with c.args.given) _ c.in-Some.error c.args.self.now _ _
+      (Dials c.args.called.now c.args.calling.now c.args.user.now c.args.proposal.now) c.of_layer.ensures
+      (judged_for c.state.result c.args.self.now.link c.args.self.now.layer (Dials c.args.called.now c.args.calling.now c.args.user.now c.args.proposal.now)
+      (Some c.in-Some.error) (record { up = c.state.ensures.up; full = c.state.ensures.waits })
+      (λ d k fits. sym c.in-Some.is ∙ c.call_refusal.ensures d k fits)) (λ c' s fits. fits) c.requires;
+}
+
+pub call-requires-clause-allowed : goal.call-requires-clause-allowed
+call-requires-clause-allowed c = allowed_asked c.args.self.now.manner.wide (given_with c.args.given)
+    (Dials c.args.called.now c.args.calling.now c.args.user.now c.args.proposal.now)
+    (sym (c.may_dial.ensures c.args.called.now c.args.calling.now c.args.user.now c.args.proposal.now) ∙ c.if-not-may_dial.false)
 
 pub call-requires-clause-longest : goal.call-requires-clause-longest
 call-requires-clause-longest c = takes_longest c.args.self.now.link c.args.self.now.layer c.args.self.now.meant
@@ -16,26 +39,20 @@ call-requires-clause-longest c = takes_longest c.args.self.now.link c.args.self.
 pub call-requires-clause-places : goal.call-requires-clause-places
 call-requires-clause-places c = has_places c.args.self.now.link c.args.self.now.layer c.args.self.now.meant
 
-pub invariant_of-self : goal.invariant_of-self
-invariant_of-self c = record {
-  meant = still_meant _ _ _ _ c.args.self.now.meant (λ c' s fits.
-      let request = Dials c.args.called.now c.args.calling.now c.args.user.now c.args.proposal.now in
-      let a = answers c.in-Ok.channel c' _ c.call.new.link c.swap_frames.new.self _ c.call.new.layer
-      (record { frames = c.swap_frames.new.frames; entries = c.enter_asked.new.entries; timer = c.args.out.now.timer }) s request fits
-      c.in-Ok.ensures.does.layer c.in-Ok.ensures.does.link (ap (λ l. l.station) c.swap_frames.ensures.link)
-      (ap (λ l. l.frames) c.swap_frames.ensures.link ∙ c.requires.frames) c.swap_frames.ensures.frames
-      refl (c.steps_keep_bounds.ensures.request c' s request fits.kept) in
-      leaves_some c' _ _ (requests c' s request) a.state a.refused);
+pub invariant_of-self-in-Ok : goal.invariant_of-self-in-Ok
+invariant_of-self-in-Ok c = record {
+  meant = meant_asked c.in-Ok.channel (given_with c.args.given) c.args.self.now.link c.call.new.link c.swap_frames.new.self c.args.self.now.layer
+      c.call.new.layer (record { frames = c.swap_frames.new.frames; entries = c.enter_asked.new.entries; timer = c.args.out.now.timer })
+      (Dials c.args.called.now c.args.calling.now c.args.user.now c.args.proposal.now) c.args.self.now.meant c.in-Ok.ensures.does
+      (ap (λ l. l.station) c.swap_frames.ensures.link) (ap (λ l. l.frames) c.swap_frames.ensures.link ∙ c.requires.frames) c.swap_frames.ensures.frames
+      c.steps_keep_bounds.ensures.request c.steps_keep_bounds.ensures.given
+      (sym (c.may_dial.ensures c.args.called.now c.args.calling.now c.args.user.now c.args.proposal.now) ∙ c.if-not-may_dial.false);
 }
 
 pub invariant_of-self-in-Err-1 : goal.invariant_of-self-in-Err-1
 invariant_of-self-in-Err-1 c = record {
-  meant = still_meant _ _ _ _ c.args.self.now.meant (λ c' s fits. (
-    c',
-    s,
-    still_fits c' c.args.self.now.link c.call.new.link _ c.call.new.layer s fits
-        (c.in-Err.ensures.does.layer_stays (layer_settings c') s.layer fits.layer) c.in-Err.ensures.does.link_stays,
-  ));
+  meant = meant_declined _ (given_with c.args.given) c.in-Err.error c.args.self.now.manner c.args.self.now.link c.call.new.link c.args.self.now.layer
+      c.call.new.layer (Dials c.args.called.now c.args.calling.now c.args.user.now c.args.proposal.now) c.args.self.now.meant c.in-Err.ensures.does;
 }
 
 pub returns-in-Ok : goal.returns-in-Ok
@@ -43,20 +60,22 @@ returns-in-Ok c = record {
   does =
       let request = Dials c.args.called.now c.args.calling.now c.args.user.now c.args.proposal.now in
       let r : code_step.Step = record { frames = c.swap_frames.new.frames; entries = c.enter_asked.new.entries; timer = c.args.out.now.timer } in
-      did_request c.in-Ok.channel c.args.self.now _ c.call.new.link r request c.in-Ok.ensures.does.layer c.in-Ok.ensures.does.link
+      did_asked c.in-Ok.channel (given_with c.args.given) c.args.self.now _ c.call.new.link r request c.in-Ok.ensures.does
       (ap (λ l. l.station) c.swap_frames.ensures.link) (ap (λ l. l.frames) c.swap_frames.ensures.link ∙ c.requires.frames) c.swap_frames.ensures.frames
-      c.steps_keep_bounds.ensures.request c.holds_few.ensures.window c.holds_few.ensures.stand
-      (λ c' s fits. refl)
+      c.steps_keep_bounds.ensures.request c.steps_keep_bounds.ensures.given c.holds_few.ensures.window c.holds_few.ensures.stand
+      (sym (c.may_dial.ensures c.args.called.now c.args.calling.now c.args.user.now c.args.proposal.now) ∙ c.if-not-may_dial.false)
       (λ c' s fits.
-      dialled_enters c' _ _ c.call.new.layer s r c.in-Ok.channel c.args.called.now c.args.calling.now c.args.user.now c.args.proposal.now fits
-      c.in-Ok.ensures.does.layer (c.in-Ok.ensures.channel (layer_settings c') s.layer fits.layer)
+      enters_dialled (given_with c.args.given) c' c.args.self.now.link c.call.new.link c.args.self.now.layer c.call.new.layer s r c.in-Ok.channel
+      c.args.called.now c.args.calling.now c.args.user.now c.args.proposal.now fits c.in-Ok.ensures.does
+      (sym (c.may_dial.ensures c.args.called.now c.args.calling.now c.args.user.now c.args.proposal.now) ∙ c.if-not-may_dial.false)
+      (c.in-Ok.ensures.channel (layer_settings c') s.layer fits.layer)
       (λ k after configured brief. c.enter_asked.ensures (layer_settings c') k after configured brief))
       refl;
 }
 
 pub returns-in-Err : goal.returns-in-Err
 returns-in-Err c = record {
-  does = declines_request _ c.in-Err.error _ c.args.self.now
-      _ _ (Dials c.args.called.now c.args.calling.now c.args.user.now c.args.proposal.now) c.of_layer.ensures c.in-Err.ensures.does.layer
-      c.in-Err.ensures.does.layer_stays c.in-Err.ensures.does.link_stays c.requires refl (λ c' s fits. refl);
+  does = declines_last _ (given_with c.args.given) c.in-Err.error _ c.args.self.now _ _
+      (Dials c.args.called.now c.args.calling.now c.args.user.now c.args.proposal.now) c.of_layer-in-Err.ensures c.in-Err.ensures.does
+      (sym (c.may_dial.ensures c.args.called.now c.args.calling.now c.args.user.now c.args.proposal.now) ∙ c.if-not-may_dial.false) c.requires refl;
 }

@@ -5,8 +5,6 @@ use Rattle.x25_station.specs.code.FitsParts.{AreMeant, FitsParts}
 use Rattle.x25_station.specs.Config.{link_settings, layer_settings}
 use Rattle.x25_station.specs.Command.{Disconnects}
 use Rattle.x25_station.specs.Entry.{entries_down, disconnect_asked}
-use Rattle.x25_station.specs.code.PlainEntry.{plain_entry}
-use Rattle.x25_station.specs.declared.entry.Entry.TheVariants.{DisconnectAsked}
 use Rattle.x25_station.specs.Step.{Step, unless, follows, led_by, disconnects}
 use Rattle.x25_station.proofs.DoesLemmas.{declines}
 use Rattle.x25_station.proofs.DownLemmas.{disconnect_down, leaves_down, frames_down, entries_noted_down}
@@ -62,8 +60,8 @@ returns-in-Ok-clause-does c = record {
       (disconnect_refusal s.link.phase) step
       (entries_noted_down s.layer k (disconnect_asked ∷ []) _ _ (follows c' s.layer k) (disconnect_down c' s.layer s.link)
       (ap (λ n. n.down) (c.in-Ok.ensures.heard (link_settings c') s.link fits.link).notes)
-      (c.note_down.ensures.entries ∙ ap (λ es. map plain_entry es ++ entries_down c.in-Ok.heard.notes.down)
-      (c.push.ensures ∙ ap (λ es. es ++ DisconnectAsked ∷ []) c.requires.entries)));
+      (c.note_down.ensures.entries ∙ ap (λ es. es ++ entries_down c.in-Ok.heard.notes.down)
+      (c.push.ensures ∙ ap (λ es. es ++ disconnect_asked ∷ []) c.requires.entries)));
   refused = λ c' s fits.
       let step : Step = led_by (disconnect_asked ∷ []) (follows c' s.layer (disconnect_step (link_settings c') s.link)) in
       goes _ (disconnect_refusal s.link.phase) step (c.in-Ok.ensures.refused (link_settings c') s.link fits.link);

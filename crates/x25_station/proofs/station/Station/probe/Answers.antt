@@ -5,7 +5,6 @@ use Rattle.x25_station.specs.code.FitsParts.{AreMeant, FitsParts}
 use Rattle.x25_station.specs.Config.{link_settings, layer_settings}
 use Rattle.x25_station.specs.Command.{Probes}
 use Rattle.x25_station.specs.Entry.{entries_down}
-use Rattle.x25_station.specs.code.PlainEntry.{plain_entry}
 use Rattle.x25_station.specs.Step.{Step, unless, follows, probes}
 use Rattle.x25_station.proofs.DoesLemmas.{declines}
 use Rattle.x25_station.proofs.DownLemmas.{timer_down, leaves_down, frames_down, entries_noted_down}
@@ -59,7 +58,7 @@ returns-in-Ok-clause-does c = record {
       (probe_refusal s.link.phase) (follows c' s.layer k)
       (entries_noted_down s.layer k [] _ _ (follows c' s.layer k) (timer_down c' s.layer s.link)
       (ap (λ n. n.down) (c.in-Ok.ensures.heard (link_settings c') s.link fits.link).notes)
-      (c.note_down.ensures.entries ∙ ap (λ es. map plain_entry es ++ entries_down c.in-Ok.heard.notes.down) c.requires.entries));
+      (c.note_down.ensures.entries ∙ ap (λ es. es ++ entries_down c.in-Ok.heard.notes.down) c.requires.entries));
   refused = λ c' s fits.
       goes _ (probe_refusal s.link.phase) (follows c' s.layer (timer_step (link_settings c') s.link))
       (c.in-Ok.ensures.refused (link_settings c') s.link fits.link);

@@ -1,7 +1,6 @@
 use Rattle.std.proofs.Common.{arith, refl, ap, map, ◌∙◌}
 use Rattle.x25_layer.specs.Calls.{PullsAll}
 use Rattle.x25_station.specs.declared.step.Step as code_step
-use Rattle.x25_station.specs.code.PlainEntry.{plain_entry}
 use Rattle.x25_station.specs.Config.{layer_settings}
 use Rattle.x25_station.specs.Step.{requests}
 use Rattle.x25_station.proofs.OutcomeLemmas.{leaves_some, still_meant}
@@ -49,7 +48,7 @@ returns-in-Ok-clause-does c =
     c.steps_keep_bounds.ensures.request c.holds_few.ensures.window c.holds_few.ensures.stand
     (λ c' s fits. refl)
     (λ c' s fits.
-    pull_enters c' s r (ap (λ es. map plain_entry es) c.requires.entries))
+    pull_enters c' s r c.requires.entries)
     refl
 
 pub returns-in-Err-clause-does : goal.returns-in-Err-clause-does

@@ -1,7 +1,6 @@
 use Rattle.std.proofs.Common.{ap, map, ◌∙◌}
 use Rattle.x25_station.specs.Config.{link_settings}
 use Rattle.x25_station.specs.Step.{receives}
-use Rattle.x25_station.specs.code.PlainEntry.{plain_entry}
 use Rattle.x25_station.proofs.DoesLemmas.{retimed}
 use Rattle.x25_station.proofs.station.Station.receive.Goals as goal
 
@@ -12,4 +11,4 @@ pub returns-clause-timer : goal.returns-clause-timer
 returns-clause-timer c = λ c' s fits.
     let does = c.take-acknowledged.ensures.does in
     c.timer_behind-out.ensures c' s (receives c' s c.args.octets.now) (c.timer_runs-ran.ensures (link_settings c') s.link fits.link) (does.state c' s fits)
-    (ap (map plain_entry) c.as_slice.ensures ∙ does.entries c' s fits) (c.take-acknowledged.ensures.acknowledged c' s fits)
+    (does.entries c' s fits) (c.take-acknowledged.ensures.acknowledged c' s fits)

@@ -5,8 +5,6 @@ use Rattle.x25_station.specs.code.FitsParts.{AreMeant, FitsParts}
 use Rattle.x25_station.specs.Config.{link_settings, layer_settings}
 use Rattle.x25_station.specs.Command.{Relinks}
 use Rattle.x25_station.specs.Entry.{entries_down, relink_asked}
-use Rattle.x25_station.specs.code.PlainEntry.{plain_entry}
-use Rattle.x25_station.specs.declared.entry.Entry.TheVariants.{RelinkAsked}
 use Rattle.x25_station.specs.Step.{Step, unless, follows, led_by, relinks}
 use Rattle.x25_station.proofs.DoesLemmas.{declines}
 use Rattle.x25_station.proofs.DownLemmas.{relink_down, leaves_down, frames_down, entries_noted_down}
@@ -62,8 +60,8 @@ returns-in-Ok-clause-does c = record {
       (relink_refusal s.link.phase) step
       (entries_noted_down s.layer k (relink_asked ∷ []) _ _ (follows c' s.layer k) (relink_down c' s.layer s.link)
       (ap (λ n. n.down) (c.in-Ok.ensures.heard (link_settings c') s.link fits.link).notes)
-      (c.note_down.ensures.entries ∙ ap (λ es. map plain_entry es ++ entries_down c.in-Ok.heard.notes.down)
-      (c.push.ensures ∙ ap (λ es. es ++ RelinkAsked ∷ []) c.requires.entries)));
+      (c.note_down.ensures.entries ∙ ap (λ es. es ++ entries_down c.in-Ok.heard.notes.down)
+      (c.push.ensures ∙ ap (λ es. es ++ relink_asked ∷ []) c.requires.entries)));
   refused = λ c' s fits.
       let step : Step = led_by (relink_asked ∷ []) (follows c' s.layer (relink_step (link_settings c') s.link)) in
       goes _ (relink_refusal s.link.phase) step (c.in-Ok.ensures.refused (link_settings c') s.link fits.link);

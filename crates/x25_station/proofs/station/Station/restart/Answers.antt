@@ -1,8 +1,7 @@
-use Rattle.std.proofs.Common.{refl, arith, [], ◌∷◌, ◌++◌, ap, ◌∙◌, map}
+use Rattle.std.proofs.Common.{refl, arith, [], ◌∷◌, ◌++◌, ap, ◌∙◌}
 use Rattle.x25_layer.specs.Calls.{Restarts}
-use Rattle.x25_station.specs.declared.entry.Entry.TheVariants.{RestartAsked}
+use Rattle.x25_station.specs.Entry.{restart_asked}
 use Rattle.x25_station.specs.declared.step.Step as code_step
-use Rattle.x25_station.specs.code.PlainEntry.{plain_entry}
 use Rattle.x25_station.specs.Config.{layer_settings}
 use Rattle.x25_station.specs.Step.{Outcome, requests}
 use Rattle.x25_station.proofs.OutcomeLemmas.{leaves_some, still_meant}
@@ -51,7 +50,7 @@ returns-in-Ok-clause-does c =
     (λ c' s fits. refl)
     (λ c' s fits.
     restart_enters c' s c.args.cause c.args.diagnostic r
-    (ap (λ es. map plain_entry es) (c.push.ensures ∙ ap (λ es. es ++ RestartAsked c.args.cause c.args.diagnostic ∷ []) c.requires.entries)))
+    (c.push.ensures ∙ ap (λ es. es ++ restart_asked c.args.cause c.args.diagnostic ∷ []) c.requires.entries))
     refl
 
 pub returns-in-Err-clause-does : goal.returns-in-Err-clause-does

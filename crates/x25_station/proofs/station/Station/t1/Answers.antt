@@ -1,6 +1,5 @@
 use Rattle.std.proofs.Common.{true, ap, map, ◌∙◌}
 use Rattle.x25_station.specs.Config.{link_settings}
-use Rattle.x25_station.specs.code.PlainEntry.{plain_entry}
 use Rattle.x25_station.proofs.ClockLemmas.{timed, ok_fired, err_fired}
 use Rattle.x25_station.proofs.TimerLemmas.{fired_none}
 use Rattle.x25_station.proofs.DoesLemmas.{retimed}
@@ -15,5 +14,4 @@ returns-clause-timer c = λ c' s fits.
     c.fire-answer.ensures.does (ok_fired c.fire-answer.result c.is_ok.result c.is_ok.ensures.value)
     (err_fired c.fire-answer.result c.is_ok.result c.is_ok.ensures.value)
     (fired_none c' s)
-    (λ step near entries none. c.timer_behind-out.ensures c' s step (c.timer_runs-ran.ensures (link_settings c') s.link fits.link) near
-    (ap (map plain_entry) c.as_slice.ensures ∙ entries) none)
+    (λ step near entries none. c.timer_behind-out.ensures c' s step (c.timer_runs-ran.ensures (link_settings c') s.link fits.link) near entries none)

@@ -10,7 +10,6 @@ returns-clause-step c = λ cfg w before tells.
       fits = acted.happened;
       told = rw (
         c.enter.ensures.entries,
-        c.into_vec-entries.ensures.entries ∙ ap (λ e. e.items) c.replace.ensures.value,
         c.reserve_entries.ensures.items,
         c.at.ensures,
       ) (told_behind w.transcript before _ _ _ tells.told acted.tells);

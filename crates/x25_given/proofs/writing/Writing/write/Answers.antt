@@ -6,7 +6,7 @@ use Rattle.x25_packet.specs.Views.{called_of, calling_of, field_of, user_of}
 use Rattle.x25_given.specs.Given.{plain_given}
 use Rattle.x25_given.specs.Writing.{fields}
 use Rattle.x25_given.proofs.WritingLemmas.{long_enough, call_written}
-use Rattle.x25_given.proofs.writing.with_given.Goals as goal
+use Rattle.x25_given.proofs.writing.Writing.write.Goals as goal
 
 pub addresses-requires-clause-long : goal.addresses-requires-clause-long
 addresses-requires-clause-long c =
@@ -17,10 +17,10 @@ addresses-requires-clause-long c =
     (c.len-in-Call.ensures.number ∙ ap length c.calling_digits.ensures.digits)
 
 pub returns-in-Call-clause-written : goal.returns-in-Call-clause-written
-returns-in-Call-clause-written c =
+returns-in-Call-clause-written c = λ done.
     let p = c.in-Call in
     let body = p.body.now in
-    c.spelled.ensures.items
+    c.spell.ensures.items
     ∙ ap (λ (user : List ℕ). c.head.result
     ++ (c.addresses.result.now ++ fields_octets (Some (fields (c.as_slice.result.now ++ c.args.given.now.facilities.now) user)))) c.user_data.ensures
     ∙ call_written (plain_given c.args.given.now) p.channel c.len.result c.len-in-Call.result (called_of p.a body) (calling_of p.a body) (field_of p.a body)
