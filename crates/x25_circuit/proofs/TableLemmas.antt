@@ -1,5 +1,5 @@
 -- The rows of the table for the states that a packet has in common.
-use Rattle.std.proofs.Common.{◌≡◌, ◌≢◌, ℕ, [], ◌∷◌, List, length, Option, Some, None, refl, sym, ap, ◌∙◌, Bool, true, false, ◌<◌, ◌≤◌, ◌++◌}
+use Rattle.std.proofs.Common.{◌≡◌, ◌≢◌, ℕ, [], ◌∷◌, List, length, Option, Some, None, refl, sym, ap, ◌∙◌, Bool, true, false, ◌<◌, ◌≤◌, ◌++◌, not, ◌&&◌, ◌==◌}
 use Rattle.std.proofs.lemmas.Bool.{le-leb, lt-leb, lt-ltb}
 use Rattle.x25_bits.specs.declared.role.Role.{Role}
 use Rattle.x25_bits.specs.declared.role.Role.TheVariants.{Dte, Dce}
@@ -19,6 +19,35 @@ use Rattle.x25_circuit.specs.Notice.{CallRequest, cleared, collided, connected, 
 use Rattle.x25_circuit.specs.Calling.{Refused, keeps_on, does, call_in, accept_in, accept_with, clear_in, clear_with, ready_in, ready_open, send_in, send_open}
 use Rattle.x25_circuit.specs.Hearing.{goes, collides, connects, clears_for, clears_to, unexpected, cause_of, row_call, row_accept, row_clear, row_clear_conf}
 use Rattle.x25_circuit.specs.Hearing.{row_reset, row_reset_conf, row_data, row_undecoded}
+use Rattle.x25_circuit.specs.Notice.{PlainNotice}
+use Rattle.x25_circuit.specs.Awaits.{awaited_in, is_any}
+use Rattle.x25_circuit.specs.declared.notice.Notice.{Notice}
+use Rattle.x25_circuit.specs.declared.notice.Notice.TheVariants as notice
+use Rattle.x25_circuit.specs.declared.notice.Reply.{Reply}
+use Rattle.x25_circuit.specs.code.Replies.{Says, is_message, tells_message, plain_notice, notices_of}
+
+-- what tells no message says the same beside any
+pub said_beside : (message : List ℕ) (reply : Reply) (owed : Option PlainPacket) (told : List PlainNotice) → tells_message reply.notice ≡ false
+    → Says [] reply owed told → Says message reply owed told
+said_beside message reply owed told none says = record { owed = says.owed; notices = by reply.collided reply.notice none ∙ says.notices }
+  where
+    same : (n : Notice) → is_message n ≡ false → plain_notice message n ≡ plain_notice [] n
+    same (notice.Incoming a params body) none = refl
+    same (notice.Connected params) none = refl
+    same (notice.Cleared cause diagnostic) none = refl
+    same notice.ClearDone none = refl
+    same (notice.WasReset cause diagnostic) none = refl
+    same notice.ResetDone none = refl
+    same (notice.Delivered marks) none = absurd (cc)
+    same (notice.Interrupted user) none = refl
+    same notice.InterruptDone none = refl
+    same (notice.Fault diagnostic) none = refl
+
+    by : (b : Bool) (o : Option Notice) → tells_message o ≡ false → notices_of message b o ≡ notices_of [] b o
+    by true None none = refl
+    by false None none = refl
+    by true (Some n) none = ap (λ (p : PlainNotice). collided ∷ p ∷ []) (same n none)
+    by false (Some n) none = ap (λ (p : PlainNotice). p ∷ []) (same n none)
 
 pub collides_at_dte : (r : Role) (x : Circuit) (request : CallRequest) → r ≡ Dte → collides r x request ≡ goes x Collision x.params true None []
 collides_at_dte r x request e = ap (λ (s : Role). collides s x request) e
@@ -135,3 +164,21 @@ send_full c x marks user short e = rw (le-leb _ _ short, e) refl
 pub send_waits : (c : CircuitSettings) (x : Circuit) (marks : Marks) (user : List ℕ) → length user ≤ c.longest → waits x < 8
     → send_open c x x.talk marks user ≡ keeps_on x (with_rest (x.talk.rest ++ cut (outgoing x).size marks user) x.talk) None
 send_waits c x marks user short e = rw (le-leb _ _ short, lt-ltb _ _ e) refl
+
+-- ---- what is under way
+
+pub idle_by : (s : State) (n : ℕ) → is_any (awaited_in s) ≡ false → (not (is_any (awaited_in s)) && (n == 0)) ≡ (n == 0)
+idle_by s n e = ap (λ (b : Bool). not b && (n == 0)) e
+
+pub busy_by : (s : State) (n : ℕ) → is_any (awaited_in s) ≡ true → (not (is_any (awaited_in s)) && (n == 0)) ≡ false
+busy_by s n e = ap (λ (b : Bool). not b && (n == 0)) e
+
+-- in all states but these an answer is awaited
+pub awaited : (s : State) → s ≢ Free → s ≢ Arriving → s ≢ Open → is_any (awaited_in s) ≡ true
+awaited Free free arriving d1 = absurd (free refl)
+awaited Arriving free arriving d1 = absurd (arriving refl)
+awaited Open free arriving d1 = absurd (d1 refl)
+awaited Calling free arriving d1 = refl
+awaited Collision free arriving d1 = refl
+awaited Resetting free arriving d1 = refl
+awaited Clearing free arriving d1 = refl

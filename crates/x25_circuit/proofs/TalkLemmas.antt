@@ -19,7 +19,9 @@ use Rattle.x25_circuit.specs.Hearing.{data_ground}
 use Rattle.std.proofs.lemmas.Bool.{eqb-true}
 use Rattle.std.proofs.lemmas.List.{length_push}
 use Rattle.x25_circuit.proofs.MessageLemmas.{wholes_all, joining_push}
-use Rattle.x25_circuit.specs.Circuit.{CircuitSettings, Talk, Circuit, outgoing}
+use Rattle.x25_circuit.specs.Circuit.{CircuitSettings, Talk, Circuit, outgoing, incoming}
+use Rattle.x25_circuit.specs.declared.params.Params.{Params}
+use Rattle.x25_circuit.specs.Params.{calling_terms, called_terms}
 use Rattle.x25_circuit.specs.code.Changes.{with_acked, with_taken, with_rest, with_peer, with_own}
 use Rattle.x25_circuit.specs.code.FitsNumbers.{FitsNumbers}
 use Rattle.x25_circuit.specs.code.Fits.{FitsTalk}
@@ -40,6 +42,17 @@ with_transfer c v x u made t fits talk kept = record {
   calls = fits.calls;
   talk = talk;
 }
+
+-- the most octets of the packets that it takes
+pub taken_size : (c : CircuitSettings) (v : code.Circuit) (x : Circuit) (n : ℕ) → FitsCircuit c v x
+    → n ≡ (if not v.calls then calling_terms v.flow.params else called_terms v.flow.params).size → n ≡ (incoming x).size
+taken_size c v x n fits is = is ∙ at v.calls ∙ ap (λ (b : Bool). (if b then called_terms v.flow.params else calling_terms v.flow.params).size) fits.calls
+    ∙ ap (λ (p : Params). (if x.calls then called_terms p else calling_terms p).size) fits.params
+  where
+    at : (b : Bool) → (if not b then calling_terms v.flow.params else called_terms v.flow.params).size
+        ≡ (if b then called_terms v.flow.params else calling_terms v.flow.params).size
+    at true = refl
+    at false = refl
 
 pub same_longest : (p q : ShownPartial) → p ≡ q → p.longest ≡ q.longest
 same_longest p q same = ap (λ (r : ShownPartial). r.longest) same

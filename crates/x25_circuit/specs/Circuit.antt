@@ -1,9 +1,10 @@
 -- The state of one logical channel at one end. ITU-T X.25 (10/96), sections 4.1, 4.3.1 and 4.4.
-use Rattle.std.specs.Prelude.{ℕ, ◌-◌, List, [], ◌++◌, drop, Bool, true, false, if◌then◌else◌}
+use Rattle.std.specs.Prelude.{ℕ, ◌-◌, List, [], ◌++◌, drop, Bool, true, false, if◌then◌else◌, not, ◌&&◌, ◌==◌}
 use Rattle.x25_bits.specs.declared.role.Role.{Role}
 use Rattle.x25_circuit.specs.declared.state.State.{State}
 use Rattle.x25_circuit.specs.declared.state.State.TheVariants.{Free, Open}
 use Rattle.x25_circuit.specs.declared.params.Params.{Params}
+use Rattle.x25_circuit.specs.Awaits.{awaited_in, is_any}
 use Rattle.x25_circuit.specs.Params.{Terms, default_params, called_terms, calling_terms}
 use Rattle.x25_circuit.specs.Message.{Piece, wholes, asked_in}
 
@@ -107,6 +108,10 @@ is_open x = is_open_in x.state
 -- how many messages wait: each until its last packet was sent
 abbrev pub waits : Circuit → ℕ
 waits x = wholes x.talk.rest
+
+-- nothing is under way: no answer is awaited, and no message waits
+abbrev pub is_idle : Circuit → Bool
+is_idle x = not (is_any (awaited_in x.state)) && (waits x == 0)
 
 -- how many messages haven't the confirmation yet that was asked of them: they wait, or their last packet isn't
 -- acknowledged (section 4.4.1.4)

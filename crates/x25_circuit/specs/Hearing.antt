@@ -3,7 +3,7 @@
 -- ITU-T X.25 (10/96), sections 4.1, 4.3 and 4.4, and Annex C, tables C-3 and C-4. All diagnostics, and which error
 -- leads to which procedure, are of the profile.
 use Rattle.std.specs.Prelude.{ℕ, suc, ◌+◌, ◌%◌, List, [], ◌∷◌, ◌++◌, length, Option, Some, None, Bool, true, false}
-use Rattle.std.specs.Prelude.{nat_le, ◌==◌, if◌then◌else◌}
+use Rattle.std.specs.Prelude.{nat_le, ◌==◌, if◌then◌else◌, Result, Ok, Err}
 use Rattle.x25_bits.specs.declared.role.Role.{Role}
 use Rattle.x25_bits.specs.declared.role.Role.TheVariants.{Dte, Dce}
 use Rattle.x25_packet.specs.declared.error.PacketError.{PacketError}
@@ -285,3 +285,8 @@ row_undecoded c x state error = clears_for c x (cause_of error) (diagnostic_of e
 
 abbrev pub undecoded : CircuitSettings → Circuit → PacketError → Answer
 undecoded c x error = row_undecoded c x x.state error
+
+-- what came, a packet or octets that spell none
+abbrev pub hears : CircuitSettings → Circuit → Result PlainPacket PacketError → Answer
+hears c x (Ok packet) = answers c x packet
+hears c x (Err e) = undecoded c x e

@@ -4,8 +4,8 @@ ghost use Rattle.x25_circuit.specs.Awaits.{awaited_in};
 ghost use Rattle.x25_circuit.specs.Params.{default_params};
 ghost use Rattle.x25_circuit.specs.Calling.{pulled, pulls_nothing};
 ghost use Rattle.x25_circuit.specs.Circuit.{CircuitSettings, begun, entered, forgotten, zeroed, is_free, is_open};
-ghost use Rattle.x25_circuit.specs.Circuit.{waits};
-ghost use Rattle.x25_circuit.specs.Circuit.{message_room, unconfirmed, outgoing, incoming};
+ghost use Rattle.x25_circuit.specs.Circuit.{waits, is_idle};
+ghost use Rattle.x25_circuit.specs.Circuit.{message_room, unconfirmed, outgoing};
 ghost use Rattle.x25_circuit.specs.code.CallMemory.{has_memory};
 ghost use Rattle.x25_circuit.specs.Circuit.{Circuit as Channel};
 
@@ -116,16 +116,6 @@ impl Circuit {
         self.flow.terms(self.calls)
     }
 
-    /// Of the data packets that this end takes.
-    pub(crate) fn incoming(&self) -> Terms
-        ensures window { (c : CircuitSettings) (x : Channel) → FitsCircuit c self.now x
-            → result.window ≡ (incoming x).window }
-        ensures size { (c : CircuitSettings) (x : Channel) → FitsCircuit c self.now x
-            → result.size ≡ (incoming x).size }
-    {
-        self.flow.terms(!self.calls)
-    }
-
     /// Whether it is in p1.
     pub fn is_free(&self) -> bool
         ensures { (c : CircuitSettings) (x : Channel) → FitsCircuit c self.now x → result ≡ is_free x }
@@ -149,6 +139,17 @@ impl Circuit {
             State::Calling | State::Collision => Awaits::Acceptance,
             State::Resetting => Awaits::ResetConfirmation,
             State::Clearing => Awaits::ClearConfirmation,
+        }
+    }
+
+    /// Whether nothing is under way: no message waits, and no answer is awaited.
+    pub fn is_idle(&self) -> bool
+        ensures value { (c : CircuitSettings) (x : Channel) → FitsCircuit c self.now x → result ≡ is_idle x }
+        ensures none { result ≡ true → waits_of self.now ≡ 0 }
+    {
+        match self.state {
+            State::Free | State::Arriving | State::Open => self.transfer.queue.len() == 0,
+            _ => false,
         }
     }
 

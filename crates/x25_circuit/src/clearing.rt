@@ -1,7 +1,7 @@
 //! Clears and resets: those that errors of procedure cause, and those that are done. ITU-T X.25 (10/96), sections 4.1.7
 //! to
 //! 4.1.9, 4.4.3 and Annex C.
-ghost use Rattle.std.specs.Prelude.{◌≡◌, ℕ, suc, ◌^◌, ◌-◌, ◌<◌, true, None, Some, [], ◌∷◌};
+ghost use Rattle.std.specs.Prelude.{◌≡◌, ℕ, suc, ◌^◌, ◌-◌, ◌<◌, true, false, None, Some, [], ◌∷◌};
 ghost use Rattle.x25_circuit.specs.Circuit.{CircuitSettings};
 ghost use Rattle.x25_circuit.specs.Circuit.{Circuit as Channel};
 ghost use Rattle.x25_circuit.specs.Notice.{reset_done};
@@ -9,7 +9,7 @@ ghost use Rattle.x25_circuit.specs.Hearing.{cause_at, diagnostic_in, clears_for,
 ghost use Rattle.x25_circuit.specs.Hearing.{resets_to, row_clear, row_clear_conf, row_reset, row_reset_conf};
 ghost use Rattle.x25_circuit.specs.Hearing.{undecoded, cause_of};
 ghost use Rattle.x25_circuit.specs.code.FitsCircuit.{FitsCircuit, made_of, clears_of, resets_of};
-ghost use Rattle.x25_circuit.specs.code.Replies.{Says, IsSendable, RepliesBy, handed_over, plain_owed};
+ghost use Rattle.x25_circuit.specs.code.Replies.{Says, IsSendable, RepliesBy, plain_owed, tells_message};
 
 use crate::circuit::Circuit;
 use crate::codes::{
@@ -134,9 +134,9 @@ impl Circuit {
         requires left { resets_of self.old < 2 ^ 64 - 1 }
         ensures next { (c : CircuitSettings) (x : Channel) → FitsCircuit c self.old x
             → FitsCircuit c self.new (resets_to x None (reset_done ∷ [])).next }
-        ensures says { Says result None (reset_done ∷ []) }
+        ensures says { Says [] result None (reset_done ∷ []) }
         ensures range { IsSendable (plain_owed result.packet) }
-        ensures handed { handed_over result.notice ≡ 0 }
+        ensures told { tells_message result.notice ≡ false }
     {
         self.be_reset();
         Reply::tells(Notice::ResetDone)
@@ -195,9 +195,8 @@ impl Circuit {
         }
     }
 
-    /// Takes octets that came for this channel and spell no packet, by the error that they have, 20 to 26. It takes no
-    /// memory.
-    pub fn undecoded<'a>(&mut self, error: PacketError) -> Reply<'a>
+    /// Octets that spell no packet, by the error that they have.
+    pub(crate) fn undecoded<'a>(&mut self, error: PacketError) -> Reply<'a>
         ensures { RepliesBy self.old self.new result (λ c x. undecoded c x error) }
     {
         match self.state {

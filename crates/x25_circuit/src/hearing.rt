@@ -1,14 +1,13 @@
 //! Packets that come. ITU-T X.25 (10/96), sections 4.3.7 and 4.4.1, and Annex C.
-ghost use Rattle.std.specs.Prelude.{◌≡◌, ℕ, ◌-◌, ◌^◌, ◌<◌, length, Some, None, true, false};
+ghost use Rattle.std.specs.Prelude.{◌≡◌, ℕ, ◌-◌, ◌^◌, ◌<◌, length, Some, None, true, false, IfOk};
 ghost use Rattle.x25_packet.specs.Packet.{plain, user_data};
 ghost use Rattle.x25_packet.specs.Spelling.{HasChannel, IsInRange};
 ghost use Rattle.x25_circuit.specs.Circuit.{CircuitSettings};
 ghost use Rattle.x25_circuit.specs.Circuit.{Circuit as Channel};
 ghost use Rattle.x25_circuit.specs.Hearing.{unless, number_ground, hears_status, confirms, row_open};
-ghost use Rattle.x25_circuit.specs.Hearing.{row_data, status, answers};
+ghost use Rattle.x25_circuit.specs.Hearing.{row_data, status, hears};
 ghost use Rattle.x25_circuit.specs.code.FitsCircuit.{FitsCircuit, made_of, clears_of, resets_of};
-ghost use Rattle.x25_circuit.specs.code.Replies.{RepliesBy, RepliesWith, packet_owed};
-ghost use Rattle.x25_circuit.specs.code.PartialMessage.{spares};
+ghost use Rattle.x25_circuit.specs.code.Replies.{RepliesBy, RepliesWith, packet_owed, plain_read};
 
 use crate::circuit::Circuit;
 use crate::codes::{INVALID_PR, INVALID_PS, NO_INTERRUPT};
@@ -16,7 +15,7 @@ use crate::notice::{Notice, Reply};
 use crate::octets::Octets;
 use crate::owed::Owed;
 use crate::state::State;
-use x25_packet::{Marks, Packet, Seq, facility_field};
+use x25_packet::{Marks, Packet, PacketError, Seq, facility_field};
 
 impl Circuit {
     /// RR, or RNR where this end isn't ready, with P(R).
@@ -67,14 +66,13 @@ impl Circuit {
         ps: Seq,
         pr: Seq,
         user: &[u8],
-        spare: &mut Option<Octets>,
+        message: &mut Octets,
     ) -> Reply<'a>
         requires made { made_of self.old ≡ true }
-        requires spare { spares spare.old ≡ 1 }
-        ensures { RepliesWith self.old self.new result (spares spare.new)
+        ensures { RepliesWith self.old self.new result message.old message.new
             (λ c x. row_open c x x.talk (user_data 1 marks m ps.number pr.number user.now)) }
     {
-        let size = self.incoming().size;
+        let size = self.flow.terms(!self.calls).size;
         if !self.transfer.ack(pr) {
             return self.reset_for(INVALID_PR);
         }
@@ -85,16 +83,20 @@ impl Circuit {
             return self.reset_for(diagnostic);
         }
         self.transfer.receiver.accept(ps);
-        match self.transfer.partial.join(marks, m, user, spare) {
-            Some(user) => Reply::both(self.status(), Notice::Delivered { marks, user }),
-            None => Reply::owes(self.status()),
+        if self.transfer.partial.join(marks, m, user, message) {
+            return Reply {
+                packet: Some(self.status()),
+                collided: false,
+                notice: Some(Notice::Delivered { marks }),
+            };
         }
+        Reply::owes(self.status())
     }
 
     // A packet of data transfer.
-    fn hear_transfer<'a>(&mut self, packet: &Packet<'a>, spare: &mut Option<Octets>) -> Reply<'a>
-        requires spare { spares spare.old ≡ 1 }
-        ensures { RepliesWith self.old self.new result (spares spare.new)
+    #[tactic(auto, using(crate::proofs::TableLemmas::said_beside))]
+    fn hear_transfer<'a>(&mut self, packet: &Packet<'a>, message: &mut Octets) -> Reply<'a>
+        ensures { RepliesWith self.old self.new result message.old message.new
             (λ c x. row_data c x self.old.state (plain packet.now)) }
     {
         match self.state {
@@ -110,7 +112,7 @@ impl Circuit {
                 pr,
                 user,
                 ..
-            } => self.hear_data(*marks, *m, *ps, *pr, user, spare),
+            } => self.hear_data(*marks, *m, *ps, *pr, user, message),
             Packet::Rr { pr, .. } => self.hear_status(*pr, true),
             Packet::Rnr { pr, .. } => self.hear_status(*pr, false),
             Packet::Interrupt { user, .. } => Reply::both(
@@ -122,18 +124,28 @@ impl Circuit {
         }
     }
 
-    /// Takes a packet that came for this channel, and answers the packet to send and what is reported to the user, by
-    /// the table of the circuit. The channel that the packet names isn't looked at.
+    /// Takes what came for this channel, a packet or the error of octets that spell none, 20 to 26, and answers the
+    /// packet to send and what is reported to the user, by the table of the circuit. The channel that the packet names
+    /// isn't looked at.
     ///
-    /// It takes no memory: a message is handed over in the spare memory, which is left where none is handed over.
-    pub fn packet<'a>(&mut self, packet: &Packet<'a>, spare: &mut Option<Octets>) -> Reply<'a>
-        requires kind { HasChannel (plain packet.now) }
+    /// It takes no memory: the octets of a message that is told are those of `message` then. Where none is told, those
+    /// are as they were.
+    #[tactic(auto, using(crate::proofs::TableLemmas::said_beside))]
+    pub fn hear<'a>(
+        &mut self,
+        read: &Result<Packet<'a>, PacketError>,
+        message: &mut Octets,
+    ) -> Reply<'a>
+        requires kind { IfOk read.now (λ packet. HasChannel (plain packet)) }
         requires clears { clears_of self.old < 2 ^ 64 - 1 }
         requires resets { resets_of self.old < 2 ^ 64 - 1 }
-        requires spare { spares spare.old ≡ 1 }
-        ensures { RepliesWith self.old self.new result (spares spare.new)
-            (λ c x. answers c x (plain packet.now)) }
+        ensures { RepliesWith self.old self.new result message.old message.new
+            (λ c x. hears c x (plain_read read.now)) }
     {
+        let packet = match read {
+            Ok(packet) => packet,
+            Err(error) => return self.undecoded(*error),
+        };
         match packet {
             Packet::Call { a, body, .. } => self.hear_call(*a, body),
             Packet::Accept { a, body, .. } => {
@@ -155,7 +167,7 @@ impl Circuit {
             | Packet::Rr { .. }
             | Packet::Rnr { .. }
             | Packet::Interrupt { .. }
-            | Packet::InterruptConf { .. } => self.hear_transfer(packet, spare),
+            | Packet::InterruptConf { .. } => self.hear_transfer(packet, message),
             Packet::Restart { .. } | Packet::RestartConf => unreachable!(),
         }
     }

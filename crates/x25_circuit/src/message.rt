@@ -1,4 +1,4 @@
-ghost use Rattle.std.specs.Prelude.{◌≡◌, ◌+◌, ◌++◌, ◌≤◌, length, true, false, IfNone, OnOk, OnErr};
+ghost use Rattle.std.specs.Prelude.{◌≡◌, ◌+◌, ◌≤◌, length, true, false, IfNone, OnOk, OnErr};
 
 use crate::codes::{MIXED_QUALIFIERS, PACKET_TOO_LONG};
 use crate::octets::Octets;
@@ -31,7 +31,7 @@ impl Model for PartialMessage {
 
 impl PartialMessage {
     ghost use Rattle.x25_circuit.specs.Message.{no_part, ground_of, joined, completed, piece_of};
-    ghost use Rattle.x25_circuit.specs.code.PartialMessage.{ended, spares};
+    ghost use Rattle.x25_circuit.specs.code.PartialMessage.{ended};
 
     /// No message has begun, and no memory is made.
     pub fn new(alloc: Global, longest: usize) -> PartialMessage
@@ -70,24 +70,16 @@ impl PartialMessage {
         Ok(())
     }
 
-    // The octets that have come.
-    fn as_slice(&self) -> &[u8]
-        ensures items { result.now ≡ self.now.part.user }
-        ensures short { length result.now ≤ self.now.longest }
-        ensures few { length result.now ≤ 65535 }
-    {
-        match &self.octets {
-            Some(octets) => octets.as_slice(),
-            None => &[],
-        }
-    }
-
     /// The diagnostic for which so many octets with this qualifier are refused behind what has begun, if any: 39 or 83.
     pub fn ground(&self, size: usize, count: usize, q: bool) -> Option<u8>
         ensures value { result ≡ ground_of self.now.longest size self.now.part count q }
         ensures fits { IfNone result (count ≤ size) }
     {
-        if count > size || count > self.longest - self.as_slice().len() {
+        let come = match &self.octets {
+            Some(octets) => octets.len(),
+            None => 0,
+        };
+        if count > size || count > self.longest - come {
             return Some(PACKET_TOO_LONG);
         }
         match self.begun {
@@ -96,23 +88,16 @@ impl PartialMessage {
         }
     }
 
-    /// Joins a packet, and gives the octets of the message that ends with it, if one does, in the spare memory.
-    pub fn join(
-        &mut self,
-        marks: Marks,
-        m: bool,
-        user: &[u8],
-        spare: &mut Option<Octets>,
-    ) -> Option<Octets>
+    /// Joins a packet, and says whether a message ends with it: its octets are those of `message` then.
+    pub fn join(&mut self, marks: Marks, m: bool, user: &[u8], message: &mut Octets) -> bool
         requires made { self.old.made ≡ true }
         requires short { length self.old.part.user + length user.now ≤ self.old.longest }
-        requires spare { spares spare.old ≡ 1 }
         ensures part { self.new.part ≡ joined self.old.part (piece_of marks m user.now) }
         ensures made { self.new.made ≡ true }
-        ensures message { ended marks result ≡ completed self.old.part (piece_of marks m user.now) }
+        ensures message { ended marks message.new result ≡ completed self.old.part (piece_of marks m user.now) }
+        ensures kept { result ≡ false → message.new ≡ message.old }
         ensures longest { self.new.longest ≡ self.old.longest }
         ensures short { length self.new.part.user ≤ self.new.longest }
-        ensures spare { spares spare.new + spares result ≡ 1 }
     {
         let Some(octets) = &mut self.octets else {
             unreachable!();
@@ -120,28 +105,12 @@ impl PartialMessage {
         if m {
             append_octets(octets, user);
             self.begun = Some(marks.q);
-            return None;
+            return false;
         }
-        Some(self.finish(user, spare))
-    }
-
-    // All octets that have come, and these behind them, in the spare memory.
-    fn finish(&mut self, last: &[u8], spare: &mut Option<Octets>) -> Octets
-        requires short { length self.old.part.user + length last.now ≤ 65535 }
-        requires spare { spares spare.old ≡ 1 }
-        ensures octets { result ≡ self.old.part.user ++ last.now }
-        ensures part { self.new.part ≡ no_part }
-        ensures made { self.new.made ≡ self.old.made }
-        ensures longest { self.new.longest ≡ self.old.longest }
-        ensures spare { spares spare.new ≡ 0 }
-    {
-        let Some(mut user) = spare.take() else {
-            unreachable!();
-        };
-        user.set(self.as_slice());
-        user.append(last);
-        self.clear();
-        user
+        message.set(octets.as_slice(), user);
+        octets.clear();
+        self.begun = None;
+        true
     }
 
     /// Drops it, and keeps its memory.

@@ -1,12 +1,11 @@
-ghost use Rattle.std.specs.Prelude.{◌≡◌, [], ◌∷◌, None, Some};
+ghost use Rattle.std.specs.Prelude.{◌≡◌, false, [], ◌∷◌, None, Some};
 ghost use Rattle.x25_packet.specs.Spelling.{IsInRange};
 
-use crate::octets::Octets;
 use crate::owed::Owed;
 use crate::params::Params;
 use x25_packet::Marks;
 
-/// What a packet brought the user. Octets are borrowed from the packet, but for those of a message.
+/// What a packet brought the user. Octets are borrowed from the packet; those of a message stand beside it.
 #[derive(Debug, Drop)]
 pub enum Notice<'a> {
     /// The other end calls.
@@ -35,10 +34,9 @@ pub enum Notice<'a> {
     },
     /// This end's reset is confirmed.
     ResetDone,
-    /// The last packet of a message came, with these marks; its user data are 0 to 65,535 octets.
+    /// The last packet of a message came, with these marks.
     Delivered {
         marks: Marks,
-        user: Octets,
     },
     /// An interrupt came.
     Interrupted {
@@ -63,13 +61,13 @@ pub struct Reply<'a> {
 
 impl<'a> Reply<'a> {
     ghost use Rattle.x25_circuit.specs.code.Replies.{Says, IsSendable, packet_owed, plain_notice, plain_owed};
-    ghost use Rattle.x25_circuit.specs.code.Replies.{handed_by, handed_over};
+    ghost use Rattle.x25_circuit.specs.code.Replies.{is_message, tells_message};
 
     /// Nothing is sent or reported.
     pub(crate) fn nothing() -> Reply<'a>
-        ensures says { Says result None [] }
+        ensures says { Says [] result None [] }
         ensures range { IsSendable (plain_owed result.packet) }
-        ensures handed { handed_over result.notice ≡ 0 }
+        ensures told { tells_message result.notice ≡ false }
     {
         Reply {
             packet: None,
@@ -80,9 +78,9 @@ impl<'a> Reply<'a> {
 
     /// Nothing is sent.
     pub(crate) fn tells(notice: Notice<'a>) -> Reply<'a>
-        ensures says { Says result None (plain_notice notice.entry ∷ []) }
+        ensures says { Says [] result None (plain_notice [] notice.entry ∷ []) }
         ensures range { IsSendable (plain_owed result.packet) }
-        ensures handed { handed_over result.notice ≡ handed_by notice.entry }
+        ensures told { tells_message result.notice ≡ is_message notice.entry }
     {
         Reply {
             packet: None,
@@ -93,9 +91,9 @@ impl<'a> Reply<'a> {
 
     /// Nothing is reported.
     pub(crate) fn owes(packet: Owed) -> Reply<'a>
-        ensures says { Says result (Some (packet_owed 1 packet)) [] }
+        ensures says { Says [] result (Some (packet_owed 1 packet)) [] }
         ensures range { IsInRange 128 (packet_owed 1 packet) → IsSendable (plain_owed result.packet) }
-        ensures handed { handed_over result.notice ≡ 0 }
+        ensures told { tells_message result.notice ≡ false }
     {
         Reply {
             packet: Some(packet),
@@ -106,9 +104,9 @@ impl<'a> Reply<'a> {
 
     /// A packet is sent, and something is reported to the user.
     pub(crate) fn both(packet: Owed, notice: Notice<'a>) -> Reply<'a>
-        ensures says { Says result (Some (packet_owed 1 packet)) (plain_notice notice.entry ∷ []) }
+        ensures says { Says [] result (Some (packet_owed 1 packet)) (plain_notice [] notice.entry ∷ []) }
         ensures range { IsInRange 128 (packet_owed 1 packet) → IsSendable (plain_owed result.packet) }
-        ensures handed { handed_over result.notice ≡ handed_by notice.entry }
+        ensures told { tells_message result.notice ≡ is_message notice.entry }
     {
         Reply {
             packet: Some(packet),

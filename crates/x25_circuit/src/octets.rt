@@ -41,20 +41,13 @@ impl Octets {
         self.octets.as_slice()
     }
 
-    /// These octets, in place of those that there are. It takes no memory.
-    pub fn set(&mut self, octets: &[u8])
-        requires { length octets.now ≤ 65535 }
-        ensures { self.new ≡ octets.now }
+    /// These octets, and more behind them, in place of those that there are. It takes no memory.
+    pub fn set(&mut self, octets: &[u8], more: &[u8])
+        requires { length octets.now + length more.now ≤ 65535 }
+        ensures { self.new ≡ octets.now ++ more.now }
     {
         self.octets.clear();
         append_octets(&mut self.octets, octets);
-    }
-
-    /// These octets, behind those that there are. It takes no memory.
-    pub(crate) fn append(&mut self, more: &[u8])
-        requires { length self.old + length more.now ≤ 65535 }
-        ensures { self.new ≡ self.old ++ more.now }
-    {
         append_octets(&mut self.octets, more);
     }
 }

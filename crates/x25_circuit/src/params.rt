@@ -1,7 +1,7 @@
 //! Packet sizes and windows: what is proposed, answered and in force. ITU-T X.25 (10/96), sections 6.12 and 7.2.2.1.
 ghost use Rattle.std.specs.Prelude.{◌≡◌, true, false, IfSome, IfNone, if◌then◌else◌};
-ghost use Rattle.x25_circuit.specs.Params.{default_params, may_propose, may_answer, is_toward, said_in, said_or};
-ghost use Rattle.x25_circuit.specs.Params.{sizes_of, windows_of, params_of, calling_terms, called_terms};
+ghost use Rattle.x25_circuit.specs.Params.{default_params, may_propose, may_answer, is_toward, said_in};
+ghost use Rattle.x25_circuit.specs.Params.{sizes_of, windows_of, calling_terms, called_terms};
 ghost use Rattle.x25_packet.specs.Facilities.{is_within};
 
 use crate::terms::Terms;
@@ -34,17 +34,6 @@ impl Params {
         Directions {
             called: self.win_called,
             calling: self.win_calling,
-        }
-    }
-
-    fn of(sizes: Directions, windows: Directions) -> Params
-        ensures { result ≡ params_of sizes windows }
-    {
-        Params {
-            size_called: sizes.called,
-            size_calling: sizes.calling,
-            win_called: windows.called,
-            win_calling: windows.calling,
         }
     }
 
@@ -144,10 +133,15 @@ impl FlowControl {
         let Ok(facilities) = Facilities::of(field) else {
             return self;
         };
-        let sizes = said_or(self.params.sizes(), facilities.packet_size);
-        let windows = said_or(self.params.windows(), facilities.window_size);
+        let sizes = facilities.packet_size.unwrap_or(self.params.sizes());
+        let windows = facilities.window_size.unwrap_or(self.params.windows());
         FlowControl {
-            params: Params::of(sizes, windows),
+            params: Params {
+                size_called: sizes.called,
+                size_calling: sizes.calling,
+                win_called: windows.called,
+                win_calling: windows.calling,
+            },
         }
     }
 
@@ -169,10 +163,4 @@ impl FlowControl {
             size: 1 << params.size_called,
         }
     }
-}
-
-fn said_or(known: Directions, said: Option<Directions>) -> Directions
-    ensures { result ≡ said_or known said }
-{
-    said.unwrap_or(known)
 }

@@ -1,16 +1,15 @@
 //! CALL and CALL ACCEPTED. ITU-T X.25 (10/96), sections 4.1.2 to 4.1.6.
 ghost use Rattle.std.specs.Prelude.{◌≡◌, true};
 ghost use Rattle.x25_packet.specs.Views.{called_of, calling_of, field_of, user_of};
-ghost use Rattle.x25_circuit.specs.Notice.{incoming};
 ghost use Rattle.x25_circuit.specs.Params.{said_in};
 ghost use Rattle.x25_circuit.specs.code.FitsCircuit.{made_of};
-ghost use Rattle.x25_circuit.specs.code.Replies.{RepliesBy, handed_by, plain_notice};
+ghost use Rattle.x25_circuit.specs.code.Replies.{RepliesBy};
 ghost use Rattle.x25_circuit.specs.Hearing.{collides, connects, request_in, row_call, row_accept};
 
 use crate::circuit::Circuit;
 use crate::codes::{INVALID_FACILITY, INVALID_PARAMETER};
 use crate::notice::{Notice, Reply};
-use crate::params::{FlowControl, Params};
+use crate::params::FlowControl;
 use crate::state::State;
 use x25_bits::Role;
 use x25_packet::facility_field;
@@ -25,7 +24,11 @@ impl Circuit {
             State::Free => {
                 let flow = FlowControl::usual().said(facility_field(a, body).as_slice());
                 self.enter(State::Arriving, flow, false);
-                Reply::tells(incoming(a, body, flow.params))
+                Reply::tells(Notice::Incoming {
+                    a,
+                    params: flow.params,
+                    body,
+                })
             }
             State::Calling => {
                 let flow = FlowControl::usual().said(facility_field(a, body).as_slice());
@@ -57,7 +60,11 @@ impl Circuit {
                 Reply {
                     packet: None,
                     collided: true,
-                    notice: Some(incoming(a, body, flow.params)),
+                    notice: Some(Notice::Incoming {
+                        a,
+                        params: flow.params,
+                        body,
+                    }),
                 }
             }
         }
@@ -89,16 +96,4 @@ impl Circuit {
             params: flow.params,
         })
     }
-}
-
-fn incoming<'a>(a: bool, body: &'a [u8], params: Params) -> Notice<'a>
-    ensures notice { plain_notice result ≡ incoming (record {
-      called = called_of a body.now;
-      calling = calling_of a body.now;
-      user = user_of a body.now;
-      params = params;
-    }) }
-    ensures handed { handed_by result ≡ 0 }
-{
-    Notice::Incoming { a, params, body }
 }

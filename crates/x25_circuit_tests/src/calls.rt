@@ -41,25 +41,32 @@ fn is_of_channel(packet: &Packet) -> bool
     }
 }
 
-/// Spare memory for a message.
-pub fn spare(alloc: Global) -> Result<Option<Octets>, CircuitError> {
-    Ok(Some(Octets::new(alloc)?))
+/// Memory for a message.
+pub fn message(alloc: Global) -> Result<Octets, CircuitError> {
+    Ok(Octets::new(alloc)?)
 }
 
 /// A packet of a channel comes.
 pub fn hear<'a>(
     circuit: &mut Circuit,
-    packet: &Packet<'a>,
-    spare: &mut Option<Octets>,
+    packet: Packet<'a>,
+    message: &mut Octets,
 ) -> Result<Reply<'a>, CircuitError> {
     let (clears, resets) = circuit.counts();
-    if clears == u64::MAX || resets == u64::MAX || !is_of_channel(packet) || spare.is_none() {
+    if clears == u64::MAX || resets == u64::MAX || !is_of_channel(&packet) {
         return Err(CircuitError::WrongState);
     }
-    Ok(circuit.packet(packet, spare))
+    Ok(circuit.hear(&Ok(packet), message))
 }
 
 /// Octets come that are too few for a packet.
-pub fn hear_too_few(circuit: &mut Circuit) -> Reply<'static> {
-    circuit.undecoded(PacketError::TooShort)
+pub fn hear_too_few(
+    circuit: &mut Circuit,
+    message: &mut Octets,
+) -> Result<Reply<'static>, CircuitError> {
+    let (clears, resets) = circuit.counts();
+    if clears == u64::MAX || resets == u64::MAX {
+        return Err(CircuitError::WrongState);
+    }
+    Ok(circuit.hear(&Err(PacketError::TooShort), message))
 }

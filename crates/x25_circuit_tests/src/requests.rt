@@ -1,6 +1,6 @@
 //! The calls of the user in one, and why they would be refused.
 
-use crate::calls::{ask, circuit, hear, spare};
+use crate::calls::{ask, circuit, hear, message};
 use std::alloc::Global;
 use x25_circuit::{Circuit, CircuitError, Owed, Params, Proposal, Request, Requested, Role};
 use x25_packet::{Marks, Packet};
@@ -126,7 +126,7 @@ fn goes_to(circuit: &mut Circuit, alloc: Global, place: usize) -> Result<(), Cir
         ask(circuit, Proposals::new().request(0))?;
     }
     if place > 1 {
-        hear(circuit, &acceptance(), &mut spare(alloc)?)?;
+        hear(circuit, acceptance(), &mut message(alloc)?)?;
     }
     Ok(())
 }

@@ -1,6 +1,6 @@
 //! What a circuit answers, and what it says of itself then; `tests/golden` has the packets of whole calls.
 
-use crate::calls::{ask, circuit, circuit_with, hear, hear_too_few, spare};
+use crate::calls::{ask, circuit, circuit_with, hear, hear_too_few, message};
 use crate::requests::{Proposals, acceptance};
 use std::alloc::Global;
 use x25_circuit::{Circuit, CircuitError, Notice, Octets, Owed, Params, Reply, Requested, Role};
@@ -282,40 +282,46 @@ fn asked(circuit: &mut Circuit, index: usize) -> Answer {
     }
 }
 
-fn replied(reply: &Reply) -> Answer {
+fn replied(reply: &Reply, message: &Octets) -> Answer {
     let (number, message) = match &reply.notice {
         Some(Notice::Fault { diagnostic }) => (*diagnostic, None),
-        Some(Notice::Delivered { marks, user }) => (0, Some((*marks, user.as_slice().len()))),
+        Some(Notice::Delivered { marks }) => (0, Some((*marks, message.as_slice().len()))),
         _ => (0, None),
     };
     (number, message, shape_of(&reply.packet))
 }
 
-// The memory of a message that was handed over.
-fn memory_of(notice: Option<Notice>) -> Option<Octets> {
-    match notice {
-        Some(Notice::Delivered { user, .. }) => Some(user),
-        _ => None,
+// The octets in the place of the message, before something comes.
+const BEFORE: &[u8] = b"before";
+
+// What is answered, where the octets in the place of the message are as they were unless one is told.
+fn kept(reply: &Reply, message: &Octets) -> Result<Answer, CircuitError> {
+    let is_told = matches!(reply.notice, Some(Notice::Delivered { .. }));
+    if is_told || message.as_slice() == BEFORE {
+        return Ok(replied(reply, message));
     }
+    Err(CircuitError::BadParameter)
 }
 
-// The memory of a message that is handed over is spare then.
 fn heard(
     circuit: &mut Circuit,
-    spare: &mut Option<Octets>,
-    packet: &Packet,
+    message: &mut Octets,
+    packet: Packet,
 ) -> Result<Answer, CircuitError> {
-    let reply = hear(circuit, packet, spare)?;
-    let answer = replied(&reply);
-    if spare.is_none() {
-        *spare = memory_of(reply.notice);
-    }
-    Ok(answer)
+    message.set(BEFORE, &[]);
+    let reply = hear(circuit, packet, message)?;
+    kept(&reply, message)
+}
+
+fn heard_too_few(circuit: &mut Circuit, message: &mut Octets) -> Result<Answer, CircuitError> {
+    message.set(BEFORE, &[]);
+    let reply = hear_too_few(circuit, message)?;
+    kept(&reply, message)
 }
 
 fn heard_data(
     circuit: &mut Circuit,
-    spare: &mut Option<Octets>,
+    message: &mut Octets,
     alloc: Global,
     (ps, pr): (u8, u8),
     (m, marks): (bool, Marks),
@@ -324,8 +330,8 @@ fn heard_data(
     let user = vec![in alloc; 0u8; count]?;
     heard(
         circuit,
-        spare,
-        &Packet::Data {
+        message,
+        Packet::Data {
             channel: 1,
             marks,
             m,
@@ -351,19 +357,19 @@ const CLEAR: Packet<'static> = Packet::Clear {
 
 fn happens(
     circuit: &mut Circuit,
-    spare: &mut Option<Octets>,
+    message: &mut Octets,
     alloc: Global,
     act: Act,
 ) -> Result<Answer, CircuitError> {
     match act {
         Act::Ask(index) => Ok(asked(circuit, index)),
-        Act::CallAccepted => heard(circuit, spare, &acceptance()),
-        Act::Clear => heard(circuit, spare, &CLEAR),
-        Act::ResetConfirmed => heard(circuit, spare, &Packet::ResetConf { channel: 1 }),
-        Act::TooFewOctets => Ok(replied(&hear_too_few(circuit))),
+        Act::CallAccepted => heard(circuit, message, acceptance()),
+        Act::Clear => heard(circuit, message, CLEAR),
+        Act::ResetConfirmed => heard(circuit, message, Packet::ResetConf { channel: 1 }),
+        Act::TooFewOctets => heard_too_few(circuit, message),
         Act::Data(ps, pr, m, marks, count) => heard_data(
             circuit,
-            spare,
+            message,
             alloc,
             (ps, pr),
             (m, marks),
@@ -371,16 +377,16 @@ fn happens(
         ),
         Act::Rr(pr) => heard(
             circuit,
-            spare,
-            &Packet::Rr {
+            message,
+            Packet::Rr {
                 channel: 1,
                 pr: Seq::modulo(pr),
             },
         ),
         Act::Rnr(pr) => heard(
             circuit,
-            spare,
-            &Packet::Rnr {
+            message,
+            Packet::Rnr {
                 channel: 1,
                 pr: Seq::modulo(pr),
             },
@@ -410,16 +416,20 @@ fn says(circuit: &Circuit) -> Says {
     )
 }
 
-// The first row in which something else comes of what happens, or no memory is spare behind it.
+fn is_idle(circuit: &Circuit) -> bool {
+    circuit.waits() == 0 && !circuit.awaits().is_any()
+}
+
+// The first row in which something else comes of what happens.
 fn odd_row(
     circuit: &mut Circuit,
-    spare: &mut Option<Octets>,
+    message: &mut Octets,
     alloc: Global,
     rows: &[Row],
 ) -> Option<usize> {
     for (place, &(act, answer, wanted)) in rows.iter().enumerate() {
-        let found = happens(circuit, spare, alloc, act);
-        if found != Ok(answer) || says(circuit) != wanted || spare.is_none() {
+        let found = happens(circuit, message, alloc, act);
+        if found != Ok(answer) || says(circuit) != wanted || circuit.is_idle() != is_idle(circuit) {
             return Some(place);
         }
     }
@@ -428,7 +438,7 @@ fn odd_row(
 
 fn odd_row_of(alloc: Global, rows: &[Row]) -> Result<Option<usize>, CircuitError> {
     let mut circuit = circuit(alloc, Role::Dte)?;
-    Ok(odd_row(&mut circuit, &mut spare(alloc)?, alloc, rows))
+    Ok(odd_row(&mut circuit, &mut message(alloc)?, alloc, rows))
 }
 
 #[test]
@@ -442,7 +452,7 @@ fn odd_row_of_an_octet(alloc: Global) -> Result<Option<usize>, CircuitError> {
     let mut circuit = circuit_with(alloc, Role::Dte, 1)?;
     Ok(odd_row(
         &mut circuit,
-        &mut spare(alloc)?,
+        &mut message(alloc)?,
         alloc,
         OF_AN_OCTET.as_slice(),
     ))
@@ -476,8 +486,8 @@ fn a_free_circuit_has_the_defaults(rt: HostRuntime) {
 fn set(alloc: Global) -> Result<(bool, bool), CircuitError> {
     let mut octets = Octets::new(alloc)?;
     let is_empty = octets.as_slice().is_empty();
-    octets.set(b"first");
-    octets.set(b"last");
+    octets.set(b"first", b"of all");
+    octets.set(b"la", b"st");
     Ok((is_empty, octets.as_slice() == b"last".as_slice()))
 }
 

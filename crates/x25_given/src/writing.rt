@@ -1,6 +1,6 @@
 //! The octets of a packet with what is given beside it.
 ghost use Rattle.std.specs.Prelude.{◌≡◌, ◌≤◌, ◌+◌, ◌/◌, ◌++◌, length, take, drop, vec_len, vec_capacity, true, false};
-ghost use Rattle.std.specs.Prelude.{Some, IfSome, MatchOption};
+ghost use Rattle.std.specs.Prelude.{[], IfOk, Some, IfSome, MatchOption};
 ghost use Rattle.x25_packet.specs.Block.{fields_octets};
 ghost use Rattle.x25_given.specs.Given.{may_give, plain_given};
 ghost use Rattle.x25_given.specs.Writing.{fields, head_of, write};
@@ -31,10 +31,12 @@ pub struct Writing {
 }
 
 impl Writing {
-    /// Memory for 257 octets.
+    /// Memory for 257 octets, of which there is none yet.
     ///
     /// 70 alone.
-    pub fn new(alloc: Global) -> Result<Writing, NoMemory> {
+    pub fn new(alloc: Global) -> Result<Writing, NoMemory>
+        ensures { IfOk result (λ writing. writing.octets.items ≡ []) }
+    {
         match Vec::with_capacity(alloc, MOST_OCTETS) {
             Ok(octets) => Ok(Writing { octets }),
             Err(_) => Err(NoMemory),

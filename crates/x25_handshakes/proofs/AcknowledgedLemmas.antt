@@ -1,19 +1,16 @@
 -- What is acknowledged to an end that talks, the other end has taken in the same stretch.
-use Rattle.std.proofs.Common.{◌≡◌, ◌⊎◌, inl, inr, ℕ, ◌≤◌, List, [], ◌∷◌, ◌++◌, length, take, drop, Some, refl, sym, ap, subst, ◌∙◌, arith}
-use Rattle.std.proofs.{lemmas.Bool.{true≢false}, lemmas.List.{take-append-drop, take-append-le}}
-use Rattle.x25_bits.specs.{declared.role.Role.{Role}, declared.role.Role.TheVariants.{Dte, Dce}}
-use Rattle.x25_circuit.specs.{Message.{Message, no_part, joining, carried_from, carried}, Notice.{CallRequest}}
-use Rattle.x25_handshakes.specs.{laws.Handshake.{Live, At, state_of, live}, laws.Stretch.{Packet, Stretch, fresh}, laws.Transfer.{fresh_transfer}}
-use Rattle.x25_handshakes.specs.{laws.Calls.{Phase, Talking, Connection, fresh_call}, laws.Layers.{Channels, all_fresh, Pair}, laws.Names.{Name}}
-use Rattle.x25_handshakes.specs.laws.Histories.{Lists, messages, resets_in, held_in, circuit_at, name_at, held_at, histories_run, histories_start, IsPrefix}
-use Rattle.x25_handshakes.specs.{laws.Arrivals.{open_at}, laws.Acknowledged.{AcknowledgedAreUp, AcknowledgedAreHandedUp}}
-use Rattle.x25_handshakes.specs.{laws.PeerClaims.{InEpochs, transfer_of}, laws.LawsBelow.{Laws}, laws.Terms.{Terms}}
-use Rattle.x25_handshakes.proofs.{StretchRelation.{pieces, StretchesRelated}, TransferRelation.{stretch_level}, CallsRelation.{TalksRelated}}
-use Rattle.x25_handshakes.proofs.{ChannelRelation.{Seen, connection_level, ChannelRelated}, LayersRelation.{channels_level, LayersRelated, EndsRelated}}
-use Rattle.x25_handshakes.proofs.{HandshakeLemmas.{both_fresh}, TextLemmas.{carried-append}, LineLemmas.{heard_least}, PartLemmas.{Line-le}}
-use Rattle.x25_handshakes.proofs.{StretchLemmas.{StretchesRelated-fresh}, CallLemmas.{TalksRelated-flip}, JointLemmas.{joint_order}, NameLemmas.{name_eq}}
-use Rattle.x25_handshakes.proofs.{TurnLemmas.{Ends-meet}, StretchKindLemmas.{messages_handled}, LayerLemmas.{Stands, Stands-turned}, LawLemmas.{always_holds}}
-use Rattle.x25_handshakes.proofs.{ArrivalLemmas.{opened, name_opened}, PeerOrder.{in_epochs}}
+use Rattle.x25_handshakes.proofs.Names.{◌≡◌, ◌⊎◌, inl, inr, ℕ, ◌≤◌, List, [], ◌∷◌, ◌++◌, length, Some, refl, sym, ap, subst, ◌∙◌, arith, true≢false, Role, Dte}
+use Rattle.x25_handshakes.proofs.Names.{Dce, Message, no_part, joining, carried_from, carried, CallRequest, Live, At, state_of, live, Packet, Stretch, fresh}
+use Rattle.x25_handshakes.proofs.Names.{fresh_transfer, Phase, Talking, Connection, fresh_call, Channels, all_fresh, Pair, Name, Lists, messages, resets_in}
+use Rattle.std.proofs.{Common.{take, drop}, lemmas.List.{take-append-drop, take-append-le}}
+use Rattle.x25_handshakes.proofs.{ArrivalLemmas.{opened, name_opened}, CallLemmas.{TalksRelated-flip}, CallsRelation.{TalksRelated}}
+use Rattle.x25_handshakes.proofs.{ChannelRelation.{Seen, connection_level, ChannelRelated}, HandshakeLemmas.{both_fresh}, JointLemmas.{joint_order}}
+use Rattle.x25_handshakes.proofs.{LawLemmas.{always_holds}, LayerLemmas.{Stands, Stands-turned}, LayersRelation.{channels_level, LayersRelated, EndsRelated}}
+use Rattle.x25_handshakes.proofs.{LineLemmas.{heard_least}, NameLemmas.{name_eq}, Names.{name_at, held_at, IsPrefix, open_at, Laws, Terms}}
+use Rattle.x25_handshakes.proofs.{PartLemmas.{Line-le}, PeerOrder.{in_epochs}, StretchKindLemmas.{messages_handled}, StretchLemmas.{StretchesRelated-fresh}}
+use Rattle.x25_handshakes.proofs.{StretchRelation.{pieces, StretchesRelated}, TextLemmas.{carried-append}, TransferRelation.{stretch_level}}
+use Rattle.x25_handshakes.{proofs.TurnLemmas.{Ends-meet}, specs.laws.Acknowledged.{AcknowledgedAreUp, AcknowledgedAreHandedUp}}
+use Rattle.x25_handshakes.specs.laws.{Histories.{held_in, circuit_at, histories_run, histories_start}, PeerClaims.{InEpochs, transfer_of}}
 
 -- ---- level by level
 

@@ -1,13 +1,11 @@
 -- An open stretch of both ends, with nothing on the way from one: all of it has arrived.
-use Rattle.std.proofs.{Common.{◌≡◌, ℕ, List, [], ◌∷◌, ◌++◌, Some, Bool, refl, sym, ap, subst, ◌∙◌, arith}, lemmas.Option.{same_Some, none-some}}
-use Rattle.x25_circuit.specs.{Message.{Piece, More, Last, Partial, no_part, joined, joining, wholes}, Notice.{CallRequest}}
-use Rattle.x25_bits.specs.declared.role.Role.{Role}
-use Rattle.x25_handshakes.specs.{laws.Handshake.{Side, Live, Left, At, state_of, live}, laws.Stretch.{Stretch}, laws.Calls.{Phase, Talking, Connection}}
-use Rattle.x25_handshakes.specs.{laws.Layers.{Channels, Pair, pair_run, pair_start}, laws.Names.{Name}, laws.Histories.{messages, name_at}}
-use Rattle.x25_handshakes.specs.{laws.Arrivals.{open_in, open_phase, open_call, open_channel, open_at, HasArrived, AllArrives}, laws.LawsBelow.{Laws}}
-use Rattle.x25_handshakes.specs.laws.Terms.{Terms}
-use Rattle.x25_handshakes.proofs.{LayersRelation.{EndsRelated}, LayerLemmas.{Stands, Stands-turned, Stands-run, Stands-start}}
-use Rattle.x25_handshakes.proofs.{StretchLemmas.{FollowsFrom-from_Dir}, ClaimLemmas.{open_stretch}, TextLemmas.{joining-append}}
+use Rattle.x25_handshakes.proofs.Names.{◌≡◌, ℕ, List, [], ◌∷◌, ◌++◌, Some, Bool, refl, sym, ap, subst, ◌∙◌, arith, none-some, Piece, Last, no_part, joining}
+use Rattle.x25_handshakes.proofs.Names.{wholes, CallRequest, Role, Side, Live, Left, At, state_of, live, Stretch, Phase, Talking, Connection, Channels, Pair}
+use Rattle.x25_handshakes.proofs.Names.{pair_run, pair_start, Name, messages, name_at, open_in, open_phase, open_call, open_channel, open_at, Laws, Terms}
+use Rattle.std.proofs.lemmas.Option.{same_Some}
+use Rattle.x25_circuit.specs.Message.{More, Partial, joined}
+use Rattle.x25_handshakes.proofs.{ClaimLemmas.{open_stretch}, LayerLemmas.{Stands, Stands-turned, Stands-run, Stands-start}, LayersRelation.{EndsRelated}}
+use Rattle.x25_handshakes.{proofs.StretchLemmas.{FollowsFrom-from_Dir}, proofs.TextLemmas.{joining-append}, specs.laws.Arrivals.{HasArrived, AllArrives}}
 
 -- an end of which the stretch x is open on channel k
 pub record Opened (s : Side (At Channels)) (k : ℕ) (x : Stretch) : Type 0 where

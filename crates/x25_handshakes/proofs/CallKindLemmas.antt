@@ -1,13 +1,11 @@
 -- Calls: what is indicated at an end, the other end made.
-use Rattle.std.proofs.{Common.{◌≡◌, inr, ℕ, List, [], ◌∷◌, ◌++◌, Option, Some, None, refl, sym, ◌∙◌}, lemmas.List.{append-nil}, lemmas.Bool.{cond_both}}
-use Rattle.x25_bits.specs.{declared.role.Role.{Role}, declared.role.Role.TheVariants.{Dte, Dce}}
-use Rattle.x25_circuit.specs.{declared.params.Params.{Params}, Params.{Proposal, may_propose, may_answer, field_for, said_in}, Notice.{CallRequest}}
-use Rattle.x25_handshakes.specs.{laws.Handshake.{Inner, OwnStep}, laws.Stretch.{Packet, Call, Accept}}
-use Rattle.x25_handshakes.specs.laws.Calls.{Phase, Unused, Waiting, Offered, Crossed, Talking, Connection, goes, unexpected, calling_talk, called_talk}
-use Rattle.x25_handshakes.specs.laws.Calls.{is_answered, accepts, phase_takes, call_takes, CallAct, PlacesCall, AcceptsCall, Talks, phase_acts}
-use Rattle.x25_handshakes.specs.{laws.Histories.{calls, IsPrefix}, laws.Transfer.{fresh_transfer}}
-use Rattle.x25_handshakes.proofs.{CallsRelation.{TalksRelated}, JointLemmas.{joint_order}, ChannelRelation.{clear_mark, Seen}, CallLemmas.{Seen-takes}}
-use Rattle.x25_handshakes.proofs.{HistoryLemmas.{Stays, IsPrefix-refl}, TurnLemmas.{MayIndicate, WithinCall, IsHandled}}
+use Rattle.x25_handshakes.proofs.Names.{◌≡◌, inr, ℕ, List, [], ◌∷◌, ◌++◌, Option, Some, None, refl, sym, ◌∙◌, append-nil, cond_both, Role, Dte, Dce, Params}
+use Rattle.x25_handshakes.proofs.Names.{Proposal, may_propose, may_answer, field_for, said_in, CallRequest, Inner, OwnStep, Packet, Call, Accept, Phase, Unused}
+use Rattle.x25_handshakes.proofs.Names.{Waiting, Offered, Crossed, Talking, Connection, goes, unexpected, calling_talk, called_talk, is_answered, accepts}
+use Rattle.x25_handshakes.proofs.Names.{phase_takes, call_takes, CallAct, PlacesCall, AcceptsCall, Talks, phase_acts, IsPrefix, fresh_transfer}
+use Rattle.x25_handshakes.proofs.{CallLemmas.{Seen-takes}, CallsRelation.{TalksRelated}, ChannelRelation.{clear_mark, Seen}}
+use Rattle.x25_handshakes.proofs.{HistoryLemmas.{Stays, IsPrefix-refl}, JointLemmas.{joint_order}}
+use Rattle.x25_handshakes.{proofs.TurnLemmas.{MayIndicate, WithinCall, IsHandled}, specs.laws.Histories.{calls}}
 
 seen_begins : (r : Role) (x : Connection) (u v : List Packet) (y : Connection) → Seen r x u v y → IsPrefix x.indicated y.made
 seen_begins Dte x u v y h = (joint_order TalksRelated fresh_transfer fresh_transfer (λ a b. Unit {0}) tt (λ t k x u v t₂ k₂ y h. tt) x.phase y.phase x.made

@@ -1,15 +1,10 @@
 -- Two circuits in p4 and their calls keep their relation, and have no procedure error.
-use Rattle.std.proofs.Common.{List, [], ◌≡◌, ◌∷◌, refl, sym, subst}
-use Rattle.x25_handshakes.specs.{laws.Handshake.{At}, laws.Stretch.{Packet, Stretch, fresh}, laws.Transfer.{fresh_transfer}}
-use Rattle.x25_handshakes.specs.{laws.Calls.{Phase, Unused, Waiting, Connection, call_takes, CallAct, call_acts, fresh_call}, laws.LawsBelow.{Laws}}
-use Rattle.x25_handshakes.specs.laws.Terms.{Terms}
-use Rattle.x25_circuit.specs.Notice.{CallRequest}
-use Rattle.x25_handshakes.proofs.{TermsLemmas.{IsSound}, HandshakeLemmas.{hand_flip, hand_map}, StretchRelation.{StretchesRelated}}
-use Rattle.x25_handshakes.proofs.TransferRelation.{TransfersRelated}
+use Rattle.x25_handshakes.proofs.Names.{List, [], ◌≡◌, ◌∷◌, refl, sym, subst, At, Packet, Stretch, fresh, fresh_transfer, Phase, Unused, Waiting, Connection}
+use Rattle.x25_handshakes.proofs.Names.{call_takes, CallAct, call_acts, fresh_call, Laws, Terms, CallRequest, Dte, Dce, Role}
+use Rattle.x25_handshakes.proofs.{CallsRelation.{TalksRelated, Joint, GoodCall, IsCalled}, ChannelRelation.{Seen}, HandshakeLemmas.{hand_flip, hand_map}}
+use Rattle.x25_handshakes.proofs.{OwnCallLemmas.{own_dte_talks, DteTalks, DceTalks, dte_takes, dte_acts, dce_takes, dce_acts}, OwnTransferLemmas.{OwnStretches}}
 use Rattle.x25_handshakes.proofs.StretchLemmas.{StretchesRelated-flip, StretchesRelated-fresh, GoodStretch-acts, GoodStretch-takes}
-use Rattle.x25_handshakes.proofs.{OwnTransferLemmas.{OwnStretches}, CallsRelation.{TalksRelated, Joint, GoodCall, IsCalled}, ChannelRelation.{Seen}}
-use Rattle.x25_handshakes.proofs.OwnCallLemmas.{own_dte_talks, DteTalks, DceTalks, dte_takes, dte_acts, dce_takes, dce_acts}
-use Rattle.x25_bits.specs.{declared.role.Role.TheVariants.{Dte, Dce}, declared.role.Role.{Role}}
+use Rattle.x25_handshakes.proofs.{StretchRelation.{StretchesRelated}, TermsLemmas.{IsSound}, TransferRelation.{TransfersRelated}}
 
 pub TransfersRelated-flip : (t b : Terms) (x : At Stretch) (L K : List Packet) (y : At Stretch) → TransfersRelated t b x L K y → TransfersRelated b t y K L x
 TransfersRelated-flip t b x L K y h = record {

@@ -1,10 +1,8 @@
 -- What is kept of two circuits between two clears. The first of the two ends is the DTE, the second the DCE.
-use Rattle.std.proofs.Common.{◌≡◌, ◌⊎◌, ℕ, List, [], ◌∷◌, ◌++◌, None, true}
-use Rattle.x25_circuit.specs.{declared.params.Params.{Params}, Params.{may_propose, may_answer, said_in}, Notice.{CallRequest}}
-use Rattle.x25_handshakes.specs.{laws.Handshake.{At, OwnStep}, laws.Stretch.{Packet, Call, Accept, Stretch, fresh}, laws.Transfer.{fresh_transfer}}
-use Rattle.x25_handshakes.specs.laws.Calls.{Phase, Unused, Waiting, Offered, Crossed, Talking, Connection, Stage}
-use Rattle.x25_handshakes.specs.laws.Terms.{Terms, called_terms, calling_terms}
-use Rattle.x25_handshakes.proofs.{TermsLemmas.{IsSound}, TransferRelation.{OwnTransfer}, StretchRelation.{StretchesRelated}}
+use Rattle.x25_handshakes.proofs.Names.{◌≡◌, ◌⊎◌, ℕ, List, [], ◌∷◌, ◌++◌, None, true, Params, may_propose, may_answer, said_in, CallRequest, At, OwnStep}
+use Rattle.x25_handshakes.proofs.Names.{Packet, Call, Accept, Stretch, fresh, fresh_transfer, Phase, Unused, Waiting, Offered, Crossed, Talking, Connection}
+use Rattle.x25_handshakes.proofs.{Names.{Stage, Terms, called_terms, calling_terms}, StretchRelation.{StretchesRelated}, TermsLemmas.{IsSound}}
+use Rattle.x25_handshakes.proofs.TransferRelation.{OwnTransfer}
 
 -- our own end and the other one in p4, of whatever kind: what the one sends by, the other takes by; R is kept in a
 -- stretch, and y₀ is the other end as one begins

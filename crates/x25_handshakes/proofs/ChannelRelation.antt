@@ -1,9 +1,6 @@
 -- What is kept of the two ends of a channel.
-use Rattle.std.proofs.Common.{List}
-use Rattle.x25_handshakes.specs.{laws.Handshake.{Mark, Inner, Request, Confirm, At}, laws.Stretch.{Packet, Clear, ClearConf}}
-use Rattle.x25_handshakes.specs.laws.Calls.{Connection, fresh_call}
-use Rattle.x25_bits.specs.{declared.role.Role.{Role}, declared.role.Role.TheVariants.{Dte, Dce}}
-use Rattle.x25_handshakes.proofs.{HandshakeRelation.{Level, Handshaken}, CallsRelation.{Joint, IsCalled}}
+use Rattle.x25_handshakes.proofs.Names.{List, Mark, Inner, Request, Confirm, At, Packet, Clear, ClearConf, Connection, fresh_call, Role, Dte, Dce}
+use Rattle.x25_handshakes.proofs.{CallsRelation.{Joint, IsCalled}, HandshakeRelation.{Level, Handshaken}}
 
 -- what a packet is to the handshake of CLEAR
 abbrev pub clear_mark : Packet → Mark

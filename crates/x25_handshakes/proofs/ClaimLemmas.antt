@@ -1,13 +1,9 @@
 -- What follows for the user from the relation of two layers.
-use Rattle.std.proofs.Common.{◌≡◌, ℕ, List, [], ◌∷◌, refl, subst, sym}
-use Rattle.x25_handshakes.specs.{laws.Handshake.{Live, At, live}, laws.Stretch.{Packet, Stretch}, laws.Calls.{Phase, Waiting, Crossed, Talking, Connection}}
-use Rattle.x25_handshakes.specs.{laws.Layers.{LayerPacket, Channels}, laws.Terms.{Terms}}
-use Rattle.x25_bits.specs.{declared.role.Role.{Role}, declared.role.Role.TheVariants.{Dte, Dce}}
-use Rattle.x25_circuit.specs.Notice.{CallRequest}
-use Rattle.x25_handshakes.proofs.{HandshakeRelation.{before}, HandshakeLemmas.{both_live}, StretchRelation.{StretchesRelated}}
-use Rattle.x25_handshakes.proofs.{TransferRelation.{reset_mark, TransfersRelated}, CallsRelation.{TalksRelated, Joint}}
-use Rattle.x25_handshakes.proofs.{ChannelRelation.{clear_mark, Seen, ChannelRelated}, LayersRelation.{on, restart_mark, EndsRelated}}
-use Rattle.x25_handshakes.proofs.CallLemmas.{TalksRelated-flip}
+use Rattle.x25_handshakes.proofs.Names.{◌≡◌, ℕ, List, [], ◌∷◌, refl, subst, sym, Live, At, live, Packet, Stretch, Phase, Waiting, Crossed, Talking, Connection}
+use Rattle.x25_handshakes.proofs.{CallLemmas.{TalksRelated-flip}, CallsRelation.{TalksRelated, Joint}, ChannelRelation.{clear_mark, Seen, ChannelRelated}}
+use Rattle.x25_handshakes.proofs.{HandshakeLemmas.{both_live}, HandshakeRelation.{before}, LayersRelation.{on, restart_mark, EndsRelated}}
+use Rattle.x25_handshakes.proofs.{Names.{LayerPacket, Channels, Terms, Role, Dte, Dce, CallRequest}, StretchRelation.{StretchesRelated}}
+use Rattle.x25_handshakes.proofs.TransferRelation.{reset_mark, TransfersRelated}
 
 -- both ends live at all levels, in one stretch, and nothing on the way from the first
 

@@ -1,18 +1,14 @@
 -- Where nothing is on the way, a stretch that is open at one end is open at the other, and all that either told is known.
-use Rattle.std.proofs.Common.{◌≡◌, ◌⊎◌, inl, inr, ℕ, ◌+◌, ◌%◌, ◌≤◌, List, [], ◌∷◌, ◌++◌, length, Bool, true, false, nat_lt, if◌then◌else◌, refl, sym, ap}
-use Rattle.std.proofs.{Common.{subst, ◌∙◌, arith}, lemmas.Bool.{true≢false, lt-ltb}}
-use Rattle.x25_circuit.specs.{Message.{Piece}, Notice.{CallRequest}}
-use Rattle.x25_bits.specs.{declared.role.Role.{Role}, declared.role.Role.TheVariants.{Dte, Dce}}
-use Rattle.x25_handshakes.specs.laws.Handshake.{Side, Live, Left, At, state_of, OwnStep, live}
-use Rattle.x25_handshakes.specs.laws.Stretch.{Data, Stretch, Pull, stretch_does, pulls, Packet}
-use Rattle.x25_handshakes.specs.{laws.Transfer.{Inside, lifted}, laws.Calls.{Phase, Waiting, Crossed, Talking, Connection, Talks, in_transfer}}
-use Rattle.x25_handshakes.specs.{laws.Channel.{Within, lifted_call, channel_acts}, laws.Layers.{LayerPacket, Channels, addressed, Pair, pair_run, pair_start}}
-use Rattle.x25_handshakes.specs.{laws.Histories.{messages, resets_in, name_at}, laws.Arrivals.{open_in, open_phase, open_call, open_channel, open_at}}
-use Rattle.x25_handshakes.specs.{laws.Drained.{is_up, pulled_at, IsOpenThere, AllIsKnown}, laws.LawsBelow.{Laws}, laws.Terms.{Terms}}
-use Rattle.x25_handshakes.proofs.{HandshakeRelation.{Level, Handshake}, HandshakeLemmas.{cons≢nil}, CallsRelation.{Joint}}
-use Rattle.x25_handshakes.proofs.{ChannelRelation.{Seen, ChannelRelated}, LayersRelation.{EndsRelated}, PartLemmas.{Line-le}, CallLemmas.{TalksRelated-flip}}
-use Rattle.x25_handshakes.proofs.{LayerLemmas.{Stands, Stands-turned, Stands-run, Stands-start}, ClaimLemmas.{BothTalk}}
-use Rattle.x25_handshakes.proofs.ArrivalLemmas.{Opened, opened, name_opened}
+use Rattle.x25_handshakes.proofs.Names.{◌≡◌, ◌⊎◌, inl, inr, ℕ, ◌+◌, ◌%◌, ◌≤◌, List, [], ◌∷◌, ◌++◌, length, Bool, true, false, nat_lt, if◌then◌else◌, refl, sym}
+use Rattle.x25_handshakes.proofs.Names.{ap, subst, ◌∙◌, arith, true≢false, Piece, CallRequest, Role, Dte, Dce, Side, Live, Left, At, state_of, OwnStep, live}
+use Rattle.x25_handshakes.proofs.Names.{Data, Stretch, Pull, stretch_does, pulls, Packet, Inside, lifted, Phase, Waiting, Crossed, Talking, Connection, Talks}
+use Rattle.x25_handshakes.proofs.Names.{Within, lifted_call, channel_acts, LayerPacket, Channels, addressed, Pair, pair_run, pair_start, messages, resets_in}
+use Rattle.std.proofs.lemmas.Bool.{lt-ltb}
+use Rattle.x25_handshakes.proofs.{ArrivalLemmas.{Opened, opened, name_opened}, CallLemmas.{TalksRelated-flip}, CallsRelation.{Joint}}
+use Rattle.x25_handshakes.proofs.{ChannelRelation.{Seen, ChannelRelated}, ClaimLemmas.{BothTalk}, HandshakeLemmas.{cons≢nil}}
+use Rattle.x25_handshakes.proofs.{HandshakeRelation.{Level, Handshake}, LayerLemmas.{Stands, Stands-turned, Stands-run, Stands-start}}
+use Rattle.x25_handshakes.proofs.{LayersRelation.{EndsRelated}, Names.{name_at, open_in, open_phase, open_call, open_channel, open_at, Laws, Terms}}
+use Rattle.x25_handshakes.{proofs.PartLemmas.{Line-le}, specs.laws.Calls.{in_transfer}, specs.laws.Drained.{is_up, pulled_at, IsOpenThere, AllIsKnown}}
 
 -- a live end of a handshake with nothing on the way: the other is live too, in the same epoch
 record AtRest {S T P : Type 0} (l : Level S T P) (ex ey : ℕ) (x : S) (y : Side T) : Type 0 where

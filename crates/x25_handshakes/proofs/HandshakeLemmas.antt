@@ -1,9 +1,8 @@
 -- Each event of a handshake keeps its relation.
-use Rattle.std.proofs.{Common.{◌≡◌, inl, inr, ℕ, suc, List, [], ◌∷◌, ◌++◌, Bool, true, false, refl, sym, ap, subst, ◌∙◌}, lemmas.Bool.{true≢false}}
-use Rattle.std.proofs.lemmas.List.{append-nil}
-use Rattle.x25_handshakes.specs.laws.Handshake.{Mark, Inner, Request, Confirm, Side, Live, Left, At, has_left, state_of}
+use Rattle.x25_handshakes.proofs.Names.{◌≡◌, inl, inr, ℕ, suc, List, [], ◌∷◌, ◌++◌, Bool, true, false, refl, sym, ap, subst, ◌∙◌, true≢false, append-nil, Mark}
 use Rattle.x25_handshakes.proofs.HandshakeRelation.{Handshaken, kept_before, before, kept_past, past, ends_at, Ends, behind_at, Behind, Extended, Level}
-use Rattle.x25_handshakes.proofs.HandshakeRelation.{Handshake, Each, AllInner}
+use Rattle.x25_handshakes.proofs.{HandshakeRelation.{Handshake, Each, AllInner}, Names.{Inner, Request, Confirm, Side, Live, Left, At, state_of}}
+use Rattle.x25_handshakes.specs.laws.Handshake.{has_left}
 
 -- what holds of all of both lists holds of all of one list of both
 pub each_append : {P : Type 0} (A : P → Type 0) (u o : List P) → Each A u → Each A o → Each A (u ++ o)

@@ -1,7 +1,7 @@
 -- What a handshake keeps of two ends and the two lines between them, over any relation of the states within an epoch. The two ends may be of two
 -- kinds: ours, and any peer.
-use Rattle.std.proofs.Common.{◌≡◌, ◌⊎◌, ℕ, suc, List, [], ◌∷◌, ◌++◌, Option, None, Bool, true, false}
-use Rattle.x25_handshakes.specs.laws.Handshake.{Mark, Inner, Request, Confirm, Side, Live, Left, At, has_left}
+use Rattle.x25_handshakes.proofs.Names.{◌≡◌, ◌⊎◌, ℕ, suc, List, [], ◌∷◌, ◌++◌, Option, None, Bool, true, false, Mark, Inner, Request, Confirm, Side, Live, Left}
+use Rattle.x25_handshakes.{proofs.Names.{At}, specs.laws.Handshake.{has_left}}
 
 abbrev pub kept_before : {P : Type 0} → Mark → P → List P → List P
 kept_before Inner p rest = p ∷ rest

@@ -1,9 +1,8 @@
 -- A step of an end of a handshake: what it makes of a packet, or does of its own accord. That says nothing of the lines, and keeps what is kept.
-use Rattle.std.proofs.Common.{◌≡◌, ℕ, suc, List, [], ◌∷◌, ◌++◌, Option, None, refl, sym, subst, ◌∙◌}
-use Rattle.x25_handshakes.specs.laws.Handshake.{Mark, Inner, Request, Confirm, Side, Live, Left, At}
-use Rattle.x25_handshakes.proofs.HandshakeRelation.{Level, Handshake, Handshaken, GoodStep, AllInner}
+use Rattle.x25_handshakes.proofs.Names.{◌≡◌, ℕ, suc, List, [], ◌∷◌, ◌++◌, Option, None, refl, sym, subst, ◌∙◌, Mark, Inner, Request, Confirm, Side, Live, Left}
+use Rattle.x25_handshakes.proofs.Names.{At}
 use Rattle.x25_handshakes.proofs.HandshakeLemmas.{request_live, request_gone, confirm_never, leave, inner_act, inner_take, drops, marker_left, inner_live}
-use Rattle.x25_handshakes.proofs.HandshakeLemmas.{live_front, flip, still, turned}
+use Rattle.x25_handshakes.proofs.{HandshakeLemmas.{live_front, flip, still, turned}, HandshakeRelation.{Level, Handshake, Handshaken, GoodStep, AllInner}}
 
 -- any packets
 abbrev pub Any : {P : Type 0} → List P → Type 0

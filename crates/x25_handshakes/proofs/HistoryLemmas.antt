@@ -1,9 +1,8 @@
 -- Lawful histories are kept, where a step lets the name and what is held under it stay or grow.
-use Rattle.std.proofs.{Common.{◌≡◌, ◌⊎◌, inl, inr, ℕ, ◌<◌, List, [], ◌++◌, refl, sym, ap, subst, ◌∙◌, append_assoc}, lemmas.List.{append-nil}}
-use Rattle.std.proofs.lemmas.Bool.{cond_both}
-use Rattle.x25_handshakes.specs.{laws.Handshake.{At}, laws.Layers.{Channels}, laws.Names.{Name, same_name, IsEarlier}}
-use Rattle.x25_handshakes.specs.laws.Histories.{Lists, none, Kind, name_at, held_at, ChannelView, written, channel_view, IsPrefix, IsLawful}
+use Rattle.x25_handshakes.proofs.Names.{◌≡◌, ◌⊎◌, inl, inr, ℕ, ◌<◌, List, [], ◌++◌, refl, sym, ap, subst, ◌∙◌, append_assoc, append-nil, cond_both, At}
+use Rattle.x25_handshakes.proofs.Names.{Channels, Name, Lists, none, Kind, name_at, held_at, channel_view, IsPrefix}
 use Rattle.x25_handshakes.proofs.NameLemmas.{name_eq, same_name-refl, same_name-is, earlier-trans, earlier-differs}
+use Rattle.x25_handshakes.specs.laws.{Histories.{ChannelView, written, IsLawful}, Names.{same_name, IsEarlier}}
 
 -- What a step does to the name and the lists of a channel. What is handed up is as before, or what Allowed says.
 pub data Change {M : Type 0} (Allowed : List M → Type 0) (clears resets : ℕ) (l : Lists M) (clears₂ resets₂ : ℕ) (l₂ : Lists M) : Type 0 where

@@ -1,12 +1,11 @@
 -- What is so of two ends between two clears, of whatever kind, in every stage of a call: no CLEAR is on the way, what
 -- is indicated at the one was made at the other, and what is kept of p4.
-use Rattle.std.proofs.{Common.{◌≡◌, inl, inr, List, [], ◌∷◌, ◌++◌, refl, ap, ◌∙◌}, lemmas.List.{append-nil}}
-use Rattle.x25_handshakes.specs.{laws.Handshake.{Inner}, laws.Stretch.{Packet, Call, Accept, Clear, ClearConf}, laws.Histories.{IsPrefix}}
-use Rattle.x25_handshakes.specs.{laws.Calls.{Stage, Unused, Waiting, Offered, Crossed, Talking}, laws.PeerClaims.{in_stage}, laws.Terms.{Terms}}
-use Rattle.x25_circuit.specs.{declared.params.Params.{Params}, Notice.{CallRequest}}
-use Rattle.x25_handshakes.proofs.{HandshakeRelation.{AllInner}, TransferRelation.{InTransfer, AllInTransfer}}
+use Rattle.x25_handshakes.proofs.Names.{◌≡◌, inl, inr, List, [], ◌∷◌, ◌++◌, refl, ap, ◌∙◌, append-nil, Inner, Packet, Call, Accept, Clear, ClearConf, IsPrefix}
+use Rattle.x25_handshakes.proofs.Names.{Stage, Unused, Waiting, Offered, Crossed, Talking, Terms, Params, CallRequest}
 use Rattle.x25_handshakes.proofs.{CallsRelation.{Nil, OneCall, MaybeCall, Accepted, CallAccepted, TalksOf, JointOf}, ChannelRelation.{clear_mark}}
-use Rattle.x25_handshakes.proofs.{OwnCallLemmas.{Accepted-some, CallAccepted-some}, HandshakeLemmas.{each_map}}
+use Rattle.x25_handshakes.proofs.{HandshakeLemmas.{each_map}, HandshakeRelation.{AllInner}}
+use Rattle.x25_handshakes.proofs.{OwnCallLemmas.{Accepted-some, CallAccepted-some}, TransferRelation.{InTransfer, AllInTransfer}}
+use Rattle.x25_handshakes.specs.laws.PeerClaims.{in_stage}
 
 -- ---- no CLEAR and no confirmation of it is on the way between two clears
 

@@ -1,14 +1,10 @@
 -- In every run, the histories of the two ends are lawful: for any kind of thing that is handled so within a call.
-use Rattle.std.proofs.Common.{ℕ, List, [], ◌∷◌, Option, Bool, true, false, if◌then◌else◌, refl, sym, subst}
-use Rattle.x25_bits.specs.{declared.role.Role.{Role}, declared.role.Role.TheVariants.{Dte, Dce}}
-use Rattle.x25_handshakes.specs.{laws.Handshake.{Side, Live, Left, At, state_of, live}, laws.Calls.{call_takes}}
-use Rattle.x25_handshakes.specs.laws.Layers.{LayerPacket, On, Channels, Move, Acts, Takes, LinkDown, LayerEvent, pair_moves, layer_side_takes}
-use Rattle.x25_handshakes.specs.laws.Names.{Name}
-use Rattle.x25_handshakes.specs.laws.Histories.{Lists, Kind, name_at, held_at, channel_view, written, IsLawful, Histories, turned_histories, histories_moves}
-use Rattle.x25_handshakes.specs.{laws.Histories.{histories_run, histories_start, AreInOrder}, laws.PeerLayers.{other_role}, laws.LawsBelow.{Laws}}
-use Rattle.x25_handshakes.proofs.{LayersRelation.{EndsRelated}, LayerLemmas.{Stands, Stands-moves, Stands-turned, Stands-start}}
-use Rattle.x25_handshakes.proofs.HistoryLemmas.{Turn, MayHandUp, lawful_turned, lawful_turn}
+use Rattle.x25_handshakes.proofs.Names.{ℕ, List, [], ◌∷◌, Option, Bool, true, false, if◌then◌else◌, refl, sym, subst, Role, Dte, Dce, Side, Live, Left, At}
+use Rattle.x25_handshakes.proofs.Names.{state_of, live, call_takes, LayerPacket, On, Channels, Move, Acts, Takes, LinkDown, LayerEvent, pair_moves}
+use Rattle.x25_handshakes.proofs.{HistoryLemmas.{Turn, MayHandUp, lawful_turned, lawful_turn}, LayerLemmas.{Stands, Stands-moves, Stands-turned, Stands-start}}
+use Rattle.x25_handshakes.proofs.{LayersRelation.{EndsRelated}, Names.{layer_side_takes, Name, Lists, Kind, name_at, held_at, channel_view, other_role, Laws}}
 use Rattle.x25_handshakes.proofs.TurnLemmas.{IsHandled, WithinCall, turn_still, turn_taken, turn_acted, taken_in_its_epoch}
+use Rattle.x25_handshakes.specs.laws.Histories.{written, IsLawful, Histories, turned_histories, histories_moves, histories_run, histories_start, AreInOrder}
 
 taken : {M : Type 0} (kind : Kind M) → IsHandled kind
     → (r : Role) (e : ℕ) (x : Side Channels) (k : ℕ) (p : LayerPacket) (L K : List LayerPacket) (far : Side (At Channels))

@@ -1,16 +1,14 @@
 -- Two channels of ours between two restarts, where no CLEAR comes in p1, and two layers keep their relation, and no run has a procedure error.
-use Rattle.std.proofs.Common.{ℕ, List, [], Option, refl, ◌≡◌, ◌∷◌, None, Bool, true, false, if◌then◌else◌, ap, ◌∙◌}
-use Rattle.x25_handshakes.specs.{laws.Handshake.{At, Side, Live, Left, first_error}, laws.Stretch.{Packet, Stretch}, laws.Calls.{Connection, fresh_call}}
-use Rattle.x25_handshakes.specs.{laws.Channel.{fresh_channel}, laws.Transfer.{fresh_transfer}, laws.LawsBelow.{Laws}, laws.PeerLayers.{other_role}}
-use Rattle.x25_handshakes.specs.laws.Layers.{LayerPacket, Restart, Channels, all_fresh, layer_takes, LayerAct, layer_acts, Pair, Move, Acts, Takes, LinkDown}
-use Rattle.x25_handshakes.specs.{laws.Layers.{turned, pair_moves, LayerEvent, pair_run, pair_start}, laws.Terms.{Terms}}
-use Rattle.x25_bits.specs.{declared.role.Role.{Role}, declared.role.Role.TheVariants.{Dte, Dce}}
-use Rattle.x25_handshakes.proofs.{HandshakeLemmas.{hand_flip, both_fresh, hand_map, ext_step, both_requests}, CallsRelation.{TalksRelated, IsCalled}}
+use Rattle.x25_handshakes.proofs.Names.{ℕ, List, [], Option, refl, ◌≡◌, ◌∷◌, None, Bool, true, false, if◌then◌else◌, ap, ◌∙◌, At, Side, Live, Left, first_error}
+use Rattle.x25_handshakes.proofs.Names.{Packet, Stretch, Connection, fresh_call, fresh_channel, fresh_transfer, Laws, other_role, LayerPacket, Restart}
+use Rattle.x25_handshakes.proofs.Names.{Channels, all_fresh, layer_takes, LayerAct, layer_acts, Pair, Move, Acts, Takes, LinkDown, pair_moves, LayerEvent}
+use Rattle.x25_handshakes.proofs.Names.{pair_run, pair_start, Terms, Role, Dte, Dce}
+use Rattle.x25_handshakes.proofs.{CallLemmas.{Seen-takes, Seen-acts, Seen-fresh, Seen-free}, CallsRelation.{TalksRelated, IsCalled}}
 use Rattle.x25_handshakes.proofs.ChannelRelation.{Seen, connection_level, ChannelRelated}
-use Rattle.x25_handshakes.proofs.{OwnChannelLemmas.{OwnCalls, not_p1, channel_takes_good, channel_acts_good}, JointLemmas.{Quiet, quiet_transfer, quiet_joint}}
-use Rattle.x25_handshakes.proofs.CallLemmas.{Seen-takes, Seen-acts, Seen-fresh, Seen-free}
+use Rattle.x25_handshakes.proofs.{HandshakeLemmas.{hand_flip, both_fresh, hand_map, ext_step, both_requests}, JointLemmas.{Quiet, quiet_transfer, quiet_joint}}
 use Rattle.x25_handshakes.proofs.LayersRelation.{OnEach, channels_level, LayersRelated, GoodLayer, EndsRelated}
-use Rattle.x25_handshakes.proofs.OwnLayerLemmas.{OwnChannels, layer_takes_good, layer_acts_good}
+use Rattle.x25_handshakes.proofs.OwnChannelLemmas.{OwnCalls, not_p1, channel_takes_good, channel_acts_good}
+use Rattle.x25_handshakes.{proofs.OwnLayerLemmas.{OwnChannels, layer_takes_good, layer_acts_good}, specs.laws.Layers.{turned}}
 
 Seen-flip : (r : Role) (x : Connection) (u v : List Packet) (y : Connection) → Seen r x u v y → Seen (other_role r) y v u x
 Seen-flip Dte x u v y h = h

@@ -1,20 +1,16 @@
 -- What our own circuit does is what a peer may do: calls and their clearing.
-use Rattle.std.proofs.{Common.{◌≡◌, ℕ, ◌≤◌, List, [], ◌∷◌, ◌++◌, Option, Some, None, Bool, true, false, if◌then◌else◌, refl, ap}, lemmas.Bool.{cond_both}}
-use Rattle.x25_bits.specs.{declared.role.Role.{Role}, declared.role.Role.TheVariants.{Dte, Dce}}
-use Rattle.x25_circuit.specs.{declared.params.Params.{Params}, Params.{Proposal, may_propose, may_answer, field_for, said_in}, Notice.{CallRequest}}
-use Rattle.x25_handshakes.specs.{laws.Handshake.{Side, Live, Left, At, OwnStep, PeerStep, live}, laws.Stretch.{Packet, Call, Accept, Clear, ClearConf}}
-use Rattle.x25_handshakes.specs.laws.Transfer.{transfer_side_takes, transfer_side_acts}
-use Rattle.x25_handshakes.specs.laws.Calls.{Phase, Unused, Waiting, Offered, Crossed, Talking, Connection, goes, unexpected, called_talk, calling_talk}
-use Rattle.x25_handshakes.specs.laws.Calls.{is_answered, phase_takes, call_takes, CallAct, PlacesCall, AcceptsCall, Talks, accepts, phase_acts, call_acts}
-use Rattle.x25_handshakes.specs.laws.Channel.{lifted_call, channel_side_takes, ChannelAct, Within, SendsClear, clears, channel_side_acts}
-use Rattle.x25_handshakes.specs.laws.PeerTransfer.{transfer_taking}
-use Rattle.x25_handshakes.specs.laws.PeerCalls.{PeerCall, CallDeed, stands, InTransfer, MayDoCall, called_in_data, calling_in_data, does_call, call_packet_of}
-use Rattle.x25_handshakes.specs.laws.PeerCalls.{call_taking}
-use Rattle.x25_handshakes.specs.laws.PeerChannel.{ChannelDeed, InCall, Clears, MayDoChannel, does_channel, channel_packet_of, channel_taking}
-use Rattle.x25_handshakes.specs.{laws.LayerPeers.{as_peer_stretch, as_side, as_at, as_stage, as_peer_call}, laws.LawsBelow.{Laws}}
-use Rattle.x25_handshakes.proofs.TermsLemmas.{answer_read}
+use Rattle.x25_handshakes.proofs.Names.{◌≡◌, ℕ, ◌≤◌, List, [], ◌∷◌, ◌++◌, Option, Some, None, Bool, true, false, if◌then◌else◌, refl, ap, cond_both, Role, Dte}
+use Rattle.x25_handshakes.proofs.Names.{Dce, Params, Proposal, may_propose, may_answer, field_for, said_in, CallRequest, Side, Live, Left, At, OwnStep}
+use Rattle.x25_handshakes.proofs.Names.{PeerStep, live, Packet, Call, Accept, Clear, ClearConf, transfer_side_takes, transfer_side_acts, Phase, Unused, Waiting}
+use Rattle.x25_handshakes.proofs.Names.{Offered, Crossed, Talking, Connection, goes, unexpected, called_talk, calling_talk, is_answered, phase_takes}
+use Rattle.x25_handshakes.proofs.Names.{call_takes, CallAct, PlacesCall, AcceptsCall, Talks, accepts, phase_acts, call_acts, lifted_call, channel_side_takes}
+use Rattle.x25_handshakes.proofs.Names.{ChannelAct, Within, SendsClear, clears, channel_side_acts, transfer_taking, PeerCall, does_call, call_packet_of}
+use Rattle.x25_handshakes.proofs.Names.{call_taking, InCall, does_channel, channel_packet_of, channel_taking, as_peer_stretch, as_side, as_at, Laws}
 use Rattle.x25_handshakes.proofs.LayerPeers.{Deeds, Did, Nothing, Something, Heard, at_once, did_above, transfer_deeds, TransferHeard, IsFit, transfer_did}
 use Rattle.x25_handshakes.proofs.LayerPeers.{transfer_heard}
+use Rattle.x25_handshakes.{proofs.TermsLemmas.{answer_read}, specs.laws.LayerPeers.{as_stage, as_peer_call}}
+use Rattle.x25_handshakes.specs.laws.PeerCalls.{CallDeed, stands, InTransfer, MayDoCall, called_in_data, calling_in_data}
+use Rattle.x25_handshakes.specs.laws.PeerChannel.{ChannelDeed, Clears, MayDoChannel}
 use Rattle.x25_handshakes.specs.laws.PeerCalls as peer
 
 -- ---- a call

@@ -1,24 +1,22 @@
 -- Each of two of our own layers is a peer of the other, in every run.
-use Rattle.std.proofs.Common.{◌≡◌, ℕ, ◌≤◌, List, [], ◌∷◌, ◌++◌, Option, None, Bool, true, false, ◌==◌, if◌then◌else◌, refl, sym, ap, subst, ◌∙◌, eq-eqb}
-use Rattle.std.proofs.{Common.{append_assoc}, lemmas.List.{append-nil}, lemmas.Bool.{eqb-true}, Math.Path.{fun_ext}}
-use Rattle.x25_bits.specs.{declared.role.Role.{Role}, declared.role.Role.TheVariants.{Dte, Dce}}
-use Rattle.x25_circuit.specs.{Params.{may_propose}, Notice.{CallRequest}}
-use Rattle.x25_handshakes.specs.{laws.Handshake.{Side, Live, Left, At, OwnStep, PeerStep, live, left}, laws.Stretch.{Packet, Stretch}}
-use Rattle.x25_handshakes.specs.{laws.Calls.{Phase, Waiting, Offered, Crossed, Talking, Connection}, laws.Channel.{channel_takes, channel_acts}}
-use Rattle.x25_handshakes.specs.laws.Layers.{LayerPacket, On, Restart, RestartConf, Channels, put, addressed, all_fresh, layer_side_takes, layer_takes}
-use Rattle.x25_handshakes.specs.laws.Layers.{LayerAct, OnChannel, SendsRestart, layer_side_acts, layer_acts, Pair, Move, Acts, Takes, LinkDown, turned}
-use Rattle.x25_handshakes.specs.{laws.Layers.{pair_moves, LayerEvent, pair_happens, pair_run}, laws.PeerCalls.{PeerCall}}
-use Rattle.x25_handshakes.specs.laws.PeerChannel.{does_channel, channel_packet_of, channel_taking}
-use Rattle.x25_handshakes.specs.laws.PeerLayer.{PeerChannels, put_peer, LayerDeed, InChannel, Restarts, MayDoLayer, does_layer, layer_packet_of, layer_taking}
-use Rattle.x25_handshakes.specs.laws.PeerLayers.{other_role, layer_found, ReachedInLayers}
-use Rattle.x25_handshakes.specs.{laws.LayerPeers.{as_side, as_at, as_peer_call, as_peer_channels, as_peer, IsPeerOf, LayersArePeers}, laws.LawsBelow.{Laws}}
-use Rattle.x25_handshakes.specs.laws.Terms.{Terms}
-use Rattle.x25_handshakes.proofs.{HandshakeRelation.{Handshake}, HandshakeLemmas.{inner_live}, TransferRelation.{stretch_level}}
-use Rattle.x25_handshakes.proofs.{CallsRelation.{TalksRelated, Joint}, CallLemmas.{TalksRelated-flip}, OwnCallLemmas.{Accepted-some, CallAccepted-some}}
-use Rattle.x25_handshakes.proofs.{ChannelRelation.{Seen, connection_level}, LayersRelation.{channels_level, LayersRelated, EndsRelated}}
+use Rattle.x25_handshakes.proofs.Names.{◌≡◌, ℕ, ◌≤◌, List, [], ◌∷◌, ◌++◌, Option, None, Bool, true, false, ◌==◌, if◌then◌else◌, refl, sym, ap, subst, ◌∙◌}
+use Rattle.x25_handshakes.proofs.Names.{eq-eqb, append_assoc, append-nil, eqb-true, Role, Dte, Dce, may_propose, CallRequest, Side, Live, Left, At, OwnStep}
+use Rattle.x25_handshakes.proofs.Names.{PeerStep, live, Packet, Stretch, Phase, Waiting, Offered, Crossed, Talking, Connection, channel_takes, channel_acts}
+use Rattle.x25_handshakes.proofs.Names.{LayerPacket, On, Restart, RestartConf, Channels, put, addressed, all_fresh, layer_side_takes, layer_takes, LayerAct}
+use Rattle.x25_handshakes.proofs.Names.{OnChannel, SendsRestart, layer_side_acts, layer_acts, Pair, Move, Acts, Takes, LinkDown, pair_moves, LayerEvent}
+use Rattle.x25_handshakes.proofs.Names.{pair_run, PeerCall, does_channel, channel_packet_of, channel_taking, InChannel, other_role, as_side, as_at, Laws, Terms}
+use Rattle.std.proofs.Math.Path.{fun_ext}
+use Rattle.x25_handshakes.proofs.{CallLemmas.{TalksRelated-flip}, CallsRelation.{TalksRelated, Joint}, ChannelRelation.{Seen, connection_level}}
+use Rattle.x25_handshakes.proofs.{HandshakeLemmas.{inner_live}, HandshakeRelation.{Handshake}}
 use Rattle.x25_handshakes.proofs.LayerLemmas.{GoodLayer-takes, GoodLayer-acts, Stands, Stands-turned, Stands-moves, Stands-start}
-use Rattle.x25_handshakes.proofs.{PeerLayerLemmas.{layer_found_none}, LayerPeers.{Deeds, Did, Nothing, Something, Heard, at_once, IsFit}}
 use Rattle.x25_handshakes.proofs.LayerPeerCalls.{IsKnown, IsKnownSide, ChannelDid, channel_did, channel_heard}
+use Rattle.x25_handshakes.proofs.LayerPeers.{Deeds, Did, Nothing, Something, Heard, at_once, IsFit}
+use Rattle.x25_handshakes.proofs.LayersRelation.{channels_level, LayersRelated, EndsRelated}
+use Rattle.x25_handshakes.proofs.{OwnCallLemmas.{Accepted-some, CallAccepted-some}, PeerLayerLemmas.{layer_found_none}, TransferRelation.{stretch_level}}
+use Rattle.x25_handshakes.specs.laws.{Handshake.{left}, LayerPeers.{as_peer_call, as_peer_channels, as_peer, IsPeerOf, LayersArePeers}}
+use Rattle.x25_handshakes.specs.laws.Layers.{turned, pair_happens}
+use Rattle.x25_handshakes.specs.laws.PeerLayer.{PeerChannels, put_peer, LayerDeed, Restarts, MayDoLayer, does_layer, layer_packet_of, layer_taking}
+use Rattle.x25_handshakes.specs.laws.PeerLayers.{layer_found, ReachedInLayers}
 use Rattle.x25_handshakes.specs.laws.PeerLayers as joined
 
 -- ---- what is known of our own end beside another

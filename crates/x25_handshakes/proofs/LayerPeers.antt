@@ -1,18 +1,14 @@
 -- What our own end does is what a peer may do.
-use Rattle.std.proofs.Common.{◌≡◌, ℕ, ◌+◌, ◌%◌, ◌≤◌, List, [], ◌∷◌, ◌++◌, length, Option, Some, None, Bool, true, false, nat_lt, nat_le, if◌then◌else◌, refl}
-use Rattle.std.proofs.{Common.{sym, ap, ◌∙◌, ◌==◌, subst, arith}, lemmas.List.{length_push, append-nil}, lemmas.Bool.{cond_both, ltb-true, eqb-true}}
-use Rattle.x25_packet.specs.declared.marks.Marks.{Marks}
-use Rattle.x25_circuit.specs.Message.{Piece, no_part, joining, piece_ground, cut, wholes, AreSound}
-use Rattle.x25_window.specs.code.Modulo.{resolved}
-use Rattle.x25_handshakes.specs.laws.Stretch.{Packet, Data, Rr, Rnr, Int, IntConf, Reset, Call, Accept, Clear, ClearConf, Stretch, stretch_does, stretch_fails}
-use Rattle.x25_handshakes.specs.laws.Stretch.{StretchAct, Send, Pull, Ready, NotReady, Interrupt, sends, pulls, interrupts, stretch_acts, ack_ground}
-use Rattle.x25_handshakes.specs.laws.Stretch.{data_ground, by_ground, takes_data, takes_status, stretch_takes}
-use Rattle.x25_handshakes.specs.laws.PeerStretch.{PeerStretch, Deed, Sends, Says, Interrupts, Confirms, MayDo, does, packet_of, taking}
-use Rattle.x25_handshakes.specs.laws.Handshake.{Side, Live, Left, At, OwnStep, PeerStep, live}
-use Rattle.x25_handshakes.specs.laws.Transfer.{lifted, TransferAct, Inside, SendsReset, transfer_side_takes, transfer_side_acts}
-use Rattle.x25_handshakes.specs.laws.PeerTransfer.{TransferDeed, InStretch, Resets, MayDoTransfer, does_transfer, transfer_packet_of, transfer_taking}
-use Rattle.x25_handshakes.specs.{laws.LayerPeers.{as_peer_stretch, as_side, as_at}, laws.Terms.{Terms}}
-use Rattle.x25_handshakes.proofs.{PeerDeeds.{takes_next}, TextLemmas.{AreSound-back}}
+use Rattle.x25_handshakes.proofs.Names.{◌≡◌, ℕ, ◌+◌, ◌%◌, ◌≤◌, List, [], ◌∷◌, ◌++◌, length, Option, Some, None, Bool, true, false, nat_lt, nat_le}
+use Rattle.x25_handshakes.proofs.Names.{if◌then◌else◌, refl, sym, ap, ◌∙◌, ◌==◌, subst, arith, length_push, append-nil, cond_both, eqb-true, Marks, Piece}
+use Rattle.x25_handshakes.proofs.Names.{no_part, joining, piece_ground, cut, wholes, AreSound, resolved, Packet, Data, Rr, Rnr, Int, IntConf, Reset, Call}
+use Rattle.x25_handshakes.proofs.Names.{Accept, Clear, ClearConf, Stretch, stretch_does, stretch_fails, StretchAct, Send, Pull, Ready, NotReady, Interrupt}
+use Rattle.x25_handshakes.proofs.Names.{sends, pulls, interrupts, stretch_acts, ack_ground, data_ground, by_ground, takes_data, takes_status, stretch_takes}
+use Rattle.x25_handshakes.proofs.Names.{PeerStretch, Deed, Sends, Says, does, packet_of, taking, Side, Live, Left, At, OwnStep, PeerStep, live, lifted}
+use Rattle.x25_handshakes.proofs.Names.{TransferAct, Inside, SendsReset, transfer_side_takes, transfer_side_acts, TransferDeed, InStretch, MayDoTransfer}
+use Rattle.std.proofs.lemmas.Bool.{ltb-true}
+use Rattle.x25_handshakes.proofs.{Names.{does_transfer, transfer_packet_of, transfer_taking, as_peer_stretch, as_side, as_at, Terms}, PeerDeeds.{takes_next}}
+use Rattle.x25_handshakes.{proofs.TextLemmas.{AreSound-back}, specs.laws.PeerStretch.{Interrupts, Confirms, MayDo}, specs.laws.PeerTransfer.{Resets}}
 
 -- the deeds of a peer at one level: which it may do, what it is then, and the packet that it sends
 pub record Deeds (Y D P : Type 0) : Type 1 where

@@ -1,9 +1,7 @@
 -- What is kept of two layers, and of two ends of which each may be out.
-use Rattle.std.proofs.Common.{ℕ, List, [], ◌∷◌, Bool, true, false, ◌==◌}
-use Rattle.x25_handshakes.specs.{laws.Handshake.{Mark, Inner, Request, Confirm, Side, At, OwnStep}, laws.Stretch.{Packet}, laws.Calls.{Connection}}
-use Rattle.x25_handshakes.specs.laws.Layers.{LayerPacket, On, Restart, RestartConf, Channels, all_fresh}
-use Rattle.x25_bits.specs.declared.role.Role.{Role}
-use Rattle.x25_handshakes.proofs.{HandshakeRelation.{Extended, Level, Handshaken, GoodStep}, ChannelRelation.{ChannelRelated}}
+use Rattle.x25_handshakes.proofs.Names.{ℕ, List, [], ◌∷◌, Bool, true, false, ◌==◌, Mark, Inner, Request, Confirm, Side, At, OwnStep, Packet, Connection}
+use Rattle.x25_handshakes.proofs.Names.{LayerPacket, On, Restart, RestartConf, Channels, all_fresh, Role}
+use Rattle.x25_handshakes.proofs.{ChannelRelation.{ChannelRelated}, HandshakeRelation.{Extended, Level, Handshaken, GoodStep}}
 
 -- the packet with those behind it, or those alone
 abbrev pub kept_on : Bool → Packet → List Packet → List Packet

@@ -1,3 +1,4 @@
+pub mod Names
 pub mod TermsLemmas
 pub mod HandshakeRelation
 pub mod HandshakeLemmas

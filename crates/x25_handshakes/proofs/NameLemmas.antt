@@ -1,6 +1,7 @@
 -- Names, and their order.
-use Rattle.std.proofs.{Common.{◌≡◌, inl, inr, ℕ, Bool, true, false, ◌==◌, refl, ap, subst, ◌∙◌, eq-eqb, arith}, lemmas.Bool.{eqb-true, false_from_ne_true}}
-use Rattle.x25_handshakes.specs.laws.Names.{Name, both, same_name, IsEarlierCount, IsEarlier}
+use Rattle.x25_handshakes.proofs.Names.{◌≡◌, inl, inr, ℕ, Bool, true, false, ◌==◌, refl, ap, subst, ◌∙◌, eq-eqb, arith, eqb-true, Name}
+use Rattle.std.proofs.lemmas.Bool.{false_from_ne_true}
+use Rattle.x25_handshakes.specs.laws.Names.{both, same_name, IsEarlierCount, IsEarlier}
 
 -- names are the same that count alike
 pub name_eq : (m n : Name) → m.restarts ≡ n.restarts → m.clears ≡ n.clears → m.resets ≡ n.resets → m ≡ n

@@ -1,16 +1,12 @@
 -- What our own end does between two clears keeps what is kept of it and the other end, and finds no procedure error, whatever kind of end the other is.
-use Rattle.std.proofs.{Common.{◌≡◌, inl, inr, ℕ, List, [], ◌∷◌, ◌++◌, Some, None, true, if◌then◌else◌, refl, sym, ap, subst, ◌∙◌}, lemmas.List.{append-nil}}
-use Rattle.std.proofs.lemmas.Bool.{cond_both}
-use Rattle.x25_bits.specs.{declared.role.Role.{Role}, declared.role.Role.TheVariants.{Dte, Dce}}
-use Rattle.x25_circuit.specs.{declared.params.Params.{Params}, Params.{Proposal, may_propose, may_answer, field_for, said_in}, Notice.{CallRequest}}
-use Rattle.x25_handshakes.specs.{laws.Handshake.{Live, At, OwnStep}, laws.Stretch.{Packet, Call, Accept, Stretch}}
-use Rattle.x25_handshakes.specs.laws.Transfer.{fresh_transfer, transfer_takes, TransferAct, transfer_acts}
-use Rattle.x25_handshakes.specs.laws.Calls.{Phase, Unused, Waiting, Offered, Crossed, Talking, Connection, goes, unexpected, called_talk, calling_talk}
-use Rattle.x25_handshakes.specs.laws.Calls.{is_answered, phase_takes, call_takes, CallAct, PlacesCall, AcceptsCall, Talks, phase_acts, call_acts, Stage}
-use Rattle.x25_handshakes.specs.{laws.LawsBelow.{Laws}, laws.Terms.{Terms, called_terms, calling_terms}}
-use Rattle.x25_handshakes.proofs.{TermsLemmas.{IsSound, AreSound, answer_sound, answer_read}, HandshakeLemmas.{both_fresh}, TransferRelation.{own_level}}
-use Rattle.x25_handshakes.proofs.OwnTransferLemmas.{OwnStretches, own_takes, own_acts}
+use Rattle.x25_handshakes.proofs.Names.{◌≡◌, inl, inr, ℕ, List, [], ◌∷◌, ◌++◌, Some, None, true, if◌then◌else◌, refl, sym, ap, subst, ◌∙◌, append-nil}
+use Rattle.x25_handshakes.proofs.Names.{cond_both, Role, Dte, Dce, Params, Proposal, may_propose, may_answer, field_for, said_in, CallRequest, Live, At}
+use Rattle.x25_handshakes.proofs.Names.{OwnStep, Packet, Call, Accept, Stretch, fresh_transfer, transfer_takes, TransferAct, transfer_acts, Phase, Unused}
+use Rattle.x25_handshakes.proofs.Names.{Waiting, Offered, Crossed, Talking, Connection, goes, unexpected, called_talk, calling_talk, is_answered, phase_takes}
+use Rattle.x25_handshakes.proofs.Names.{call_takes, CallAct, PlacesCall, AcceptsCall, Talks, phase_acts, call_acts, Stage, Laws, Terms, called_terms}
 use Rattle.x25_handshakes.proofs.CallsRelation.{TalkOf, Nil, OneCall, MaybeCall, Proposes, IsProposal, IsAnswer, Accepted, CallAccepted, TalksOf, JointOf}
+use Rattle.x25_handshakes.proofs.{HandshakeLemmas.{both_fresh}, Names.{calling_terms}, OwnTransferLemmas.{OwnStretches, own_takes, own_acts}}
+use Rattle.x25_handshakes.proofs.{TermsLemmas.{IsSound, AreSound, answer_sound, answer_read}, TransferRelation.{own_level}}
 
 -- proposals and answers
 

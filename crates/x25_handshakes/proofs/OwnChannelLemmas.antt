@@ -1,13 +1,11 @@
 -- What our own circuit does between two restarts keeps what is kept of it and the other end, whatever kind of end that is.
-use Rattle.std.proofs.Common.{◌≡◌, ℕ, List, [], ◌∷◌, ◌++◌, Option, None, refl, sym, ◌∙◌}
-use Rattle.x25_handshakes.specs.{laws.Handshake.{Inner, Side, Live, Left, At, OwnStep, live}, laws.Stretch.{Packet, Clear, ClearConf}}
-use Rattle.x25_handshakes.specs.laws.Calls.{Phase, Unused, Connection, call_takes, CallAct, call_acts, fresh_call}
-use Rattle.x25_handshakes.specs.laws.Channel.{lifted_call, in_p1, channel_side_takes, channel_takes, ChannelAct, Within, SendsClear, clears, channel_side_acts}
-use Rattle.x25_handshakes.specs.laws.Channel.{channel_acts}
-use Rattle.x25_bits.specs.declared.role.Role.{Role}
+use Rattle.x25_handshakes.proofs.Names.{◌≡◌, ℕ, List, [], ◌∷◌, ◌++◌, Option, None, refl, sym, ◌∙◌, Inner, Side, Live, Left, At, OwnStep, live, Packet, Clear}
+use Rattle.x25_handshakes.proofs.Names.{ClearConf, Phase, Unused, Connection, call_takes, CallAct, call_acts, fresh_call, lifted_call, channel_side_takes}
+use Rattle.x25_handshakes.proofs.Names.{channel_takes, ChannelAct, Within, SendsClear, clears, channel_side_acts, channel_acts, Role}
+use Rattle.x25_handshakes.proofs.{CallsRelation.{GoodCall, IsCalled}, ChannelRelation.{clear_mark, own_call_level}, HandshakeLemmas.{each_back}}
 use Rattle.x25_handshakes.proofs.HandshakeRelation.{Level, Handshaken, GoodStep}
-use Rattle.x25_handshakes.proofs.{HandshakeSteps.{Any, Goes, Inside, Answers, acts_inside, leaves, stays, answered}, CallsRelation.{GoodCall, IsCalled}}
-use Rattle.x25_handshakes.proofs.{JointLemmas.{Quiet}, ChannelRelation.{clear_mark, own_call_level}, HandshakeLemmas.{each_back}}
+use Rattle.x25_handshakes.proofs.{HandshakeSteps.{Any, Goes, Inside, Answers, acts_inside, leaves, stays, answered}, JointLemmas.{Quiet}}
+use Rattle.x25_handshakes.specs.laws.Channel.{in_p1}
 
 pub not_p1 : (a : Phase) → (a ≡ Unused → ⊥) → in_p1 a ≡ None
 not_p1 Unused h = absurd (h refl)

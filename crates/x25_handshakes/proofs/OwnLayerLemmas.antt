@@ -1,11 +1,8 @@
 -- What our own layer does keeps what is kept of it and the other end, whatever kind of end that is.
-use Rattle.std.proofs.Common.{◌≡◌, ℕ, List, [], ◌∷◌, ◌++◌, Option, None, Bool, true, false, if◌then◌else◌, refl, sym, ap, subst, ◌∙◌, ◌==◌, eq-eqb}
-use Rattle.std.proofs.{lemmas.Bool.{eqb-true}, lemmas.List.{append-nil}}
-use Rattle.x25_handshakes.specs.{laws.Handshake.{Side, Live, Left, At, OwnStep, live}, laws.Stretch.{Packet}, laws.Calls.{Connection}}
-use Rattle.x25_handshakes.specs.laws.Channel.{fresh_channel, channel_takes, ChannelAct, channel_acts}
-use Rattle.x25_handshakes.specs.laws.Layers.{LayerPacket, On, Restart, RestartConf, Channels, put, addressed, layer_side_takes, layer_takes, LayerAct}
-use Rattle.x25_handshakes.specs.laws.Layers.{OnChannel, SendsRestart, layer_side_acts, layer_acts}
-use Rattle.x25_bits.specs.declared.role.Role.{Role}
+use Rattle.x25_handshakes.proofs.Names.{◌≡◌, ℕ, List, [], ◌∷◌, ◌++◌, Option, None, Bool, true, false, if◌then◌else◌, refl, sym, ap, subst, ◌∙◌, ◌==◌, eq-eqb}
+use Rattle.x25_handshakes.proofs.Names.{eqb-true, append-nil, Side, Live, Left, At, OwnStep, live, Packet, Connection, fresh_channel, channel_takes, ChannelAct}
+use Rattle.x25_handshakes.proofs.Names.{channel_acts, LayerPacket, On, Restart, RestartConf, Channels, put, addressed, layer_side_takes, layer_takes, LayerAct}
+use Rattle.x25_handshakes.proofs.Names.{OnChannel, SendsRestart, layer_side_acts, layer_acts, Role}
 use Rattle.x25_handshakes.proofs.HandshakeRelation.{Level, Handshaken, GoodStep, AllInner}
 use Rattle.x25_handshakes.proofs.HandshakeSteps.{Any, Inside, Answers, acts_inside, leaves, stays, answered}
 use Rattle.x25_handshakes.proofs.LayersRelation.{kept_on, on, OnEach, restart_mark, own_channels_level}

@@ -1,14 +1,11 @@
 -- What our own circuit does in p4 keeps what is kept of it and the other end, and is no procedure error, whatever kind of end the other is.
-use Rattle.std.proofs.Common.{◌≡◌, ℕ, List, [], ◌∷◌, ◌++◌, refl, sym, subst}
-use Rattle.x25_handshakes.specs.laws.Handshake.{Inner, Side, Live, Left, At, OwnStep}
-use Rattle.x25_handshakes.specs.laws.Stretch.{Packet, Data, Rr, Rnr, Int, IntConf, Reset, ResetConf, Call, Accept, Clear, ClearConf, Stretch, fresh, StretchAct}
-use Rattle.x25_handshakes.specs.laws.Stretch.{stretch_acts, stretch_takes}
-use Rattle.x25_handshakes.specs.laws.Transfer.{lifted, transfer_side_takes, transfer_takes, TransferAct, Inside, SendsReset, transfer_side_acts, transfer_acts}
-use Rattle.x25_handshakes.specs.laws.Terms.{Terms}
-use Rattle.x25_handshakes.proofs.{HandshakeRelation.{Level, Handshaken, GoodStep}, HandshakeSteps.{Goes, Answers, acts_inside, leaves, stays, answered}}
+use Rattle.x25_handshakes.proofs.Names.{◌≡◌, ℕ, List, [], ◌∷◌, ◌++◌, refl, sym, subst, Inner, Side, Live, Left, At, OwnStep, Packet, Data, Rr, Rnr, Int}
+use Rattle.x25_handshakes.proofs.Names.{IntConf, Reset, ResetConf, Call, Accept, Clear, ClearConf, Stretch, fresh, StretchAct, stretch_acts, stretch_takes}
+use Rattle.x25_handshakes.proofs.Names.{lifted, transfer_side_takes, transfer_takes, TransferAct, Inside, SendsReset, transfer_side_acts, transfer_acts, Terms}
+use Rattle.x25_handshakes.proofs.{HandshakeLemmas.{each_append, each_back, each_map}, HandshakeRelation.{Level, Handshaken, GoodStep}}
+use Rattle.x25_handshakes.proofs.HandshakeSteps.{Goes, Answers, acts_inside, leaves, stays, answered}
 use Rattle.x25_handshakes.proofs.StretchRelation.{InFlowControl, AllInFlowControl, GoodStretch}
 use Rattle.x25_handshakes.proofs.TransferRelation.{reset_mark, InTransfer, AllInTransfer, own_level, OwnTransfer, GoodOwnTransfer}
-use Rattle.x25_handshakes.proofs.HandshakeLemmas.{each_append, each_back, each_map}
 use Rattle.x25_handshakes.proofs.HandshakeSteps as hand
 
 -- a packet of flow control is neither RESET nor its confirmation

@@ -1,15 +1,13 @@
 -- What each step does to the parts of the relation of two stretches.
-use Rattle.std.proofs.Common.{◌≡◌, ℕ, ◌+◌, ◌-◌, ◌%◌, ◌≤◌, List, [], ◌∷◌, ◌++◌, length, Some, None, Bool, true, false, refl, sym, ap, subst, ◌∙◌, arith}
-use Rattle.std.proofs.{Common.{append_assoc, length-append}, lemmas.List.{length_push, append-nil}}
-use Rattle.x25_packet.specs.declared.marks.Marks.{Marks}
-use Rattle.x25_circuit.specs.Message.{Message, Piece, no_part, joining, completed, carried_from, carried, AreSound, cut}
-use Rattle.x25_window.specs.code.Modulo.{resolved}
-use Rattle.x25_handshakes.specs.laws.Stretch.{Packet, Data, Int, IntConf}
-use Rattle.x25_handshakes.proofs.StretchRelation.{numbering, ack_in, int_in, conf_in, piece_of, pieces, number_at, Numbered, hears, heard, ints, confs}
-use Rattle.x25_handshakes.proofs.StretchRelation.{InFlowControl, Line, Acks, Ints, Text}
-use Rattle.x25_handshakes.proofs.TextLemmas.{joining-append, carried-append, AreSound-append, AreSound-cut, joining-cut, carried-cut}
-use Rattle.x25_handshakes.proofs.LineLemmas.{resolved_is, heard_least, heard_push, pieces_push, ints_push, confs_push, Numbered_push}
+use Rattle.x25_handshakes.proofs.Names.{◌≡◌, ℕ, ◌+◌, ◌%◌, ◌≤◌, List, [], ◌∷◌, ◌++◌, length, Some, None, Bool, true, false, refl, sym, ap, subst, ◌∙◌, arith}
+use Rattle.x25_handshakes.proofs.Names.{append_assoc, length-append, length_push, append-nil, Marks, Message, Piece, no_part, joining, carried_from, carried}
+use Rattle.std.proofs.Common.{◌-◌}
+use Rattle.x25_circuit.specs.Message.{completed}
 use Rattle.x25_handshakes.proofs.HandshakeLemmas.{each_append}
+use Rattle.x25_handshakes.proofs.LineLemmas.{resolved_is, heard_least, heard_push, pieces_push, ints_push, confs_push, Numbered_push}
+use Rattle.x25_handshakes.proofs.{Names.{AreSound, cut, resolved, Packet, Data, Int, IntConf}, StretchRelation.{InFlowControl, Line, Acks, Ints, Text}}
+use Rattle.x25_handshakes.proofs.StretchRelation.{numbering, ack_in, int_in, conf_in, piece_of, pieces, number_at, Numbered, hears, heard, ints, confs}
+use Rattle.x25_handshakes.proofs.TextLemmas.{joining-append, carried-append, AreSound-append, AreSound-cut, joining-cut, carried-cut}
 
 -- the data packets on the way, in their numbers
 

@@ -1,18 +1,15 @@
 -- What our circuit does keeps what is kept of it and a peer, and what comes to it is no procedure error.
-use Rattle.std.proofs.Common.{◌≡◌, ℕ, ◌+◌, ◌%◌, ◌<◌, ◌≤◌, List, [], ◌∷◌, ◌++◌, length, Some, None, Bool, true, false, nat_lt, nat_le, if◌then◌else◌, refl, sym}
-use Rattle.std.proofs.{Common.{ap, subst, eq-eqb, arith}, lemmas.List.{length_push, append-nil}, lemmas.Bool.{le-leb, leb-true, ltb-true, cond_both}}
-use Rattle.x25_packet.specs.declared.marks.Marks.{Marks}
-use Rattle.x25_circuit.specs.Message.{Piece, no_part, joining, piece_ground, cut, wholes}
-use Rattle.x25_window.specs.code.Modulo.{resolved}
-use Rattle.x25_handshakes.specs.laws.Stretch.{Packet, Data, Rr, Rnr, Int, IntConf, Stretch, stretch_does, stretch_fails, StretchAct, Send, Pull, Ready}
-use Rattle.x25_handshakes.specs.laws.Stretch.{NotReady, Interrupt, status, sends, pulls, interrupts, stretch_acts, ack_ground, data_ground, by_ground}
-use Rattle.x25_handshakes.specs.{laws.Stretch.{takes_data, takes_status, stretch_takes}, laws.PeerStretch.{PeerStretch}, laws.Handshake.{OwnStep}}
-use Rattle.x25_handshakes.specs.laws.Terms.{Terms}
-use Rattle.x25_handshakes.proofs.StretchRelation.{numbering, ack_in, int_in, conf_in, InFlowControl, pieces, hears, heard, GoodStretch}
-use Rattle.x25_handshakes.proofs.TextLemmas.{AreSound-back}
+use Rattle.x25_handshakes.proofs.Names.{◌≡◌, ℕ, ◌+◌, ◌%◌, ◌<◌, ◌≤◌, List, [], ◌∷◌, ◌++◌, length, Some, None, Bool, true, false, nat_lt, nat_le, if◌then◌else◌}
+use Rattle.x25_handshakes.proofs.Names.{refl, sym, ap, subst, eq-eqb, arith, length_push, append-nil, cond_both, Marks, Piece, no_part, joining, piece_ground}
+use Rattle.x25_handshakes.proofs.Names.{cut, wholes, resolved, Packet, Data, Rr, Rnr, Int, IntConf, Stretch, stretch_does, stretch_fails, StretchAct, Send}
+use Rattle.x25_handshakes.proofs.Names.{Pull, Ready, NotReady, Interrupt, sends, pulls, interrupts, stretch_acts, ack_ground, data_ground, by_ground}
+use Rattle.std.proofs.lemmas.Bool.{le-leb, leb-true, ltb-true}
+use Rattle.x25_handshakes.proofs.{Names.{takes_data, takes_status, stretch_takes, PeerStretch, OwnStep, Terms}, PartLemmas.{Text-send, Text-pull, up-take}}
 use Rattle.x25_handshakes.proofs.PartLemmas.{Line-le, Line-send, Line-push, Line-take, Line-skip, Acks-push, Acks-pass, Acks-more, Acks-taken, Acks-hear}
 use Rattle.x25_handshakes.proofs.PartLemmas.{heard_below, Ints-there, Ints-back, Ints-send, Ints-take, Ints-confirm, Ints-past, Ints-skip, Ints-out, Ints-conf}
-use Rattle.x25_handshakes.proofs.{PartLemmas.{Text-send, Text-pull, up-take}, PeerRelation.{Theirs, Kept}}
+use Rattle.x25_handshakes.proofs.PeerRelation.{Theirs, Kept}
+use Rattle.x25_handshakes.proofs.StretchRelation.{numbering, ack_in, int_in, conf_in, InFlowControl, pieces, hears, heard, GoodStretch}
+use Rattle.x25_handshakes.{proofs.TextLemmas.{AreSound-back}, specs.laws.Stretch.{status}}
 
 -- a step of ours that is no error, and keeps both
 abbrev pub Good : Terms → ℕ → ℕ → OwnStep Stretch Packet → List Packet → List Packet → PeerStretch → Type 0

@@ -1,18 +1,14 @@
 -- What our circuit and a peer do between two clears keeps what is kept of them, and our circuit finds no procedure error.
-use Rattle.std.proofs.Common.{List, ◌≡◌, ℕ, [], ◌∷◌, ◌++◌, true, refl, sym, subst}
-use Rattle.x25_bits.specs.{declared.role.Role.{Role}, declared.role.Role.TheVariants.{Dte, Dce}}
-use Rattle.x25_circuit.specs.{Params.{may_propose, may_answer, said_in}, declared.params.Params.{Params}, Notice.{CallRequest}}
-use Rattle.x25_handshakes.specs.{laws.Handshake.{At}, laws.Stretch.{Packet, Stretch, Call, Accept}, laws.Transfer.{fresh_transfer}}
-use Rattle.x25_handshakes.specs.laws.Calls.{Connection, call_takes, CallAct, call_acts, fresh_call, Stage, Unused, Waiting, Offered, Crossed, Talking}
-use Rattle.x25_handshakes.specs.laws.PeerStretch.{PeerStretch, fresh_peer}
-use Rattle.x25_handshakes.specs.laws.PeerTransfer.{fresh_peer_transfer, TransferDeed, MayDoTransfer, does_transfer, transfer_packet_of, transfer_taking}
-use Rattle.x25_handshakes.specs.laws.PeerCalls.{PeerCall, fresh_peer_call, CallDeed, PlacesCall, AcceptsCall, InTransfer, MayDoCall, does_call, call_packet_of}
-use Rattle.x25_handshakes.specs.{laws.PeerCalls.{call_taking}, laws.LawsBelow.{Laws}, laws.PeerLayers.{other_role}}
-use Rattle.x25_handshakes.specs.laws.Terms.{Terms, called_terms, calling_terms}
-use Rattle.x25_handshakes.proofs.{CallsRelation.{TalkOf, TalksOf, JointOf, IsProposal, GoodCall}, PeerRelation.{Kept}}
+use Rattle.x25_handshakes.proofs.Names.{List, ◌≡◌, ℕ, [], ◌∷◌, ◌++◌, true, refl, sym, subst, Role, Dte, Dce, may_propose, may_answer, said_in, Params}
+use Rattle.x25_handshakes.proofs.Names.{CallRequest, At, Packet, Stretch, Call, Accept, fresh_transfer, Connection, call_takes, CallAct, call_acts, fresh_call}
+use Rattle.x25_handshakes.proofs.Names.{Stage, Unused, Waiting, Offered, Crossed, Talking, PeerStretch, fresh_peer, fresh_peer_transfer, TransferDeed}
+use Rattle.x25_handshakes.proofs.Names.{MayDoTransfer, does_transfer, transfer_packet_of, transfer_taking, PeerCall, fresh_peer_call, does_call, call_packet_of}
+use Rattle.x25_handshakes.proofs.Names.{call_taking, Laws, other_role, Terms, called_terms, calling_terms}
+use Rattle.x25_handshakes.proofs.CallsRelation.{TalkOf, TalksOf, JointOf, IsProposal, GoodCall}
 use Rattle.x25_handshakes.proofs.OwnCallLemmas.{own_dte_talks, own_dce_talks, Agreed, agreed, taken, dte_taken, dte_calls, dte_answers, dte_moves, dce_taken}
 use Rattle.x25_handshakes.proofs.OwnCallLemmas.{dce_calls, dce_answers, dce_moves, DteTalks, dte_takes, dte_acts, DceTalks, dce_takes, dce_acts}
-use Rattle.x25_handshakes.proofs.PeerTransferLemmas.{KeptTransfer, own_stretches, done_kept, takes_kept}
+use Rattle.x25_handshakes.proofs.{PeerRelation.{Kept}, PeerTransferLemmas.{KeptTransfer, own_stretches, done_kept, takes_kept}}
+use Rattle.x25_handshakes.specs.laws.PeerCalls.{CallDeed, PlacesCall, AcceptsCall, InTransfer, MayDoCall}
 
 -- in p4
 abbrev pub PeerTalks : Terms → Terms → At Stretch → List Packet → List Packet → Terms → Terms → At PeerStretch → Type 0

@@ -1,15 +1,13 @@
 -- What is kept of a channel of ours and a peer between two restarts, and that each step keeps it and is no procedure error.
-use Rattle.std.proofs.Common.{◌≡◌, ℕ, List, [], ◌∷◌, ◌++◌, None, refl}
-use Rattle.x25_handshakes.specs.{laws.Handshake.{Inner, Side, Live, Left, At}, laws.Stretch.{Packet, Clear, ClearConf}, laws.Calls.{Connection}}
-use Rattle.x25_handshakes.specs.{laws.Channel.{fresh_channel}, laws.PeerCalls.{PeerCall, fresh_peer_call, does_call, call_packet_of, call_taking}}
-use Rattle.x25_handshakes.specs.laws.PeerChannel.{fresh_peer_channel, ChannelDeed, InCall, Clears, MayDoChannel, does_channel, channel_packet_of}
-use Rattle.x25_handshakes.specs.{laws.PeerChannel.{channel_taking}, laws.PeerLayers.{other_role, found}, laws.LawsBelow.{Laws}, laws.Transfer.{fresh_transfer}}
-use Rattle.x25_handshakes.specs.laws.PeerTransfer.{fresh_peer_transfer}
-use Rattle.x25_bits.specs.{declared.role.Role.{Role}, declared.role.Role.TheVariants.{Dte, Dce}}
-use Rattle.x25_handshakes.proofs.{HandshakeRelation.{Level, Handshaken, GoodStep}, HandshakeLemmas.{each_back, flip, both_fresh}}
-use Rattle.x25_handshakes.proofs.{HandshakeSteps.{Any, Answers, acts_inside, leaves, answered, there}, ChannelRelation.{clear_mark, own_call_level}}
-use Rattle.x25_handshakes.proofs.{OwnChannelLemmas.{OwnCalls}, JointLemmas.{Quiet, quiet_transfer, quiet_joint}}
+use Rattle.x25_handshakes.proofs.Names.{◌≡◌, ℕ, List, [], ◌∷◌, ◌++◌, None, refl, Inner, Side, Live, Left, At, Packet, Clear, ClearConf, Connection}
+use Rattle.x25_handshakes.proofs.Names.{fresh_channel, PeerCall, fresh_peer_call, does_call, call_packet_of, call_taking, InCall, does_channel}
+use Rattle.x25_handshakes.proofs.Names.{channel_packet_of, channel_taking, other_role, Laws, fresh_transfer, fresh_peer_transfer, Role, Dte, Dce}
+use Rattle.x25_handshakes.proofs.{ChannelRelation.{clear_mark, own_call_level}, HandshakeLemmas.{each_back, flip, both_fresh}}
+use Rattle.x25_handshakes.proofs.{HandshakeRelation.{Level, Handshaken, GoodStep}, HandshakeSteps.{Any, Answers, acts_inside, leaves, answered, there}}
+use Rattle.x25_handshakes.proofs.JointLemmas.{Quiet, quiet_transfer, quiet_joint}
+use Rattle.x25_handshakes.proofs.OwnChannelLemmas.{OwnCalls}
 use Rattle.x25_handshakes.proofs.PeerCallLemmas.{PeerTalks, TalksPeer, PeerSeen, PeerSeen-takes, PeerSeen-acts, PeerSeen-taking, PeerSeen-does, PeerSeen-fresh}
+use Rattle.x25_handshakes.specs.laws.{PeerChannel.{fresh_peer_channel, ChannelDeed, Clears, MayDoChannel}, PeerLayers.{found}}
 
 abbrev pub peer_call_level : Role → Level Connection PeerCall Packet
 peer_call_level r = own_call_level (λ x. Unit {0}) (λ y. Unit {0}) (PeerSeen r) fresh_peer_call

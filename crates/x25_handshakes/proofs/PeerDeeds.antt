@@ -1,15 +1,12 @@
 -- What the peer does keeps what is kept of our circuit and it.
-use Rattle.std.proofs.Common.{◌≡◌, ℕ, ◌+◌, ◌%◌, ◌≤◌, List, [], ◌∷◌, ◌++◌, length, Some, None, Bool, true, false, refl, subst, arith, sym, ap, if◌then◌else◌}
-use Rattle.std.proofs.lemmas.{List.{length_push}, Bool.{eq-eqb}}
-use Rattle.x25_circuit.specs.Message.{Piece, no_part}
-use Rattle.x25_window.specs.code.Modulo.{resolved}
-use Rattle.x25_handshakes.specs.laws.Stretch.{Packet, Data, Rr, Rnr, Int, IntConf, Stretch}
-use Rattle.x25_handshakes.specs.laws.PeerStretch.{PeerStretch, Deed, Sends, Says, Interrupts, Confirms, MayAcknowledge, MayDo, does, packet_of, taking}
-use Rattle.x25_handshakes.specs.laws.Terms.{Terms}
-use Rattle.x25_handshakes.proofs.{StretchRelation.{numbering, ack_in, int_in, conf_in, InFlowControl, hears, heard}, TextLemmas.{AreSound-append}}
+use Rattle.x25_handshakes.proofs.Names.{◌≡◌, ℕ, ◌+◌, ◌%◌, ◌≤◌, List, [], ◌∷◌, ◌++◌, length, Some, None, Bool, true, false, refl, subst, arith, sym, ap}
+use Rattle.x25_handshakes.proofs.Names.{if◌then◌else◌, length_push, Piece, no_part, resolved, Packet, Data, Rr, Rnr, Int, IntConf, Stretch, PeerStretch, Deed}
+use Rattle.x25_handshakes.proofs.Names.{Sends, Says, does, packet_of, taking, Terms}
+use Rattle.std.proofs.lemmas.Bool.{eq-eqb}
 use Rattle.x25_handshakes.proofs.PartLemmas.{Line-le, Line-send, Line-push, Line-take, Line-skip, Acks-pass, Acks-more, Acks-told, Acks-hear, Ints-there}
 use Rattle.x25_handshakes.proofs.PartLemmas.{Ints-back, Ints-send, Ints-take, Ints-confirm, Ints-past, Ints-skip, Ints-out, Ints-conf}
-use Rattle.x25_handshakes.proofs.PeerRelation.{Ours, Kept}
+use Rattle.x25_handshakes.proofs.{PeerRelation.{Ours, Kept}, StretchRelation.{numbering, ack_in, int_in, conf_in, InFlowControl, hears, heard}}
+use Rattle.x25_handshakes.{proofs.TextLemmas.{AreSound-append}, specs.laws.PeerStretch.{Interrupts, Confirms, MayAcknowledge, MayDo}}
 
 -- it acknowledges so many, whatever it has sent
 Ours-told : {t : Terms} → t.window ≤ 7 → {x : Stretch} {u v : List Packet} {y : PeerStretch} (sent : List Piece) {n : ℕ} (q : Packet) → conf_in q ≡ 0

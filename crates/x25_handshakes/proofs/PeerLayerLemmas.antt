@@ -1,23 +1,20 @@
 -- What is kept of a packet layer of ours and a peer: all that happens keeps it and is no procedure error, and it says the claims.
-use Rattle.std.proofs.{Common.{◌≡◌, ℕ, List, [], ◌∷◌, ◌++◌, Option, None, false, ◌==◌, refl, sym, ap, subst, ◌∙◌, inl, Some, true}, lemmas.Bool.{true≢false}}
-use Rattle.std.proofs.lemmas.Option.{none-some}
-use Rattle.x25_handshakes.specs.{laws.Handshake.{Side, Live, Left, At, OwnStep, live, first_error, near_stepped}, laws.Stretch.{Packet}}
-use Rattle.x25_handshakes.specs.laws.Layers.{LayerPacket, On, Restart, RestartConf, Channels, addressed, all_fresh, layer_takes, LayerAct, layer_acts}
-use Rattle.x25_handshakes.specs.{laws.PeerCalls.{PeerCall, fresh_peer_call}, laws.PeerChannel.{does_channel, channel_packet_of, channel_taking}}
-use Rattle.x25_handshakes.specs.laws.PeerLayer.{PeerChannels, put_peer, peer_fresh, LayerDeed, InChannel, Restarts, MayDoLayer, does_layer, layer_packet_of}
-use Rattle.x25_handshakes.specs.laws.PeerLayer.{ready_taking, layer_taking}
-use Rattle.x25_handshakes.specs.laws.PeerLayers.{other_role, found, layer_found, AreElsewhere, JoinedLayers, HappensInLayers, Acts, Takes, Does, Hears}
-use Rattle.x25_handshakes.specs.{laws.PeerLayers.{HearsChannel, ReachedInLayers, at_start, goes_on}, laws.LawsBelow.{Laws}, laws.Arrivals.{open_channel}}
-use Rattle.x25_handshakes.specs.laws.PeerClaims.{ChannelsAreInOrder, is_open_there, TookLayer, WithAnyPeerLayer, KeepsLayers, LayerFindsNoError}
-use Rattle.x25_handshakes.specs.laws.PeerClaims.{LayerHasArrived}
-use Rattle.x25_bits.specs.{declared.role.Role.{Role}, declared.role.Role.TheVariants.{Dte, Dce}}
-use Rattle.x25_handshakes.proofs.{HandshakeRelation.{Level, Handshaken, GoodStep, AllInner, Handshake}, HandshakeLemmas.{inner_take_behind, flip}}
+use Rattle.x25_handshakes.proofs.Names.{◌≡◌, ℕ, List, [], ◌∷◌, ◌++◌, Option, None, false, ◌==◌, refl, sym, ap, subst, ◌∙◌, inl, Some, true, true≢false}
+use Rattle.x25_handshakes.proofs.Names.{none-some, Side, Live, Left, At, OwnStep, live, first_error, Packet, LayerPacket, On, Restart, RestartConf, Channels}
+use Rattle.x25_handshakes.proofs.Names.{addressed, all_fresh, layer_takes, LayerAct, layer_acts, PeerCall, fresh_peer_call, does_channel, channel_packet_of}
+use Rattle.x25_handshakes.proofs.Names.{channel_taking, InChannel, other_role, Laws, open_channel, Role, Dte, Dce}
+use Rattle.x25_handshakes.proofs.{HandshakeLemmas.{inner_take_behind, flip}, HandshakeRelation.{Level, Handshaken, GoodStep, AllInner, Handshake}}
 use Rattle.x25_handshakes.proofs.HandshakeSteps.{Any, Answers, acts_inside, leaves, answered, there}
 use Rattle.x25_handshakes.proofs.LayersRelation.{kept_on, on, OnEach, restart_mark, own_channels_level}
+use Rattle.x25_handshakes.proofs.OwnChannelLemmas.{channel_takes_good, channel_acts_good}
 use Rattle.x25_handshakes.proofs.OwnLayerLemmas.{put_kept, on-append, inner_addressed, on-front, on-past, OwnChannels, layer_takes_good, layer_acts_good}
-use Rattle.x25_handshakes.proofs.{OwnChannelLemmas.{channel_takes_good, channel_acts_good}, PeerCallLemmas.{PeerSeen}}
+use Rattle.x25_handshakes.proofs.{PeerCallLemmas.{PeerSeen}, PeerChannelLemmas.{channel_does_kept}, PeerOrder.{in_epochs, channel_order, meet, took_channel}}
 use Rattle.x25_handshakes.proofs.PeerChannelLemmas.{PeerChannelRelated, PeerChannelRelated-fresh, found_none, peer_calls, channel_taking_kept}
-use Rattle.x25_handshakes.proofs.{PeerChannelLemmas.{channel_does_kept}, PeerOrder.{in_epochs, channel_order, meet, took_channel}}
+use Rattle.x25_handshakes.specs.laws.{Handshake.{near_stepped}, PeerClaims.{LayerHasArrived}, PeerLayer.{layer_taking}}
+use Rattle.x25_handshakes.specs.laws.PeerClaims.{ChannelsAreInOrder, is_open_there, TookLayer, WithAnyPeerLayer, KeepsLayers, LayerFindsNoError}
+use Rattle.x25_handshakes.specs.laws.PeerLayer.{PeerChannels, put_peer, peer_fresh, LayerDeed, Restarts, MayDoLayer, does_layer, layer_packet_of, ready_taking}
+use Rattle.x25_handshakes.specs.laws.PeerLayers.{found, layer_found, AreElsewhere, JoinedLayers, HappensInLayers, Acts, Takes, Does, Hears, HearsChannel}
+use Rattle.x25_handshakes.specs.laws.PeerLayers.{ReachedInLayers, at_start, goes_on}
 
 abbrev pub peer_channels_level : Role → Level Channels PeerChannels LayerPacket
 peer_channels_level r = own_channels_level (PeerChannelRelated r) peer_fresh

@@ -1,18 +1,15 @@
 -- What is kept of our end and a peer says that all is in order, and that all was taken where nothing is on the way.
-use Rattle.std.proofs.Common.{◌≡◌, inl, inr, ℕ, suc, ◌+◌, ◌≤◌, List, [], ◌∷◌, ◌++◌, length, Some, true, false, refl, sym, ap, subst, ◌∙◌, arith, append_assoc}
-use Rattle.std.proofs.{Common.{length-append}, lemmas.Bool.{true≢false}, lemmas.List.{append-nil}, lemmas.Option.{same_Some, none-some}}
-use Rattle.x25_bits.specs.{declared.role.Role.{Role}, declared.role.Role.TheVariants.{Dte, Dce}}
-use Rattle.x25_circuit.specs.{Message.{no_part, joining, carried, carried_from}, Notice.{CallRequest}}
-use Rattle.x25_handshakes.specs.{laws.Handshake.{Side, Live, Left, At, state_of}, laws.Stretch.{Packet, Stretch}, laws.Transfer.{fresh_transfer}}
-use Rattle.x25_handshakes.specs.{laws.Calls.{Phase, Talking, Connection, Stage}, laws.PeerStretch.{PeerStretch}, laws.PeerTransfer.{fresh_peer_transfer}}
-use Rattle.x25_handshakes.specs.{laws.PeerCalls.{PeerCall}, laws.Arrivals.{open_in, open_phase, open_call}}
+use Rattle.x25_handshakes.proofs.Names.{◌≡◌, inl, inr, ℕ, suc, ◌+◌, ◌≤◌, List, [], ◌∷◌, ◌++◌, length, Some, true, false, refl, sym, ap, subst, ◌∙◌, arith}
+use Rattle.x25_handshakes.proofs.Names.{append_assoc, length-append, true≢false, append-nil, none-some, Role, Dte, Dce, no_part, joining, carried, carried_from}
+use Rattle.x25_handshakes.proofs.Names.{CallRequest, Side, Live, Left, At, state_of, Packet, Stretch, fresh_transfer, Phase, Talking, Connection, Stage}
+use Rattle.x25_handshakes.proofs.Names.{PeerStretch, fresh_peer_transfer, PeerCall, open_in, open_phase, open_call, Terms}
+use Rattle.std.proofs.lemmas.Option.{same_Some}
+use Rattle.x25_handshakes.proofs.{ArrivalLemmas.{nothing_waits}, CallsRelation.{JointOf}, HandshakeLemmas.{both_fresh}}
+use Rattle.x25_handshakes.proofs.{HandshakeRelation.{before, past, Extended, Level, Handshake}, JointLemmas.{joint_order}, LineLemmas.{heard_least}}
+use Rattle.x25_handshakes.proofs.{PeerCallLemmas.{PeerTalks, TalksPeer, PeerSeen}, PeerChannelLemmas.{peer_call_level, PeerChannelRelated}}
+use Rattle.x25_handshakes.proofs.{PeerRelation.{Kept, Kept-start}, PeerTransferLemmas.{peer_level}, StretchRelation.{pieces, ints, confs, one_if}}
+use Rattle.x25_handshakes.{proofs.TextLemmas.{carried-append}, specs.laws.PeerClaims.{TookAll, TookCall, TookChannel}}
 use Rattle.x25_handshakes.specs.laws.PeerClaims.{InEpochs, AreInOrder, StretchesAreInOrder, CallIsInOrder, ChannelIsInOrder, is_open_stage, is_open_call}
-use Rattle.x25_handshakes.specs.{laws.PeerClaims.{TookAll, TookCall, TookChannel}, laws.Terms.{Terms}}
-use Rattle.x25_handshakes.proofs.{StretchRelation.{pieces, ints, confs, one_if}, TextLemmas.{carried-append}, LineLemmas.{heard_least}}
-use Rattle.x25_handshakes.proofs.{HandshakeRelation.{before, past, Extended, Level, Handshake}, HandshakeLemmas.{both_fresh}, CallsRelation.{JointOf}}
-use Rattle.x25_handshakes.proofs.{ArrivalLemmas.{nothing_waits}, PeerRelation.{Kept, Kept-start}, PeerTransferLemmas.{peer_level}}
-use Rattle.x25_handshakes.proofs.{PeerCallLemmas.{PeerTalks, TalksPeer, PeerSeen}, JointLemmas.{joint_order}}
-use Rattle.x25_handshakes.proofs.PeerChannelLemmas.{peer_call_level, PeerChannelRelated}
 
 -- ---- a handshake
 

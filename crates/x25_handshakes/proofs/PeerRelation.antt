@@ -1,8 +1,6 @@
 -- What is kept of our circuit and a peer in one stretch.
-use Rattle.std.proofs.Common.{◌≡◌, ℕ, ◌≤◌, List, [], length, refl, arith}
-use Rattle.x25_circuit.specs.Message.{Message, Piece, no_part, carried, AreSound}
-use Rattle.x25_handshakes.specs.{laws.Stretch.{Packet, Stretch, fresh}, laws.PeerStretch.{PeerStretch, fresh_peer}, laws.Terms.{Terms}}
-use Rattle.x25_handshakes.proofs.StretchRelation.{Line, Acks, Ints, Text}
+use Rattle.x25_handshakes.proofs.Names.{◌≡◌, ℕ, ◌≤◌, List, [], length, refl, arith, Message, Piece, no_part, carried, AreSound, Packet, Stretch, fresh}
+use Rattle.x25_handshakes.proofs.{Names.{PeerStretch, fresh_peer, Terms}, StretchRelation.{Line, Acks, Ints, Text}}
 
 -- the numbers P(R) that the peer tells: none is more than it took
 pub record Tells (k acked sent : ℕ) (v : List Packet) (told taken : ℕ) : Type 0 where

@@ -1,15 +1,12 @@
 -- The worked rows of peers, by computing.
-use Rattle.std.proofs.Common.{◌≡◌, false, true, [], ◌∷◌, None, refl, sym, subst, arith}
-use Rattle.x25_bits.specs.declared.role.Role.TheVariants.{Dte}
-use Rattle.x25_packet.specs.Marks.{with_q}
-use Rattle.x25_circuit.specs.{Params.{default_params}, laws.ParamsLaws.{NoFieldIsKnown}, Message.{Last, no_part, piece_ground}}
-use Rattle.x25_handshakes.specs.{laws.Stretch.{Data, Call, Accept, Send, Pull}, laws.Transfer.{Inside}, laws.PeerStretch.{Sends, Says}}
-use Rattle.x25_handshakes.specs.{laws.PeerTransfer.{InStretch}, laws.PeerJoined.{start, Acts, Takes, Does, Hears, ReachedInCall, at_start, goes_on}}
-use Rattle.x25_handshakes.specs.{laws.Calls.{AcceptsCall}, laws.Channel.{Within}, laws.Layers.{On, Restart, RestartConf, OnChannel}}
-use Rattle.x25_handshakes.specs.{laws.PeerCalls.{PlacesCall}, laws.PeerChannel.{InCall}, laws.PeerLayer.{InChannel}}
+use Rattle.x25_handshakes.proofs.Names.{◌≡◌, false, true, [], ◌∷◌, None, refl, sym, subst, arith, Dte, Last, no_part, piece_ground, Data, Call, Accept, Send}
+use Rattle.x25_handshakes.proofs.Names.{Pull, Inside, Sends, Says, InStretch, AcceptsCall, Within, On, Restart, RestartConf, OnChannel, InCall, InChannel}
+use Rattle.x25_circuit.specs.{Params.{default_params}, laws.ParamsLaws.{NoFieldIsKnown}}
+use Rattle.x25_handshakes.{proofs.Names.{calling_terms}, specs.laws.PeerCalls.{PlacesCall}}
+use Rattle.x25_handshakes.specs.laws.PeerJoined.{start, Acts, Takes, Does, Hears, ReachedInCall, at_start, goes_on}
 use Rattle.x25_handshakes.specs.rows.PeerRows.{terms, handed_down, pulled, heard, answered, taken, acknowledged, LatePeerMoves, proposal, layer_does}
 use Rattle.x25_handshakes.specs.rows.PeerRows.{peer_hears, layer_does_itself, restarted, called, accepted, message, came, PeerLayerMoves}
-use Rattle.x25_handshakes.specs.laws.Terms.{calling_terms}
+use Rattle.x25_packet.specs.Marks.{with_q}
 use Rattle.x25_handshakes.specs.laws.PeerLayers as layers
 
 pub late_peer_moves : LatePeerMoves

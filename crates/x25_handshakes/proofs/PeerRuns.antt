@@ -1,12 +1,10 @@
 -- All that happens to a circuit of ours in p4 and a peer keeps what is kept of them.
-use Rattle.std.proofs.Common.{◌≡◌, ℕ, ◌≤◌, List, None, refl, ap, ◌∙◌, sym}
-use Rattle.x25_handshakes.specs.{laws.Stretch.{Packet, Stretch}, laws.Transfer.{transfer_acts, transfer_takes}}
-use Rattle.x25_handshakes.specs.laws.PeerJoined.{JoinedCall, HappensInCall, Acts, Takes, Does, Hears, Skips, ReachedInCall, at_start, goes_on}
-use Rattle.x25_handshakes.specs.{laws.PeerClaims.{WithAnyPeer, KeepsStretches, FindsNoError}, laws.Handshake.{OwnStep, At, first_error, near_stepped}}
-use Rattle.x25_handshakes.specs.laws.Terms.{Terms}
-use Rattle.x25_handshakes.proofs.{HandshakeLemmas.{both_fresh}, PeerRelation.{Kept-start}}
+use Rattle.x25_handshakes.proofs.Names.{◌≡◌, ℕ, ◌≤◌, List, None, refl, ap, ◌∙◌, sym, Packet, Stretch, transfer_acts, transfer_takes, OwnStep, At, first_error}
+use Rattle.x25_handshakes.proofs.{HandshakeLemmas.{both_fresh}, Names.{Terms}, PeerOrder.{stretches_order}, PeerRelation.{Kept-start}}
 use Rattle.x25_handshakes.proofs.PeerTransferLemmas.{peer_level, KeptTransfer, GoodTransfer, GoodTransfer-acts, GoodTransfer-takes, done_kept, takes_kept}
-use Rattle.x25_handshakes.proofs.{PeerTransferLemmas.{skips_kept}, PeerOrder.{stretches_order}}
+use Rattle.x25_handshakes.{proofs.PeerTransferLemmas.{skips_kept}, specs.laws.Handshake.{near_stepped}}
+use Rattle.x25_handshakes.specs.laws.PeerClaims.{WithAnyPeer, KeepsStretches, FindsNoError}
+use Rattle.x25_handshakes.specs.laws.PeerJoined.{JoinedCall, HappensInCall, Acts, Takes, Does, Hears, Skips, ReachedInCall, at_start, goes_on}
 
 record Holds (t : Terms) (longest size : ℕ) (w : JoinedCall) : Type 0 where
   pub quiet : w.error ≡ None

@@ -1,17 +1,14 @@
 -- What our circuit and a peer do in p4 keeps what is kept of them, and what comes to our circuit is no procedure error.
-use Rattle.std.proofs.{Common.{ℕ, ◌≤◌, List, ◌∷◌, ◌≡◌, suc, [], ◌++◌, None, true, false, refl, sym, subst}, lemmas.List.{append-nil}}
-use Rattle.x25_handshakes.specs.laws.Handshake.{At, Inner, Side, Live, Left, OwnStep, live}
-use Rattle.x25_handshakes.specs.laws.Stretch.{Packet, Stretch, Reset, ResetConf, Call, Accept, Clear, ClearConf}
-use Rattle.x25_handshakes.specs.laws.Transfer.{transfer_takes, TransferAct, transfer_acts}
-use Rattle.x25_handshakes.specs.laws.PeerStretch.{PeerStretch, fresh_peer, Deed, Sends, Says, does, packet_of, taking}
-use Rattle.x25_handshakes.specs.laws.PeerTransfer.{TransferDeed, InStretch, Resets, MayDoTransfer, does_transfer, transfer_packet_of, transfer_taking}
-use Rattle.x25_handshakes.specs.{laws.PeerTransfer.{IsNoReset, AreNoResets}, laws.Terms.{Terms}}
-use Rattle.x25_handshakes.proofs.HandshakeRelation.{Level, Handshaken, GoodStep, AllInner}
-use Rattle.x25_handshakes.proofs.TransferRelation.{own_level, OwnTransfer, GoodOwnTransfer, reset_mark, InTransfer, AllInTransfer}
-use Rattle.x25_handshakes.proofs.{OwnTransferLemmas.{OwnStretches, own_takes, own_acts, inner_mark, in_transfer}, PeerRelation.{Kept, Kept-start}}
-use Rattle.x25_handshakes.proofs.{PeerActs.{Good-acts, Good-takes}, StretchRelation.{InFlowControl}}
+use Rattle.x25_handshakes.proofs.Names.{ℕ, ◌≤◌, List, ◌∷◌, ◌≡◌, suc, [], ◌++◌, None, true, false, refl, sym, subst, append-nil, At, Inner, Side, Live, Left}
+use Rattle.x25_handshakes.proofs.Names.{OwnStep, live, Packet, Stretch, Reset, ResetConf, Call, Accept, Clear, ClearConf, transfer_takes, TransferAct}
+use Rattle.x25_handshakes.proofs.Names.{transfer_acts, PeerStretch, fresh_peer, Deed, Sends, Says, does, packet_of, taking, TransferDeed, InStretch}
+use Rattle.x25_handshakes.proofs.Names.{MayDoTransfer, does_transfer, transfer_packet_of, transfer_taking, Terms}
 use Rattle.x25_handshakes.proofs.HandshakeLemmas.{each_append, each_back, request_skips, flip, turned}
-use Rattle.x25_handshakes.proofs.{HandshakeSteps.{Answers, acts_inside, leaves, answered}, PeerDeeds.{does_kept, taking_kept}}
+use Rattle.x25_handshakes.proofs.{HandshakeRelation.{Level, Handshaken, GoodStep, AllInner}, HandshakeSteps.{Answers, acts_inside, leaves, answered}}
+use Rattle.x25_handshakes.proofs.{OwnTransferLemmas.{OwnStretches, own_takes, own_acts, inner_mark, in_transfer}, PeerActs.{Good-acts, Good-takes}}
+use Rattle.x25_handshakes.proofs.{PeerDeeds.{does_kept, taking_kept}, PeerRelation.{Kept, Kept-start}, StretchRelation.{InFlowControl}}
+use Rattle.x25_handshakes.proofs.TransferRelation.{own_level, OwnTransfer, GoodOwnTransfer, reset_mark, InTransfer, AllInTransfer}
+use Rattle.x25_handshakes.specs.laws.PeerTransfer.{Resets, IsNoReset, AreNoResets}
 
 -- our own end and a peer, with a stretch inside
 abbrev pub peer_level : Terms → ℕ → ℕ → Level Stretch PeerStretch Packet

@@ -1,21 +1,18 @@
 -- Messages and interrupts: what belongs to a stretch is handed up as the other end handed it down in that stretch.
-use Rattle.std.proofs.Common.{◌≡◌, inl, inr, ℕ, ◌+◌, List, [], ◌∷◌, ◌++◌, length, Option, Some, None, Bool, true, false, nat_lt, nat_le, if◌then◌else◌, refl}
-use Rattle.std.proofs.{Common.{sym, ap, subst, ◌∙◌, arith}, lemmas.List.{append-nil}, lemmas.Bool.{cond_both}}
-use Rattle.x25_circuit.specs.{Message.{Piece, wholes}, declared.params.Params.{Params}, Params.{Proposal, may_propose, may_answer, field_for, said_in}}
-use Rattle.x25_circuit.specs.Notice.{CallRequest}
-use Rattle.x25_bits.specs.{declared.role.Role.{Role}, declared.role.Role.TheVariants.{Dte, Dce}}
-use Rattle.x25_handshakes.proofs.{TermsLemmas.{IsSound}, HandshakeLemmas.{meets}, StretchRelation.{InFlowControl, FollowsFrom}}
-use Rattle.x25_handshakes.proofs.{TransferRelation.{stretch_level, TransfersRelated}, ChannelRelation.{clear_mark, Seen}, OwnTransferLemmas.{inner_mark}}
-use Rattle.x25_handshakes.proofs.{StretchLemmas.{GoodStretch-takes, FollowsFrom-from_Dir}, ClaimLemmas.{Seen-joint}}
-use Rattle.x25_handshakes.proofs.{HistoryLemmas.{Change, Stays, MoreResets, IsPrefix-refl}, TurnLemmas.{MayIndicate, WithinCall, IsHandled}}
-use Rattle.x25_handshakes.specs.laws.Handshake.{Inner, Side, Live, Left, At, state_of, OwnStep, live, left}
-use Rattle.x25_handshakes.specs.laws.Stretch.{Packet, Data, Rr, Rnr, IntConf, Reset, ResetConf, Call, Accept, Clear, ClearConf, Stretch, fresh, stretch_does}
-use Rattle.x25_handshakes.specs.laws.Stretch.{stretch_fails, StretchAct, Send, Pull, Interrupt, pulls, stretch_acts, by_ground, data_ground, ack_ground}
-use Rattle.x25_handshakes.specs.laws.Stretch.{takes_data, takes_status, stretch_takes}
-use Rattle.x25_handshakes.specs.laws.Transfer.{fresh_transfer, lifted, transfer_side_takes, transfer_takes, TransferAct, Inside, SendsReset, transfer_side_acts}
-use Rattle.x25_handshakes.specs.laws.Calls.{Phase, Unused, Waiting, Offered, Crossed, Talking, Connection, goes, unexpected, calling_talk, called_talk}
-use Rattle.x25_handshakes.specs.laws.Calls.{is_answered, accepts, phase_takes, call_takes, CallAct, PlacesCall, AcceptsCall, Talks, phase_acts}
-use Rattle.x25_handshakes.specs.{laws.Histories.{Lists, none, resets_in, held_in, of_stretch, messages, interrupts, IsPrefix}, laws.Terms.{Terms}}
+use Rattle.x25_handshakes.proofs.Names.{◌≡◌, inl, inr, ℕ, ◌+◌, List, [], ◌∷◌, ◌++◌, length, Option, Some, None, Bool, true, false, nat_lt, nat_le}
+use Rattle.x25_handshakes.proofs.Names.{if◌then◌else◌, refl, sym, ap, subst, ◌∙◌, arith, append-nil, cond_both, Piece, wholes, Params, Proposal, may_propose}
+use Rattle.x25_handshakes.proofs.Names.{may_answer, field_for, said_in, CallRequest, Role, Dte, Dce, Inner, Side, Live, Left, At, state_of, OwnStep, live}
+use Rattle.x25_handshakes.proofs.Names.{Packet, Data, Rr, Rnr, IntConf, Reset, ResetConf, Call, Accept, Clear, ClearConf, Stretch, fresh, stretch_does}
+use Rattle.x25_handshakes.proofs.Names.{stretch_fails, StretchAct, Send, Pull, Interrupt, pulls, stretch_acts, by_ground, data_ground, ack_ground, takes_data}
+use Rattle.x25_handshakes.proofs.Names.{takes_status, stretch_takes, fresh_transfer, lifted, transfer_side_takes, transfer_takes, TransferAct, Inside}
+use Rattle.x25_handshakes.proofs.Names.{SendsReset, transfer_side_acts, Phase, Unused, Waiting, Offered, Crossed, Talking, Connection, goes, unexpected}
+use Rattle.x25_handshakes.proofs.Names.{calling_talk, called_talk, is_answered, accepts, phase_takes, call_takes, CallAct, PlacesCall, AcceptsCall, Talks}
+use Rattle.x25_handshakes.proofs.{ChannelRelation.{clear_mark, Seen}, ClaimLemmas.{Seen-joint}, HandshakeLemmas.{meets}}
+use Rattle.x25_handshakes.proofs.HistoryLemmas.{Change, Stays, MoreResets, IsPrefix-refl}
+use Rattle.x25_handshakes.proofs.{Names.{phase_acts, Lists, none, resets_in, messages, IsPrefix, Terms}, OwnTransferLemmas.{inner_mark}}
+use Rattle.x25_handshakes.proofs.{StretchLemmas.{GoodStretch-takes, FollowsFrom-from_Dir}, StretchRelation.{InFlowControl, FollowsFrom}, TermsLemmas.{IsSound}}
+use Rattle.x25_handshakes.proofs.{TransferRelation.{stretch_level, TransfersRelated}, TurnLemmas.{MayIndicate, WithinCall, IsHandled}}
+use Rattle.x25_handshakes.specs.laws.{Handshake.{left}, Histories.{held_in, of_stretch, interrupts}}
 
 -- what has to be known of two lists of a stretch
 pub record IsKept {M : Type 0} (down up : Stretch → List M) : Type 0 where

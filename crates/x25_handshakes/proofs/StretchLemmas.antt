@@ -1,11 +1,9 @@
 -- Each step in d1 keeps the relation of the two stretches, and is no procedure error: each end is a peer of the other.
-use Rattle.std.proofs.{Common.{◌≡◌, List, [], ◌∷◌, ◌++◌, refl, sym, ap, ◌∙◌, arith, append_assoc}, lemmas.List.{append-nil}}
-use Rattle.x25_circuit.specs.Message.{no_part, joining, carried_from, carried}
-use Rattle.x25_handshakes.proofs.{TermsLemmas.{IsSound}, PeerRelation.{Kept}, PeerActs.{Good, Good-acts, Good-takes}}
-use Rattle.x25_handshakes.proofs.StretchRelation.{pieces, ints, Direction, Told, StretchesRelated, GoodStretch, FollowsFrom}
-use Rattle.x25_handshakes.proofs.{ToldLemmas.{tells_act, tells_take}, TextLemmas.{carried-append, AreSound-front}}
-use Rattle.x25_handshakes.specs.{laws.Stretch.{Packet, Stretch, fresh, StretchAct, stretch_acts, stretch_takes}, laws.LayerPeers.{as_peer_stretch}}
-use Rattle.x25_handshakes.specs.{laws.Handshake.{OwnStep}, laws.Terms.{Terms}}
+use Rattle.x25_handshakes.proofs.Names.{◌≡◌, List, [], ◌∷◌, ◌++◌, refl, sym, ap, ◌∙◌, arith, append_assoc, append-nil, no_part, joining, carried_from, carried}
+use Rattle.x25_handshakes.proofs.Names.{Packet, Stretch, fresh, StretchAct, stretch_acts, stretch_takes, as_peer_stretch, OwnStep, Terms}
+use Rattle.x25_handshakes.proofs.{PeerActs.{Good, Good-acts, Good-takes}, PeerRelation.{Kept}}
+use Rattle.x25_handshakes.proofs.{StretchRelation.{pieces, ints, Direction, Told, StretchesRelated, GoodStretch, FollowsFrom}, TermsLemmas.{IsSound}}
+use Rattle.x25_handshakes.proofs.{TextLemmas.{carried-append, AreSound-front}, ToldLemmas.{tells_act, tells_take}}
 
 pub StretchesRelated-flip : {t b : Terms} {x : Stretch} {u v : List Packet} {y : Stretch} → StretchesRelated t b x u v y → StretchesRelated b t y v u x
 StretchesRelated-flip h = record { there = h.back; back = h.there; told = h.told_back; told_back = h.told }

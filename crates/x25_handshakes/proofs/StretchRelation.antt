@@ -1,9 +1,6 @@
 -- What is kept of two circuits in d1 of one stretch, and the lines between them.
-use Rattle.std.proofs.Common.{◌≡◌, ℕ, ◌+◌, ◌%◌, ◌≤◌, List, [], ◌∷◌, ◌++◌, length, Option, Some, None, Bool, true, false}
-use Rattle.x25_circuit.specs.Message.{Message, Piece, no_part, joining, carried, AreSound}
-use Rattle.x25_window.specs.code.Modulo.{resolved}
-use Rattle.x25_handshakes.specs.{laws.Stretch.{Packet, Data, Rr, Rnr, Int, IntConf, Stretch}, laws.Histories.{IsPrefix}, laws.Handshake.{OwnStep}}
-use Rattle.x25_handshakes.specs.laws.Terms.{Terms}
+use Rattle.x25_handshakes.proofs.Names.{◌≡◌, ℕ, ◌+◌, ◌%◌, ◌≤◌, List, [], ◌∷◌, ◌++◌, length, Option, Some, None, Bool, true, false, Message, Piece, no_part}
+use Rattle.x25_handshakes.proofs.Names.{joining, carried, AreSound, resolved, Packet, Data, Rr, Rnr, Int, IntConf, Stretch, IsPrefix, OwnStep, Terms}
 use Rattle.x25_handshakes.proofs.HandshakeRelation.{Each}
 
 -- a data packet's number and what it carries

@@ -1,7 +1,7 @@
 -- Proposals and answers give sound terms.
-use Rattle.std.proofs.Common.{◌≡◌, ℕ, ◌≤◌, true, arith}
-use Rattle.x25_circuit.specs.{declared.params.Params.{Params}, Params.{Proposal, may_propose, may_answer, field_for, said_in}, laws.ParamsLaws.{AreTerms}}
-use Rattle.x25_handshakes.specs.{laws.LawsBelow.{Laws}, laws.Terms.{Terms, with_longest, called_terms, calling_terms}}
+use Rattle.x25_handshakes.proofs.Names.{◌≡◌, ℕ, ◌≤◌, true, arith, Params, Proposal, may_propose, may_answer, field_for, said_in, Laws, Terms, called_terms}
+use Rattle.x25_circuit.specs.laws.ParamsLaws.{AreTerms}
+use Rattle.x25_handshakes.{proofs.Names.{calling_terms}, specs.laws.Terms.{with_longest}}
 use Rattle.x25_circuit.specs.Params as agreed
 
 -- of one direction: one to seven packets unacknowledged, and at least one octet in a packet

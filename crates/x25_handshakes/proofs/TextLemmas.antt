@@ -1,10 +1,10 @@
 -- Laws of packets and messages.
-use Rattle.std.proofs.Common.{◌≡◌, ℕ, zero, suc, ◌+◌, ◌<◌, ◌≤◌, List, [], ◌∷◌, ◌++◌, length, Some, None, Bool, true, false, nat_le, refl, sym, ap, ◌∙◌, arith}
-use Rattle.std.proofs.{Common.{append_assoc, length-append, take, drop}, lemmas.Grind.{common_steps}, lemmas.Bool.{le-leb, cond_both}}
-use Rattle.std.proofs.{lemmas.Bool.Decides.{nat_tests}, lemmas.List.{take-append-drop}}
-use Rattle.x25_packet.specs.{declared.marks.Marks.{Marks}, Marks.{with_q}}
-use Rattle.x25_circuit.specs.Message.{Piece, More, Last, Partial, no_part, joined, joining, completed, carried_from, same_q, may_have_q, ground_of, AreSound}
-use Rattle.x25_circuit.specs.Message.{cut_from}
+use Rattle.x25_handshakes.proofs.Names.{◌≡◌, ℕ, suc, ◌+◌, ◌<◌, ◌≤◌, List, [], ◌∷◌, ◌++◌, length, Some, None, Bool, true, false, nat_le, refl, sym, ap, ◌∙◌}
+use Rattle.x25_handshakes.proofs.Names.{arith, append_assoc, length-append, cond_both, Marks, Piece, Last, no_part, joining, carried_from, AreSound}
+use Rattle.std.proofs.{Common.{zero, take, drop}, lemmas.Bool.{le-leb}, lemmas.Bool.Decides.{nat_tests}, lemmas.Grind.{common_steps}}
+use Rattle.std.proofs.lemmas.List.{take-append-drop}
+use Rattle.x25_circuit.specs.Message.{More, Partial, joined, completed, same_q, may_have_q, ground_of, cut_from}
+use Rattle.x25_packet.specs.Marks.{with_q}
 
 -- pieces are joined in two goes
 pub joining-append : (j : Partial) (a b : List Piece) → joining j (a ++ b) ≡ joining (joining j a) b

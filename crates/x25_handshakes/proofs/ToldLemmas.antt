@@ -1,12 +1,10 @@
 -- Each step in d1 tells how far this end has taken and whether it is ready, as soon as that changes; and what the other end told is heard in order.
-use Rattle.std.proofs.Common.{◌≡◌, ℕ, ◌+◌, ◌%◌, ◌<◌, List, [], ◌∷◌, ◌++◌, length, Option, Some, None, Bool, true, false, nat_lt, nat_le, if◌then◌else◌, refl}
-use Rattle.std.proofs.{Common.{sym, ap, subst, ◌∙◌, arith}, lemmas.List.{length_push, append-nil}, lemmas.Bool.{cond_both}, lemmas.Option.{none-some}}
-use Rattle.x25_packet.specs.declared.marks.Marks.{Marks}
-use Rattle.x25_circuit.specs.Message.{Piece, cut, wholes}
-use Rattle.x25_handshakes.specs.laws.Stretch.{Packet, Data, Rr, Rnr, Int, IntConf, Stretch, stretch_does, stretch_fails, StretchAct, Send, Pull, Ready}
-use Rattle.x25_handshakes.specs.laws.Stretch.{NotReady, Interrupt, status, sends, pulls, interrupts, stretch_acts, ack_ground, data_ground, by_ground}
-use Rattle.x25_handshakes.specs.{laws.Stretch.{takes_data, takes_status, stretch_takes}, laws.Handshake.{OwnStep}, laws.Terms.{Terms}}
-use Rattle.x25_handshakes.proofs.{StretchRelation.{ack_in, hears, heard, readied, all_readied, Told}, LineLemmas.{resolved_is, heard_push}}
+use Rattle.x25_handshakes.proofs.Names.{◌≡◌, ℕ, ◌+◌, ◌%◌, ◌<◌, List, [], ◌∷◌, ◌++◌, length, Option, Some, None, Bool, true, false, nat_lt, nat_le}
+use Rattle.x25_handshakes.proofs.Names.{if◌then◌else◌, refl, sym, ap, subst, ◌∙◌, arith, length_push, append-nil, cond_both, none-some, Marks, Piece, cut}
+use Rattle.x25_handshakes.proofs.Names.{wholes, Packet, Data, Rr, Rnr, Int, IntConf, Stretch, stretch_does, stretch_fails, StretchAct, Send, Pull, Ready}
+use Rattle.x25_handshakes.proofs.Names.{NotReady, Interrupt, sends, pulls, interrupts, stretch_acts, ack_ground, data_ground, by_ground, takes_data}
+use Rattle.x25_handshakes.proofs.{LineLemmas.{resolved_is, heard_push}, Names.{takes_status, stretch_takes, OwnStep, Terms}}
+use Rattle.x25_handshakes.{proofs.StretchRelation.{ack_in, hears, heard, readied, all_readied, Told}, specs.laws.Stretch.{status}}
 
 readied_push : (b : Bool) (u : List Packet) (p : Packet) → all_readied b (u ++ p ∷ []) ≡ readied (all_readied b u) p
 readied_push b [] p = refl

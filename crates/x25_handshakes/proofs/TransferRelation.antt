@@ -1,8 +1,6 @@
 -- What is kept of two circuits in p4.
-use Rattle.std.proofs.Common.{◌≡◌, List, ◌++◌, None}
-use Rattle.x25_handshakes.specs.laws.Handshake.{Mark, Inner, Request, Confirm, At, OwnStep}
-use Rattle.x25_handshakes.specs.{laws.Stretch.{Packet, Reset, ResetConf, Call, Accept, Clear, ClearConf, Stretch, fresh}, laws.Terms.{Terms}}
-use Rattle.x25_handshakes.proofs.{HandshakeRelation.{Level, Handshake, Each}, StretchRelation.{StretchesRelated}}
+use Rattle.x25_handshakes.proofs.Names.{◌≡◌, List, ◌++◌, None, Mark, Inner, Request, Confirm, At, OwnStep, Packet, Reset, ResetConf, Call, Accept, Clear}
+use Rattle.x25_handshakes.proofs.{HandshakeRelation.{Level, Handshake, Each}, Names.{ClearConf, Stretch, fresh, Terms}, StretchRelation.{StretchesRelated}}
 
 -- what a packet is to the handshake of RESET
 abbrev pub reset_mark : Packet → Mark

@@ -1,17 +1,14 @@
 -- Each step of an end lets the names of its channels stay or grow, and what it hands up begins what the other end
 -- handed down: for any kind of thing of which this is known within a call.
-use Rattle.std.proofs.Common.{◌≡◌, inl, inr, ℕ, List, ◌∷◌, Option, Some, None, Bool, true, false, ◌==◌, if◌then◌else◌, refl, sym, ap, subst, ◌∙◌, arith}
-use Rattle.std.proofs.lemmas.Bool.{eqb-true}
-use Rattle.x25_bits.specs.declared.role.Role.{Role}
-use Rattle.x25_handshakes.specs.{laws.Handshake.{Inner, Side, Live, Left, At, state_of, OwnStep, live}, laws.Stretch.{Packet, Clear, ClearConf}}
-use Rattle.x25_handshakes.specs.laws.Calls.{Phase, Unused, Connection, call_takes, CallAct, call_acts, fresh_call}
-use Rattle.x25_handshakes.specs.laws.Channel.{lifted_call, channel_side_takes, channel_takes, ChannelAct, Within, SendsClear, clears, channel_side_acts}
-use Rattle.x25_handshakes.specs.laws.Channel.{channel_acts}
-use Rattle.x25_handshakes.specs.laws.Layers.{LayerPacket, On, RestartConf, Channels, put, layer_side_takes, LayerAct, OnChannel, SendsRestart, layer_side_acts}
-use Rattle.x25_handshakes.specs.{laws.Names.{Name}, laws.Histories.{Lists, none, Kind, circuit_at, name_at, channel_view, IsPrefix}}
-use Rattle.x25_handshakes.proofs.{HandshakeLemmas.{meets}, ChannelRelation.{clear_mark, Seen, connection_level, ChannelRelated}}
-use Rattle.x25_handshakes.proofs.{LayersRelation.{on, channels_level, LayersRelated, EndsRelated}, OwnLayerLemmas.{on-front}, NameLemmas.{name_eq}}
+use Rattle.x25_handshakes.proofs.Names.{◌≡◌, inl, inr, ℕ, List, ◌∷◌, Option, Some, None, Bool, true, false, ◌==◌, if◌then◌else◌, refl, sym, ap, subst, ◌∙◌}
+use Rattle.x25_handshakes.proofs.Names.{arith, eqb-true, Role, Inner, Side, Live, Left, At, state_of, OwnStep, live, Packet, Clear, ClearConf, Phase, Unused}
+use Rattle.x25_handshakes.proofs.Names.{Connection, call_takes, CallAct, call_acts, fresh_call, lifted_call, channel_side_takes, channel_takes, ChannelAct}
+use Rattle.x25_handshakes.proofs.Names.{Within, SendsClear, clears, channel_side_acts, channel_acts, LayerPacket, On, RestartConf, Channels, put}
+use Rattle.x25_handshakes.proofs.Names.{layer_side_takes, LayerAct, OnChannel, SendsRestart, layer_side_acts, Name, Lists, none, Kind, name_at, channel_view}
+use Rattle.x25_handshakes.proofs.{ChannelRelation.{clear_mark, Seen, connection_level, ChannelRelated}, HandshakeLemmas.{meets}}
 use Rattle.x25_handshakes.proofs.HistoryLemmas.{Change, Stays, MoreResets, MoreClears, Turn, Remained, Restarted, MayHandUp, IsPrefix-refl}
+use Rattle.x25_handshakes.proofs.{LayersRelation.{on, channels_level, LayersRelated, EndsRelated}, NameLemmas.{name_eq}, Names.{IsPrefix}}
+use Rattle.x25_handshakes.{proofs.OwnLayerLemmas.{on-front}, specs.laws.Histories.{circuit_at}}
 
 -- what may be handed up in a call, where the other end stands in y
 abbrev pub MayIndicate : {M : Type 0} → Kind M → Connection → Connection → List M → Type 0

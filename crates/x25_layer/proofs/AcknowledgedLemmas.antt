@@ -1,24 +1,12 @@
 -- What is acknowledged to an end the other one has handed up, from what is known of the nested handshakes.
-use Rattle.std.proofs.Common.{◌≡◌, ℕ, Bool, take, Some, true, sym, ap, subst, ◌∙◌}
-use Rattle.x25_circuit.specs.Circuit.{Talk, is_open}
-use Rattle.x25_circuit.specs.Message.{Message, carried}
-use Rattle.x25_handshakes.specs.laws.Handshake.{Side, At, state_of}
-use Rattle.x25_handshakes.specs.laws.Stretch.{Stretch}
-use Rattle.x25_handshakes.specs.laws.Layers.{Channels, Pair, pair_run, pair_start}
-use Rattle.x25_handshakes.specs.laws.Names.{Name}
-use Rattle.x25_handshakes.specs.laws.Histories.{Lists, messages, name_at, held_at, IsPrefix, Histories, histories_run, histories_start}
-use Rattle.x25_handshakes.specs.laws.Arrivals.{open_at}
+use Rattle.x25_layer.proofs.Names.{◌≡◌, ℕ, Bool, Some, true, sym, ap, subst, ◌∙◌, Talk, is_open, Message, Side, At, state_of, Stretch, Channels, Pair, pair_run}
+use Rattle.x25_layer.proofs.Names.{pair_start, Name, Lists, messages, name_at, held_at, IsPrefix, Histories, histories_run, histories_start, open_at, Ranges}
+use Rattle.std.proofs.Common.{take}
+use Rattle.x25_circuit.specs.Message.{carried}
+use Rattle.x25_layer.proofs.{ArrivalLemmas.{OpenEnd, open_end}, LawLemmas.{near_present, far_present}}
+use Rattle.x25_layer.proofs.{Names.{under, messages_in, name_of, End, TwoLayers, run, start, Always}, RunLemmas.{Premises, histories_pair, InRun, in_run}}
+use Rattle.x25_layer.{proofs.Sees.{talk_of}, proofs.TwoLayerLemmas.{SeesEnd}, specs.laws.Acknowledged.{AcknowledgedAreUp, AcknowledgedAreHandedUp}}
 use Rattle.x25_handshakes.specs.laws.Acknowledged as nested
-use Rattle.x25_layer.specs.declared.ranges.Ranges.{Ranges}
-use Rattle.x25_layer.specs.laws.Transcript.{under, messages_in, name_of}
-use Rattle.x25_layer.specs.laws.TwoLayers.{End, TwoLayers, run, start}
-use Rattle.x25_layer.specs.laws.Law.{Always}
-use Rattle.x25_layer.specs.laws.Acknowledged.{AcknowledgedAreUp, AcknowledgedAreHandedUp}
-use Rattle.x25_layer.proofs.Sees.{talk_of}
-use Rattle.x25_layer.proofs.TwoLayerLemmas.{SeesEnd}
-use Rattle.x25_layer.proofs.RunLemmas.{Premises, histories_pair, InRun, in_run}
-use Rattle.x25_layer.proofs.LawLemmas.{near_present, far_present}
-use Rattle.x25_layer.proofs.ArrivalLemmas.{OpenEnd, open_end}
 
 -- of an end and the history of the other
 of_end : (most : ℕ) (e f : End) (s : Side (At Channels)) (k : ℕ) (history : Name → Lists Message) → SeesEnd most e s

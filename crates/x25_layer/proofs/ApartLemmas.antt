@@ -1,18 +1,12 @@
 -- A run of two layers in order, each end by itself, is a run of two layers over links: so what holds of those always holds of it.
-use Rattle.std.proofs.Common.{◌≡◌, List, [], ◌∷◌, ◌++◌, length, drop, Bool, true, false, if◌then◌else◌, refl, sym, ap, ap₂, subst, ◌∙◌, append_assoc}
-use Rattle.std.proofs.lemmas.List.{append_cancel_left, drop_at}
-use Rattle.x25_bits.specs.declared.role.Role.TheVariants.{Dte, Dce}
-use Rattle.x25_packet.specs.Packet.{PlainPacket}
-use Rattle.x25_handshakes.specs.laws.Histories.{IsPrefix}
-use Rattle.x25_layer.specs.declared.ranges.Ranges.{Ranges}
-use Rattle.x25_layer.specs.Layer.{LayerSettings, is_channel}
-use Rattle.x25_layer.specs.Calls.{LayerOutcome, Accepted, Declined, layer_outcome, layer_pulled}
-use Rattle.x25_layer.specs.laws.TwoLayers as world
-use Rattle.x25_layer.specs.laws.TwoLayers.{End, TwoLayers, requested, pulled_in, handed_up, moves_in, moves, turned, settings_of, EndMove, happens, run, start}
-use Rattle.x25_layer.specs.laws.Law.{Always, KeepsOrder}
+use Rattle.x25_layer.proofs.Names.{◌≡◌, List, [], ◌∷◌, ◌++◌, length, Bool, true, false, if◌then◌else◌, refl, sym, ap, subst, ◌∙◌, append_assoc, Dte, Dce}
+use Rattle.x25_layer.proofs.Names.{PlainPacket, IsPrefix, Ranges, LayerSettings, is_channel, LayerOutcome, Accepted, Declined, layer_outcome, layer_pulled, End}
+use Rattle.x25_layer.proofs.Names.{TwoLayers, requested, pulled_in, handed_up, moves_in, turned, settings_of, EndMove, happens, run, start, Always, KeepsOrder}
+use Rattle.std.proofs.{Common.{drop, ap₂}, lemmas.List.{append_cancel_left, drop_at}}
 use Rattle.x25_layer.specs.laws.Apart.{OwnMove, Requests, Pulls, Takes, GoesDown, as_move, coming, alone, own_moves, own_run, Ends, ApartEvent, apart_happens}
 use Rattle.x25_layer.specs.laws.Apart.{apart_run, ends_of, IsNext, IsInOrder, AreInOrder, over_links, all_over_links, as_world, AlwaysApart}
 use Rattle.x25_layer.specs.laws.ApartLaw.{IsOverLinks, AreByThemselves, OwnMovesDecide, StaysDown, EventsRunOn}
+use Rattle.x25_layer.specs.laws.TwoLayers as world
 
 -- ---- own moves alone decide
 

@@ -1,24 +1,10 @@
 -- Where the giver is idle and a stretch is open at both ends, the transcripts say that all of it has arrived.
-use Rattle.std.proofs.Common.{◌≡◌, ℕ, ◌+◌, ◌≤◌, List, [], ◌∷◌, ◌++◌, length, Some, true, false, refl, sym, ap, ◌∙◌, length-append, arith}
-use Rattle.x25_packet.specs.Packet.{PlainPacket}
-use Rattle.x25_circuit.specs.Message.{Message, wholes}
-use Rattle.x25_handshakes.specs.laws.Terms.{Terms}
-use Rattle.x25_circuit.specs.Circuit.{Circuit, is_open, waits}
-use Rattle.x25_handshakes.specs.laws.Handshake.{Side, Live, Left, At, state_of}
-use Rattle.x25_handshakes.specs.laws.Stretch.{Stretch}
-use Rattle.x25_handshakes.specs.laws.Calls.{Phase, Talking, Connection}
-use Rattle.x25_handshakes.specs.laws.Layers.{Channels}
-use Rattle.x25_handshakes.specs.laws.Names.{Name}
-use Rattle.x25_handshakes.specs.laws.Histories.{Lists, messages, interrupts, held_in, name_at, held_at}
-use Rattle.x25_handshakes.specs.laws.Arrivals.{open_call, open_at, HasArrived}
-use Rattle.x25_layer.specs.Layer.{Layer}
-use Rattle.x25_layer.specs.laws.Transcript.{under, messages_in, interrupts_in, name_of}
-use Rattle.x25_layer.specs.laws.TwoLayers.{End}
-use Rattle.x25_layer.specs.laws.Law.{HasAllOf, IsIdleTo}
-use Rattle.x25_layer.proofs.Sees.{talk_of, Agreed, view}
-use Rattle.x25_layer.proofs.LayerSees.{ShowsAt}
-use Rattle.x25_layer.proofs.StepLemmas.{name_eq}
-use Rattle.x25_layer.proofs.TwoLayerLemmas.{SeesEnd}
+use Rattle.x25_layer.proofs.Names.{◌≡◌, ℕ, ◌+◌, ◌≤◌, List, [], ◌∷◌, ◌++◌, length, Some, true, false, refl, sym, ap, ◌∙◌, length-append, arith, PlainPacket}
+use Rattle.x25_layer.proofs.Names.{Message, wholes, Terms, Circuit, is_open, waits, Side, Live, Left, At, state_of, Stretch, Phase, Talking, Connection}
+use Rattle.x25_layer.proofs.Names.{Channels, Name, Lists, messages, interrupts, held_in, name_at, held_at, open_call, open_at, Layer, under, messages_in}
+use Rattle.x25_handshakes.specs.laws.Arrivals.{HasArrived}
+use Rattle.x25_layer.proofs.{LayerSees.{ShowsAt}, Names.{interrupts_in, name_of, End}, Sees.{talk_of, Agreed, view}, StepLemmas.{name_eq}}
+use Rattle.x25_layer.{proofs.TwoLayerLemmas.{SeesEnd}, specs.laws.Law.{HasAllOf, IsIdleTo}}
 
 -- nothing is in flight where all is acknowledged, and what is acknowledged was handed up
 no_length : (l : List PlainPacket) → length l ≡ 0 → l ≡ []

@@ -1,25 +1,38 @@
 -- The busy channels.
-use Rattle.std.proofs.Common.{◌≡◌, inl, inr, ℕ, zero, suc, ◌+◌, ◌-◌, ◌<◌, ◌≤◌, List, length, Bool, true, false}
-use Rattle.std.proofs.Common.{if◌then◌else◌, get_or, refl, sym, ap, subst, ◌∙◌, arith}
-use Rattle.std.specs.Prelude.{◌*◌, ◌/◌, ◌%◌, ◌^◌, set, bit_and, bit_or}
-use Rattle.std.specs.Int.{w64, bit_at, bit_not, trailing_zeros}
-use Rattle.std.proofs.lemmas.Bool.{cases_eq, cases_lt, false_from_ne_true, true_from_ne_false}
-use Rattle.std.proofs.lemmas.Grind.{get_or_default_zero}
-use Rattle.std.proofs.lemmas.List.{get_or-set_same, get_or-set_other, get_or_past}
-use Rattle.std.proofs.lemmas.Nat.{pow_below, and_le_l, and_le_r, shr-shr}
+use Rattle.x25_layer.proofs.Names.{◌≡◌, inl, inr, ℕ, zero, suc, ◌+◌, ◌-◌, ◌<◌, ◌≤◌, List, length, Bool, true, false, not, ◌&&◌, ◌==◌, if◌then◌else◌, get_or}
+use Rattle.x25_layer.proofs.Names.{refl, sym, ap, subst, ◌∙◌, arith, eqb-true, CircuitSettings, Circuit, waits, FitsCircuit, LayerSettings, Layer, is_channel}
+use Rattle.std.proofs.lemmas.{Bool.{cases_eq, cases_lt, false_from_ne_true, true_from_ne_false}, Grind.{get_or_default_zero}}
+use Rattle.std.proofs.lemmas.{List.{get_or-set_same, get_or-set_other, get_or_past}, Nat.{pow_below, and_le_l, and_le_r, shr-shr}}
 use Rattle.std.proofs.lemmas.Nat.Bits.{bit_at-zero, bit_at-suc, bit_at-lt, bit_at_or, bit_at_and, bit_at_not, bit_at-pow_same, bit_at-pow_other}
 use Rattle.std.proofs.lemmas.Nat.Bits.{bit_at_mask_below, bit_at_mask_inside, ones_shl, bit_at-trailing_zeros}
-use Rattle.x25_circuit.specs.declared.circuit.Circuit as circuit_code
-use Rattle.x25_circuit.specs.Awaits.{awaited_in, is_any}
-use Rattle.x25_circuit.specs.Circuit.{Circuit, waits}
-use Rattle.x25_circuit.specs.declared.awaits.Awaits.{Awaits}
+use Rattle.std.specs.{Int.{w64, bit_at, bit_not, trailing_zeros}, Prelude.{◌*◌, ◌/◌, ◌%◌, ◌^◌, set, bit_and, bit_or}}
+use Rattle.x25_circuit.specs.{Awaits.{awaited_in, is_any}, Circuit.{is_idle}, code.FitsCircuit.{waits_of}, declared.awaits.Awaits.{Awaits}}
 use Rattle.x25_circuit.specs.declared.awaits.Awaits.TheVariants.{Nothing, Acceptance, ResetConfirmation, ClearConfirmation}
+use Rattle.x25_layer.proofs.{CallLemmas.{configured}, FitLemmas.{there}, Names.{FitsCircuits, FitsLayer}}
+use Rattle.x25_layer.specs.code.{FitsLayer.{awaited_at, waits_up_to, awaited_up_to}, Idle.{IsOutside, IsIdle, IdleBeside}}
+use Rattle.x25_circuit.specs.declared.circuit.Circuit as circuit_code
 use Rattle.x25_layer.specs.declared.layer.Layer as code
-use Rattle.x25_layer.specs.Layer.{LayerSettings, Layer, is_channel}
-use Rattle.x25_layer.specs.code.FitsLayer.{FitsCircuits, FitsLayer, awaited_at, waits_up_to, awaited_up_to}
-use Rattle.x25_layer.specs.code.Idle.{IsOutside, IdleBeside}
-use Rattle.x25_layer.proofs.FitLemmas.{there}
-use Rattle.x25_layer.proofs.CallLemmas.{configured}
+
+-- ---- what a circuit says of itself
+
+nothing : (n : ℕ) (b : Bool) → (not b && (n == 0)) ≡ true → (b ≡ false) × (n ≡ 0)
+nothing n false is = (refl, eqb-true n 0 is)
+nothing n true is = absurd (cc)
+
+pub idle_is : (v : circuit_code.Circuit) (b : Bool) → ((c : CircuitSettings) (x : Circuit) → FitsCircuit c v x → b ≡ is_idle x)
+    → (b ≡ true → waits_of v ≡ 0) → b ≡ true → IsIdle v
+idle_is v b value none is = record {
+  none = none is;
+  waits = λ c x fits. (nothing (waits x) (is_any (awaited_in x.state)) (sym (value c x fits) ∙ is)).1;
+  awaits = λ c x fits. (nothing (waits x) (is_any (awaited_in x.state)) (sym (value c x fits) ∙ is)).0;
+}
+
+pub not_busy : (b : Bool) → not b ≡ false → b ≡ true
+not_busy true is = refl
+not_busy false is = absurd (cc)
+
+pub true_false : true ≡ false → ⊥
+true_false is = cc
 
 -- ---- a bit for each channel, in words of 64
 

@@ -1,34 +1,20 @@
 -- The calls of the user: the circuit of a channel is asked, and its packet goes on that channel.
-use Rattle.std.proofs.Common.{◌≡◌, ◌≢◌, ◌⊎◌, inl, inr, OnOk, ℕ, suc, ◌-◌, ◌<◌, ◌≤◌, List, [], length, Option, Some, None, Bool, true, false, nat_le}
-use Rattle.std.proofs.Common.{if◌then◌else◌, get_or, set, refl, sym, ap, subst, ◌∙◌, arith, Result, Ok, Err, IsErrAnd}
-use Rattle.std.proofs.Math.ListN.{length-set}
-use Rattle.std.proofs.lemmas.Bool.{leb-true, and_parts}
-use Rattle.x25_circuit.specs.declared.requested.Requested.{Requested}
-use Rattle.x25_packet.specs.Packet.{PlainPacket, restart}
-use Rattle.x25_circuit.specs.Params.{Proposal}
-use Rattle.x25_circuit.specs.declared.circuit.Circuit as circuit_code
-use Rattle.x25_circuit.specs.declared.error.CircuitError.{CircuitError}
-use Rattle.x25_circuit.specs.declared.error.CircuitError.TheVariants as circuit_error
-use Rattle.x25_circuit.specs.Circuit.{Circuit}
-use Rattle.x25_circuit.specs.Calling.{Outcome, Done, Refused, Request, Calls, Accepts, Sends, outcome}
-use Rattle.x25_circuit.specs.code.Replies.{plain_sent}
-use Rattle.x25_circuit.specs.Request.{refusal_of, asks_memory, may_ask_memory, AnswersRequest, MayPut}
-use Rattle.x25_circuit.specs.code.FitsCircuit.{FitsCircuit}
-use Rattle.x25_layer.specs.Ranges.{is_number}
-use Rattle.x25_layer.specs.declared.layer.Layer as code
-use Rattle.x25_layer.specs.declared.error.LayerError.{LayerError}
-use Rattle.x25_layer.specs.declared.error.LayerError.TheVariants as error
-use Rattle.x25_layer.specs.Error.{of_circuit}
-use Rattle.x25_layer.specs.Layer.{LayerSettings, Layer, is_channel, put_at, packet_on, is_ready, restarting_from}
-use Rattle.x25_layer.specs.Calls.{LayerRequest, Asks, Dials, Restarts, LayerOutcome, Accepted, Declined, free_channel, puts_at_once, where_room, if_at_once}
-use Rattle.x25_layer.specs.Calls.{dialled, restarted_for, outcome_in, layer_outcome, outcome_on, asked_where, declined_for}
-use Rattle.x25_circuit.specs.Cause.{may_restart_for}
-use Rattle.x25_layer.specs.code.FitsLayer.{FitsCircuits, FitsLayer}
-use Rattle.x25_layer.specs.code.Answering.{spelled, Gives, Does, Answers}
-use Rattle.x25_layer.specs.declared.link_state.LinkState.{LinkState}
-use Rattle.x25_layer.specs.Asking.{with_circuit, AsksCircuit, refusal_on}
+use Rattle.x25_layer.proofs.Names.{◌≡◌, ◌⊎◌, inl, inr, ℕ, suc, ◌-◌, ◌<◌, ◌≤◌, List, [], length, Option, Some, None, Bool, true, false, nat_le, if◌then◌else◌}
+use Rattle.x25_layer.proofs.Names.{get_or, set, refl, sym, ap, subst, ◌∙◌, arith, Result, Ok, Err, and_parts, PlainPacket, restart, Proposal, Circuit, Outcome}
+use Rattle.x25_layer.proofs.Names.{Done, Refused, Request, Calls, Accepts, Sends, outcome, FitsCircuit, is_number, LayerError, LayerSettings, Layer, is_channel}
+use Rattle.x25_layer.proofs.Names.{put_at, packet_on, is_ready, LayerRequest, Asks, Dials, Restarts, LayerOutcome, Accepted, Declined, free_channel}
+use Rattle.x25_layer.proofs.Names.{puts_at_once, where_room, if_at_once, dialled, restarted_for, outcome_in, layer_outcome, outcome_on, FitsCircuits, FitsLayer}
+use Rattle.std.proofs.{Common.{◌≢◌, OnOk, IsErrAnd}, Math.ListN.{length-set}, lemmas.Bool.{leb-true}}
+use Rattle.x25_circuit.specs.{Cause.{may_restart_for}, Request.{refusal_of, asks_memory, may_ask_memory, AnswersRequest, MayPut}, code.Replies.{plain_sent}}
+use Rattle.x25_circuit.specs.declared.{error.CircuitError.{CircuitError}, requested.Requested.{Requested}}
 use Rattle.x25_layer.proofs.FitLemmas.{read_at}
-use Rattle.x25_layer.proofs.PullLemmas.{fits_put, fits_same}
+use Rattle.x25_layer.{proofs.PullLemmas.{fits_put, fits_same}, specs.Asking.{with_circuit, AsksCircuit, refusal_on}, specs.Calls.{asked_where, declined_for}}
+use Rattle.x25_layer.specs.{Error.{of_circuit}, Layer.{restarting_from}, code.Answering.{spelled, Gives, Does, Answers}}
+use Rattle.x25_layer.specs.declared.link_state.LinkState.{LinkState}
+use Rattle.x25_circuit.specs.declared.circuit.Circuit as circuit_code
+use Rattle.x25_circuit.specs.declared.error.CircuitError.TheVariants as circuit_error
+use Rattle.x25_layer.specs.declared.layer.Layer as code
+use Rattle.x25_layer.specs.declared.error.LayerError.TheVariants as error
 
 -- a channel's number is from 1 to their count
 pub configured : (n h : ℕ) → is_number n h ≡ true → (1 ≤ h) × (h ≤ n)

@@ -1,25 +1,12 @@
 -- No CLEAR comes in p1: the nested handshakes mark it as an error of procedure.
-use Rattle.std.proofs.Common.{◌≡◌, ℕ, List, [], ◌∷◌, ◌++◌, Option, None, Bool, true, false, refl, sym, ap, subst, ◌∙◌}
-use Rattle.x25_bits.specs.declared.role.Role.{Role}
-use Rattle.x25_bits.specs.declared.role.Role.TheVariants.{Dte, Dce}
-use Rattle.x25_packet.specs.Packet.{PlainPacket, clear}
-use Rattle.x25_circuit.specs.Circuit.{Circuit, is_free, is_free_in}
-use Rattle.x25_handshakes.specs.laws.Handshake.{Side, Live, Left, has_left, At, OwnStep}
-use Rattle.x25_handshakes.specs.laws.Stretch.{Stretch, Clear}
-use Rattle.x25_handshakes.specs.laws.Calls.{Phase, Unused, Talking, Connection}
-use Rattle.x25_handshakes.specs.laws.Channel.{in_p1, channel_takes, channel_side_takes}
-use Rattle.x25_handshakes.specs.laws.Layers.{LayerPacket, On, Channels, Pair, Takes, pair_moves, pair_run, pair_start, layer_takes, layer_side_takes}
-use Rattle.x25_layer.specs.declared.ranges.Ranges.{Ranges}
-use Rattle.x25_layer.specs.laws.Bare.{bare_layer, bare_layers}
-use Rattle.x25_layer.specs.laws.TwoLayers.{End, TwoLayers, turned, run, start}
-use Rattle.x25_layer.specs.laws.Law.{Always}
+use Rattle.x25_layer.proofs.Names.{◌≡◌, ℕ, List, [], ◌∷◌, ◌++◌, Option, None, Bool, true, false, refl, sym, ap, subst, ◌∙◌, Role, Dte, Dce, PlainPacket, clear}
+use Rattle.x25_layer.proofs.Names.{Circuit, is_free, is_free_in, Side, Live, Left, has_left, At, OwnStep, Stretch, Phase, Unused, Talking, Connection}
+use Rattle.x25_layer.proofs.Names.{channel_takes, LayerPacket, On, Channels, Pair, pair_moves, pair_run, pair_start, layer_takes, Ranges, bare_layer}
+use Rattle.x25_handshakes.specs.laws.{Channel.{in_p1, channel_side_takes}, Layers.{Takes, layer_side_takes}, Stretch.{Clear}}
+use Rattle.x25_layer.proofs.{LayerLemmas.{true≢false}, LayerSees.{SeesLayer, ShowsAt}, Names.{bare_layers, End, TwoLayers, turned, run, start, Always}}
+use Rattle.x25_layer.proofs.{RunLemmas.{Premises, run_more, in_run}, Sees.{Agreed, state_in_transfer, state_in, state_at, view}}
+use Rattle.x25_layer.proofs.{TwoLayerLemmas.{Sees, second, sees_turned}, ViewLemmas.{some_none}}
 use Rattle.x25_layer.specs.laws.NameLaw.{IsNoClearInP1, FrontIsNoClearInP1, NoClearComesInP1}
-use Rattle.x25_layer.proofs.Sees.{Agreed, state_in_transfer, state_in, state_at, view}
-use Rattle.x25_layer.proofs.ViewLemmas.{some_none}
-use Rattle.x25_layer.proofs.LayerSees.{SeesLayer, ShowsAt}
-use Rattle.x25_layer.proofs.LayerLemmas.{true≢false}
-use Rattle.x25_layer.proofs.TwoLayerLemmas.{Sees, second, sees_turned}
-use Rattle.x25_layer.proofs.RunLemmas.{Premises, run_more, in_run}
 
 not_free_in_transfer : (y : Side Stretch) → is_free_in (state_in_transfer y) ≡ false
 not_free_in_transfer (Live x) = refl

@@ -1,32 +1,19 @@
 -- After every event the name of each stretch is what the user was told.
-use Rattle.std.proofs.Common.{◌≡◌, ℕ, List, [], ◌∷◌, ◌++◌, Option, Some, None, Bool, true, false, ◌==◌, if◌then◌else◌, refl, sym, ap, subst, ◌∙◌, append_assoc}
+use Rattle.x25_layer.proofs.Names.{◌≡◌, ℕ, List, [], ◌∷◌, ◌++◌, Option, Some, None, Bool, true, false, ◌==◌, if◌then◌else◌, refl, sym, ap, subst, ◌∙◌}
+use Rattle.x25_layer.proofs.Names.{append_assoc, eqb-true, Dte, Dce, PlainPacket, clear, restart, restart_conf, channel_of, Proposal, Circuit, PlainNotice}
+use Rattle.x25_layer.proofs.Names.{Answer, answers, Outcome, Done, Refused, Calls, outcome, pulled, Name, Ranges, LayerError, LayerSettings, Layer, LayerNotice}
+use Rattle.x25_layer.proofs.Names.{LayerAnswer, is_channel, notices_on, is_ready, drops, answers_in, layer_answers, LayerRequest, Asks, Dials, Restarts}
+use Rattle.x25_layer.proofs.Names.{PullsAll, LayerOutcome, Accepted, Declined, free_channel, puts_at_once, where_room, if_at_once, outcome_on, dialled}
+use Rattle.x25_layer.proofs.Names.{restarted_for, outcome_in, layer_outcome, layer_pulled, name_of, End, TwoLayers, Move, Requests, Pulls, HandsUp, GoesDown}
+use Rattle.x25_layer.proofs.Names.{requested, pulled_in, handed_up, moves_in, turned, settings_of, EndMove, happens, run, start, Always}
 use Rattle.std.proofs.Common.{append-nil}
-use Rattle.std.proofs.lemmas.Bool.{eqb-true}
-use Rattle.x25_bits.specs.declared.role.Role.TheVariants.{Dte, Dce}
-use Rattle.x25_packet.specs.Packet.{PlainPacket, clear, restart, restart_conf}
-use Rattle.x25_packet.specs.Spelling.{channel_of}
-use Rattle.x25_circuit.specs.Params.{Proposal}
-use Rattle.x25_circuit.specs.declared.error.CircuitError.TheVariants as circuit_error
 use Rattle.x25_circuit.specs.Cause.{may_restart_for}
-use Rattle.x25_circuit.specs.Circuit.{Circuit}
-use Rattle.x25_circuit.specs.Notice.{PlainNotice}
-use Rattle.x25_circuit.specs.Hearing.{Answer, answers}
-use Rattle.x25_circuit.specs.Calling.{Outcome, Done, Refused, Calls, outcome, pulled}
-use Rattle.x25_handshakes.specs.laws.Names.{Name}
-use Rattle.x25_layer.specs.declared.ranges.Ranges.{Ranges}
-use Rattle.x25_layer.specs.declared.error.LayerError.{LayerError}
-use Rattle.x25_layer.specs.declared.error.LayerError.TheVariants as error
-use Rattle.x25_layer.specs.Layer.{LayerSettings, Layer, LayerNotice, LayerAnswer, is_channel, notices_on, is_ready, answers_on, drops, restarting_from}
-use Rattle.x25_layer.specs.Layer.{answers_ready, answers_restarting, answers_in, layer_answers}
-use Rattle.x25_layer.specs.Calls.{LayerRequest, Asks, Dials, Restarts, PullsAll, LayerOutcome, Accepted, Declined, free_channel, puts_at_once, where_room}
-use Rattle.x25_layer.specs.Calls.{if_at_once, outcome_on, dialled, restarted_for, outcome_ready, outcome_in, layer_outcome, layer_pulled}
-use Rattle.x25_layer.specs.laws.Transcript.{name_of}
-use Rattle.x25_layer.specs.laws.TwoLayers.{End, TwoLayers, Move, Requests, Pulls, HandsUp, GoesDown, requested, pulled_in, handed_up, moves_in, turned}
-use Rattle.x25_layer.specs.laws.TwoLayers.{settings_of, EndMove, happens, run, start}
-use Rattle.x25_layer.specs.laws.Law.{Always}
-use Rattle.x25_layer.specs.laws.NameLaw.{first_name, named_by, named_after, counted, NamesAreCounted, IsNoClearInP1, FrontIsNoClearInP1, NoClearComesInP1}
 use Rattle.x25_layer.proofs.LayerLemmas.{true≢false}
 use Rattle.x25_layer.proofs.NameLemmas.{name_in, named_by_all, ClearsNotFree, circuit_counts, KeepsName, outcome_keeps, pulled_keeps}
+use Rattle.x25_layer.specs.{Calls.{outcome_ready}, Layer.{answers_on, restarting_from, answers_ready, answers_restarting}}
+use Rattle.x25_layer.specs.laws.NameLaw.{first_name, named_by, named_after, counted, NamesAreCounted, IsNoClearInP1, FrontIsNoClearInP1, NoClearComesInP1}
+use Rattle.x25_circuit.specs.declared.error.CircuitError.TheVariants as circuit_error
+use Rattle.x25_layer.specs.declared.error.LayerError.TheVariants as error
 
 -- ---- what is told on a channel
 

@@ -1,23 +1,14 @@
 -- Until a packet comes to an end, it gave its RESTART alone; and the first that comes in order is the other end's, which its user is told.
-use Rattle.std.proofs.Common.{◌≡◌, ℕ, List, [], ◌∷◌, ◌++◌, option_to_list, Bool, true, false, ◌==◌, if◌then◌else◌, refl, sym, ap, subst, ◌∙◌, append-nil}
-use Rattle.x25_bits.specs.declared.role.Role.{Role}
-use Rattle.x25_bits.specs.declared.role.Role.TheVariants.{Dte, Dce}
-use Rattle.x25_packet.specs.Packet.{PlainPacket, restart}
-use Rattle.x25_circuit.specs.declared.state.State.{State}
-use Rattle.x25_circuit.specs.declared.state.State.TheVariants.{Free}
-use Rattle.x25_circuit.specs.Circuit.{Circuit, is_free_in}
-use Rattle.x25_circuit.specs.Calling.{Pulled, pull_in, pulled, pulls_nothing}
-use Rattle.x25_handshakes.specs.laws.Histories.{IsPrefix}
-use Rattle.x25_layer.specs.declared.ranges.Ranges.{Ranges}
-use Rattle.x25_layer.specs.Layer.{LayerSettings, Layer, LayerNotice, restarted, is_channel, packet_on, answers_in, layer_answers, restart_cause, goes_up}
-use Rattle.x25_layer.specs.Calls.{LayerRequest, LayerOutcome, Accepted, Declined, outcome_in, layer_outcome, layer_pulled}
-use Rattle.x25_layer.specs.laws.Quiet.{AreQuiet, AreNoFaults}
-use Rattle.x25_layer.specs.laws.TwoLayers.{End, requested, pulled_in, moves_in, settings_of, started}
+use Rattle.x25_layer.proofs.Names.{◌≡◌, ℕ, List, [], ◌∷◌, ◌++◌, option_to_list, Bool, true, false, ◌==◌, if◌then◌else◌, refl, sym, ap, subst, ◌∙◌, Role, Dte}
+use Rattle.x25_layer.proofs.Names.{Dce, PlainPacket, restart, State, Free, Circuit, is_free_in, Pulled, pull_in, pulled, pulls_nothing, IsPrefix, Ranges}
+use Rattle.x25_layer.proofs.Names.{LayerSettings, Layer, LayerNotice, is_channel, packet_on, answers_in, layer_answers, LayerRequest, LayerOutcome, Accepted}
+use Rattle.x25_layer.proofs.Names.{Declined, outcome_in, layer_outcome, layer_pulled, AreQuiet, AreNoFaults, End, requested, pulled_in, moves_in, settings_of}
+use Rattle.std.proofs.Common.{append-nil}
+use Rattle.x25_layer.proofs.{ApartLemmas.{event}, LayerLemmas.{true≢false}}
+use Rattle.x25_layer.specs.Layer.{restarted, restart_cause, goes_up}
 use Rattle.x25_layer.specs.laws.Apart.{OwnMove, Requests, Pulls, Takes, GoesDown, as_move, coming, alone, own_moves, own_run, Ends, ApartEvent, apart_happens}
 use Rattle.x25_layer.specs.laws.Apart.{apart_run, apart_start, IsNext, IsInOrder, AreInOrder, as_world, AlwaysApart}
-use Rattle.x25_layer.specs.laws.ApartLaw.{BeginsRestarted, IsToldFirst, RestartsFirst, BeginsAlone}
-use Rattle.x25_layer.proofs.LayerLemmas.{true≢false}
-use Rattle.x25_layer.proofs.ApartLemmas.{event}
+use Rattle.x25_layer.specs.laws.{ApartLaw.{BeginsRestarted, IsToldFirst, RestartsFirst, BeginsAlone}, TwoLayers.{started}}
 
 -- ---- no packet came
 

@@ -1,23 +1,14 @@
 -- A layer's circuits, one by one.
-use Rattle.std.proofs.Common.{◌≡◌, ◌⊎◌, inl, inr, ℕ, zero, suc, ◌+◌, ◌-◌, ◌^◌, ◌<◌, ◌≤◌, List, [], ◌∷◌, ◌++◌, length, Option, Some, None, Bool, true, false}
-use Rattle.std.proofs.Common.{slice_get, set, take, if◌then◌else◌, refl, sym, ap, subst, ◌∙◌, arith, IfSome, IfNone, MatchOption, Bor, Result, Ok, Err, OnErr}
-use Rattle.std.proofs.Common.{drop, get_or, not, ◌&&◌, ◌||◌, ◌==◌, eq-eqb}
-use Rattle.std.proofs.lemmas.Option.{none-some, same_Some, slice_get_within, slice_get-get_or}
-use Rattle.std.proofs.lemmas.List.{append-nil, take_all}
-use Rattle.std.proofs.lemmas.Bool.{eqb-true}
+use Rattle.x25_layer.proofs.Names.{◌≡◌, ◌⊎◌, inl, inr, ℕ, zero, suc, ◌+◌, ◌-◌, ◌<◌, ◌≤◌, List, [], ◌∷◌, ◌++◌, length, Option, Some, None, Bool, true, false}
+use Rattle.x25_layer.proofs.Names.{slice_get, set, if◌then◌else◌, refl, sym, ap, subst, ◌∙◌, arith, Result, Ok, Err, get_or, not, ◌&&◌, ◌||◌, ◌==◌, eq-eqb}
+use Rattle.x25_layer.proofs.Names.{none-some, same_Some, eqb-true, Circuit, is_open, waits, FitsCircuit, is_number, LayerSettings, Layer, is_channel, Name}
+use Rattle.std.proofs.{Common.{◌^◌, take, IfSome, IfNone, MatchOption, Bor, OnErr, drop}, lemmas.List.{append-nil, take_all}}
+use Rattle.std.proofs.lemmas.Option.{slice_get_within, slice_get-get_or}
+use Rattle.x25_circuit.specs.{Awaits.{awaited_in, is_any}, code.FitsCircuit.{clears_of, resets_of}, declared.awaits.Awaits.TheVariants.{Nothing}}
+use Rattle.x25_layer.{proofs.Names.{name_of, FitsCircuits, FitsLayer}, proofs.SettleLemmas.{not_same}, specs.code.Counts.{HasCountsLeft, HaveCountsLeft}}
+use Rattle.x25_layer.specs.code.FitsLayer.{name_at, params_at, is_open_at, awaited_at, awaited_up_to, waits_up_to, is_most, full_up_to}
 use Rattle.x25_circuit.specs.declared.circuit.Circuit as circuit_code
-use Rattle.x25_circuit.specs.Circuit.{Circuit, is_open, waits}
-use Rattle.x25_circuit.specs.code.FitsCircuit.{FitsCircuit, clears_of, resets_of}
-use Rattle.x25_layer.specs.Ranges.{is_number}
-use Rattle.x25_layer.specs.code.Counts.{HasCountsLeft, HaveCountsLeft}
 use Rattle.x25_layer.specs.declared.layer.Layer as code
-use Rattle.x25_layer.specs.Layer.{LayerSettings, Layer, is_channel}
-use Rattle.x25_handshakes.specs.laws.Names.{Name}
-use Rattle.x25_layer.specs.laws.Transcript.{name_of}
-use Rattle.x25_layer.specs.code.FitsLayer.{FitsCircuits, FitsLayer, name_at, params_at, is_open_at, awaited_at, awaited_up_to, waits_up_to, is_most, full_up_to}
-use Rattle.x25_circuit.specs.Awaits.{awaited_in, is_any}
-use Rattle.x25_circuit.specs.declared.awaits.Awaits.TheVariants.{Nothing}
-use Rattle.x25_layer.proofs.SettleLemmas.{not_same}
 
 not_false : true ≡ false → ⊥
 not_false e = cc

@@ -1,17 +1,9 @@
 -- The lowest and the highest free channel, one channel at a time.
-use Rattle.std.proofs.Common.{◌≡◌, ◌⊎◌, inl, inr, ℕ, zero, suc, ◌+◌, ◌-◌, ◌<◌, ◌≤◌, List, length, Option, Some, None, Bool, true, false, if◌then◌else◌, get_or}
-use Rattle.std.proofs.Common.{sym, ap, ◌∙◌, arith}
-use Rattle.x25_bits.specs.declared.role.Role.{Role}
-use Rattle.x25_circuit.specs.declared.circuit.Circuit as circuit_code
-use Rattle.x25_circuit.specs.Circuit.{CircuitSettings, Circuit, is_free}
-use Rattle.x25_circuit.specs.code.FitsCircuit.{FitsCircuit}
-use Rattle.x25_layer.specs.Layer.{LayerSettings}
-use Rattle.x25_layer.specs.declared.ranges.Ranges.{Ranges}
-use Rattle.x25_layer.specs.Ranges.{may_call}
-use Rattle.x25_layer.specs.Calls.{first_of, lowest_free, highest_free, first_free, where_callable}
-use Rattle.x25_layer.specs.code.FitsLayer.{FitsCircuits}
+use Rattle.x25_layer.proofs.Names.{◌≡◌, ◌⊎◌, inl, inr, ℕ, zero, suc, ◌+◌, ◌-◌, ◌<◌, ◌≤◌, List, length, Option, Some, None, Bool, true, false, if◌then◌else◌}
+use Rattle.x25_layer.proofs.Names.{get_or, sym, ap, ◌∙◌, arith, Role, CircuitSettings, Circuit, is_free, FitsCircuit, LayerSettings, Ranges, FitsCircuits}
 use Rattle.x25_layer.proofs.FitLemmas.{read_at}
-use Rattle.x25_layer.proofs.SettleLemmas.{split}
+use Rattle.x25_layer.{proofs.SettleLemmas.{split}, specs.Calls.{first_of, lowest_free, highest_free, first_free, where_callable}, specs.Ranges.{may_call}}
+use Rattle.x25_circuit.specs.declared.circuit.Circuit as circuit_code
 
 -- whether the circuit at a place is free
 pub freed : (c : LayerSettings) (vs : List circuit_code.Circuit) (f : ℕ → Circuit) (i : ℕ) (v : circuit_code.Circuit) (b : Bool) → FitsCircuits c vs f

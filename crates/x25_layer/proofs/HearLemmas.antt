@@ -1,26 +1,18 @@
 -- What octets are read as, and the channel that they name.
-use Rattle.std.proofs.Common.{◌≡◌, ℕ, suc, ◌-◌, ◌<◌, ◌∙◌, All, List, [], ◌∷◌, length, Option, Some, None, Bool, true, false, Result, Ok, Err, if◌then◌else◌}
-use Rattle.std.proofs.Common.{IfOk, slice_get, get_or, refl, sym, ap, subst, arith}
-use Rattle.std.proofs.lemmas.Option.{same_Some}
-use Rattle.x25_packet.specs.declared.packet.Packet.{Packet}
-use Rattle.x25_packet.specs.declared.error.PacketError.{PacketError}
-use Rattle.x25_packet.specs.Packet.{PlainPacket, plain, call, accept, clear, clear_conf, user_data, rr, rnr, interrupt, interrupt_conf, reset, reset_conf}
-use Rattle.x25_packet.specs.Packet.{restart, restart_conf}
-use Rattle.x25_packet.specs.Reading.{channel_in}
-use Rattle.x25_packet.specs.Spelling.{HasChannel, channel_of}
-use Rattle.x25_packet.specs.Grammar.{Gives, read_of}
-use Rattle.x25_packet.specs.Taking.{read_in}
-use Rattle.x25_packet.specs.laws.TakingLaw.{TakesOnItsChannel}
-use Rattle.x25_layer.specs.Ranges.{is_number}
-use Rattle.x25_layer.specs.Layer.{LayerSettings, Layer, LayerAnswer, answers_in, undecoded_in, is_channel, put_at, drops}
-use Rattle.x25_layer.specs.Asking.{with_circuit}
-use Rattle.x25_layer.specs.Receiving.{plain_read, circuit_hears, channel_hears, hears_on, answer_to, undecoded_at}
+use Rattle.x25_layer.proofs.Names.{◌≡◌, ℕ, suc, ◌-◌, ◌<◌, ◌≤◌, ◌∙◌, List, [], ◌∷◌, length, Option, Some, None, Bool, true, false, Result, Ok, Err}
+use Rattle.x25_layer.proofs.Names.{if◌then◌else◌, set, not, ◌&&◌, slice_get, get_or, refl, sym, ap, subst, arith, same_Some, PlainPacket, call, accept, clear}
+use Rattle.x25_layer.proofs.Names.{clear_conf, user_data, rr, rnr, interrupt, interrupt_conf, reset, reset_conf, restart, restart_conf, HasChannel, channel_of}
+use Rattle.x25_layer.proofs.Names.{is_number, LayerSettings, Layer, LayerAnswer, LayerNotice, notices_on, packet_on, answers_in, is_channel, put_at, drops}
+use Rattle.std.proofs.Common.{All, IfOk, is_some}
+use Rattle.x25_circuit.specs.{Hearing.{hears as circuit_hears}, code.Replies.{RepliesWith, Says, plain_owed, plain_read, notices_of, tells_message}}
+use Rattle.x25_circuit.specs.declared.notice.{Notice.{Notice}, Reply.{Reply}}
+use Rattle.x25_layer.proofs.{CallLemmas.{IsLike, configured, found_at, layer_put}, FitLemmas.{read_at}, Names.{FitsLayer}}
+use Rattle.x25_layer.specs.{Asking.{with_circuit}, Layer.{undecoded_in}, Receiving.{channel_hears, hears_on, answer_to, undecoded_at}}
+use Rattle.x25_layer.specs.{Report.{plain_report, has_message, is_of_channel}, code.Answering.{Hears, spelled}, declared.report.Report.{Report}}
+use Rattle.x25_packet.specs.{Grammar.{Gives, read_of}, Packet.{plain}, Reading.{channel_in}, Taking.{read_in}, declared.error.PacketError.{PacketError}}
+use Rattle.x25_packet.specs.{declared.packet.Packet.{Packet}, laws.TakingLaw.{TakesOnItsChannel}}
 use Rattle.x25_layer.specs.declared.layer.Layer as code
-use Rattle.x25_layer.specs.declared.report.Report.{Report}
-use Rattle.x25_layer.specs.code.FitsLayer.{FitsLayer}
-use Rattle.x25_layer.specs.code.Answering.{Hears, spelled}
-use Rattle.x25_layer.proofs.FitLemmas.{read_at}
-use Rattle.x25_layer.proofs.CallLemmas.{configured}
+use Rattle.x25_layer.specs.declared.report.Report.TheVariants as report
 use Rattle.x25_circuit.specs.declared.circuit.Circuit as circuit_code
 
 -- ---- what was read, by the laws of reading
@@ -80,17 +72,48 @@ hears_read law wide most c l octets h (Err e) bytes exact has at =
     ap (λ (r : Result PlainPacket PacketError). answer_to c l octets r) exact ∙ hears_error c l octets h e at
 
 -- what was heard, by a layer that stands for the same and by the same answer
-pub heard_from : (old mid new : code.Layer) (told : Report) (left : ℕ) (f h : LayerSettings → Layer → LayerAnswer)
+pub heard_from : (old mid new : code.Layer) (told : Report) (before after : List ℕ) (f h : LayerSettings → Layer → LayerAnswer)
     → ((c : LayerSettings) (l : Layer) → FitsLayer c old l → FitsLayer c mid l)
-    → ((c : LayerSettings) (l : Layer) → FitsLayer c old l → f c l ≡ h c l) → Hears mid new told left f → Hears old new told left h
-heard_from old mid new told left f h still same by = record {
+    → ((c : LayerSettings) (l : Layer) → FitsLayer c old l → f c l ≡ h c l) → Hears mid new told before after f → Hears old new told before after h
+heard_from old mid new told before after f h still same by = record {
   layer = λ c l fits. subst (λ (a : LayerAnswer). FitsLayer c new a.next) (same c l fits) (by.layer c l (still c l fits));
   put = λ c l fits. by.put c l (still c l fits) ∙ ap (λ (a : LayerAnswer). spelled a.owed) (same c l fits);
   told = λ c l fits. by.told c l (still c l fits) ∙ ap (λ (a : LayerAnswer). a.notices) (same c l fits);
   nothing = by.nothing;
   short = by.short;
-  spare = by.spare;
+  kept = by.kept;
 }
+
+-- a circuit that tells nothing
+pub told_nothing : (message : List ℕ) (h : ℕ) (none b : Bool) (o : Option Notice) → is_some o ≡ not none → (none && not b) ≡ true
+    → [] ≡ notices_on h (notices_of message b o)
+told_nothing message h true false None has is = refl
+told_nothing message h true false (Some notice) has is = absurd (cc)
+told_nothing message h true true o has is = absurd (cc)
+told_nothing message h false b o has is = absurd (cc)
+
+pub no_message : (none b : Bool) (o : Option Notice) → is_some o ≡ not none → (none && not b) ≡ true → tells_message o ≡ false
+no_message true b None has is = refl
+no_message true b (Some notice) has is = absurd (cc)
+no_message false b o has is = absurd (cc)
+
+-- and one that tells something
+pub told_something : (h : ℕ) (none b : Bool) (o : Option Notice) → is_some o ≡ not none → (none && not b) ≡ false
+    → notices_on h (notices_of [] b o) ≡ [] → ⊥
+told_something h none true None has is empty = cc
+told_something h none true (Some notice) has is empty = cc
+told_something h none false (Some notice) has is empty = cc
+told_something h true false None has is empty = cc
+told_something h false false None has is empty = cc
+
+-- a report of no channel is the same beside any message
+pub reported_beside : (message : List ℕ) (t : Report) (told : List LayerNotice) → is_of_channel t ≡ false → plain_report [] t ≡ told
+    → plain_report message t ≡ told
+reported_beside message report.Nothing told of same = same
+reported_beside message (report.Channel channel collided notice) told of same = absurd (cc)
+reported_beside message (report.Restarted cause diagnostic) told of same = same
+reported_beside message report.RestartDone told of same = same
+reported_beside message (report.Fault diagnostic) told of same = same
 
 -- a layer fits what is equal
 pub fits_as : (c : LayerSettings) (v : code.Layer) (l m : Layer) → l ≡ m → FitsLayer c v l → FitsLayer c v m
@@ -131,3 +154,34 @@ pub next_there : (c : LayerSettings) (l : Layer) (h : ℕ) (read : Result PlainP
 next_there c l h read ready is =
     ap (λ (b : Bool). record { restarting = b; restarts = l.restarts; circuits = put_at l.circuits h (circuit_hears c.circuit (l.circuits h) read).next }) ready
     ∙ ap (λ (a : LayerAnswer). a.next) (sym (hears_there c l h read ready is))
+
+-- what the circuit of a channel did is what the layer hears there
+pub heard_there : (old new : code.Layer) (h place : ℕ) (v w : circuit_code.Circuit) (read : Result PlainPacket PacketError) (reply : Reply) (t : Report)
+    (before after : List ℕ) → is_number (length old.circuits.items) h ≡ true → place ≡ h → v ≡ get_or old.circuits.items (place - 1) v
+    → old.restarting ≡ false → IsLike old new → new.circuits.items ≡ set old.circuits.items (place - 1) w
+    → RepliesWith v w reply before after (λ c x. circuit_hears c x read) → new.sheet ≡ spelled (packet_on h (plain_owed reply.packet))
+    → plain_report after t ≡ notices_on h (notices_of after reply.collided reply.notice) → (plain_report [] t ≡ [] → t ≡ report.Nothing)
+    → length new.sheet ≤ 260 → (has_message t ≡ false → tells_message reply.notice ≡ false)
+    → Hears old new t before after (λ c l. hears_on c l l.restarting h read)
+heard_there old new h place v w read reply t before after within at is idle like items by put told nothing short kept = record {
+  layer = λ c l fits.
+      let here = found_at c old l h place v fits within at is in
+      fits_as c _ _ _ (next_there c l h read (sym fits.restarting ∙ idle) (number c l fits))
+      (layer_put c old new l h (place - 1) w (circuit_hears c.circuit (l.circuits h) read).next fits here.0 like items (by.next c.circuit (l.circuits h) here.1));
+  put = λ c l fits.
+      put ∙ ap (λ (o : Option PlainPacket). spelled (packet_on h o)) (says c l fits).owed ∙ ap (λ (a : LayerAnswer). spelled a.owed) (there c l fits);
+  told = λ c l fits. told ∙ ap (notices_on h) (says c l fits).notices ∙ ap (λ (a : LayerAnswer). a.notices) (there c l fits);
+  nothing = nothing;
+  short = short;
+  kept = λ none. by.kept (kept none);
+}
+  where
+    number : (c : LayerSettings) (l : Layer) → FitsLayer c old l → is_channel c.channels h ≡ true
+    number c l fits = subst (λ (n : ℕ). is_number n h ≡ true) fits.channels within
+
+    there : (c : LayerSettings) (l : Layer) → FitsLayer c old l → channel_hears c l h read ≡ hears_on c l l.restarting h read
+    there c l fits = sym (hears_there c l h read (sym fits.restarting ∙ idle) (number c l fits))
+
+    says : (c : LayerSettings) (l : Layer) → FitsLayer c old l
+        → Says after reply (circuit_hears c.circuit (l.circuits h) read).owed (circuit_hears c.circuit (l.circuits h) read).notices
+    says c l fits = by.says c.circuit (l.circuits h) (found_at c old l h place v fits within at is).1

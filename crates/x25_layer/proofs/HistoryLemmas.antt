@@ -1,18 +1,11 @@
 -- The transcript of an end is its history, of each kind: of calls, messages and interrupts.
-use Rattle.std.proofs.Common.{◌≡◌, ◌⊎◌, inl, inr, ℕ, List, [], ◌∷◌, ◌++◌, Bool, true, false, ◌==◌, if◌then◌else◌, refl, sym, ap, ◌∙◌, append_assoc}
-use Rattle.std.proofs.lemmas.Bool.{eqb-true}
-use Rattle.x25_circuit.specs.Notice.{CallRequest}
-use Rattle.x25_handshakes.specs.laws.Handshake.{Live, At, state_of}
-use Rattle.x25_handshakes.specs.laws.Stretch.{Stretch}
-use Rattle.x25_handshakes.specs.laws.Calls.{Phase, Unused, Talking, Connection}
-use Rattle.x25_handshakes.specs.laws.Layers.{Channels}
-use Rattle.x25_handshakes.specs.laws.Names.{Name, both, same_name, IsEarlier}
-use Rattle.x25_handshakes.specs.laws.Histories.{Lists, none, Kind, held_in, of_stretch, messages, interrupts, calls, circuit_at, name_at, held_at, written}
-use Rattle.x25_layer.specs.laws.Transcript.{Handed, nothing_handed, added, Entry, says, under, calls_in, messages_in, interrupts_in}
-use Rattle.x25_layer.proofs.Sees.{held_phase, held_of, Adds, AfterReset, AfterClear}
-use Rattle.x25_layer.proofs.NoteLemmas.{append_nil}
-use Rattle.x25_layer.proofs.LayerSees.{present, TurnOf, Here, Afresh, StepOf}
-use Rattle.x25_layer.proofs.StepLemmas.{name_eq}
+use Rattle.x25_layer.proofs.Names.{◌≡◌, ◌⊎◌, inl, inr, ℕ, List, [], ◌∷◌, ◌++◌, Bool, true, false, ◌==◌, if◌then◌else◌, refl, sym, ap, ◌∙◌, append_assoc}
+use Rattle.x25_layer.proofs.Names.{eqb-true, CallRequest, Live, At, state_of, Stretch, Phase, Unused, Talking, Connection, Channels, Name, both, same_name}
+use Rattle.x25_layer.proofs.Names.{IsEarlier, Lists, none, Kind, held_in, messages, interrupts, calls, circuit_at, name_at, held_at, Handed, nothing_handed}
+use Rattle.x25_handshakes.specs.laws.Histories.{of_stretch, written}
+use Rattle.x25_layer.proofs.{LayerSees.{present, TurnOf, Here, Afresh, StepOf}, Names.{added, Entry, under, calls_in, messages_in, interrupts_in}}
+use Rattle.x25_layer.proofs.{NoteLemmas.{append_nil}, Sees.{held_phase, held_of, Adds, AfterReset, AfterClear}, StepLemmas.{name_eq}}
+use Rattle.x25_layer.specs.laws.Transcript.{says}
 
 abbrev pub joined : {M : Type 0} → Lists M → Lists M → Lists M
 joined a b = record { down = a.down ++ b.down; up = a.up ++ b.up }

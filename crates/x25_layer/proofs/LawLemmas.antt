@@ -1,17 +1,9 @@
 -- What holds of two layers after every event, from what is known of the nested handshakes.
-use Rattle.std.proofs.Common.{◌≡◌, Bool, ℕ, sym, ap, subst, ◌∙◌}
-use Rattle.x25_handshakes.specs.laws.Handshake.{state_of}
-use Rattle.x25_handshakes.specs.laws.Layers.{Pair, pair_run, pair_start}
-use Rattle.x25_handshakes.specs.laws.Names.{Name}
-use Rattle.x25_handshakes.specs.laws.Histories.{Lists, Kind, messages, interrupts, calls, name_at, held_at, IsPrefix, IsLawful, channel_view, Histories}
-use Rattle.x25_handshakes.specs.laws.Histories.{histories_run, histories_start}
-use Rattle.x25_layer.specs.declared.ranges.Ranges.{Ranges}
-use Rattle.x25_layer.specs.laws.Bare.{bare_layers}
-use Rattle.x25_layer.specs.laws.Transcript.{Handed, under, calls_in, messages_in, interrupts_in}
-use Rattle.x25_layer.specs.laws.TwoLayers.{TwoLayers, run, start}
-use Rattle.x25_layer.specs.laws.Law.{Always, IsQuietWorld, IsLawfulWorld, ArrivesAll, KeepsOrder}
-use Rattle.x25_layer.proofs.RunLemmas.{Premises, histories_pair, AreHistories, InRun, in_run}
-use Rattle.x25_layer.proofs.ArrivalLemmas.{none_in_flight, AtPresent, has_all}
+use Rattle.x25_layer.proofs.Names.{◌≡◌, Bool, ℕ, sym, ap, subst, ◌∙◌, state_of, Pair, pair_run, pair_start, Name, Lists, Kind, messages, interrupts, calls}
+use Rattle.x25_layer.proofs.Names.{name_at, held_at, IsPrefix, Histories, histories_run, histories_start, Ranges, bare_layers, Handed, under, calls_in}
+use Rattle.x25_handshakes.specs.laws.Histories.{IsLawful, channel_view}
+use Rattle.x25_layer.proofs.{ArrivalLemmas.{none_in_flight, AtPresent, has_all}, Names.{messages_in, interrupts_in, TwoLayers, run, start, Always, KeepsOrder}}
+use Rattle.x25_layer.{proofs.RunLemmas.{Premises, histories_pair, AreHistories, InRun, in_run}, specs.laws.Law.{IsQuietWorld, IsLawfulWorld, ArrivesAll}}
 
 pub always_in_order : Premises → (long_data : Bool) (channels : Ranges) → Always KeepsOrder long_data channels
 always_in_order p long_data channels es = (in_run p long_data channels es).sees.order

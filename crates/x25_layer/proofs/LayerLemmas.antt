@@ -1,47 +1,28 @@
 -- Each answer of a layer, each accepted call and each pull is a step of the nested handshakes, where that is no error of procedure.
-use Rattle.std.proofs.Common.{◌≡◌, ℕ, zero, suc, ◌≤◌, List, [], ◌∷◌, Option, Some, None, Bool, true, false, ◌==◌, ◌&&◌, ◌||◌, not, if◌then◌else◌}
-use Rattle.std.proofs.Common.{option_to_list, refl, sym, ap, subst, ◌∙◌, arith}
-use Rattle.std.proofs.lemmas.Option.{same_Some}
-use Rattle.std.proofs.lemmas.Bool.{eqb-true, le-leb}
-use Rattle.x25_bits.specs.declared.role.Role.{Role}
-use Rattle.x25_bits.specs.declared.role.Role.TheVariants.{Dte, Dce}
-use Rattle.x25_packet.specs.Packet.{PlainPacket, call, accept, clear, reset, restart, restart_conf}
-use Rattle.x25_packet.specs.Spelling.{channel_of, HasChannel, moved_to}
-use Rattle.x25_circuit.specs.Params.{Proposal}
+use Rattle.x25_layer.proofs.Names.{◌≡◌, ℕ, zero, suc, ◌≤◌, List, [], ◌∷◌, Option, Some, None, Bool, true, false, ◌==◌, ◌&&◌, ◌||◌, not, if◌then◌else◌}
+use Rattle.x25_layer.proofs.Names.{option_to_list, refl, sym, ap, subst, ◌∙◌, arith, same_Some, eqb-true, Role, Dte, Dce, PlainPacket, call, accept, clear}
+use Rattle.x25_layer.proofs.Names.{reset, restart, restart_conf, channel_of, HasChannel, Proposal, Circuit, forgotten, is_free, PlainNotice, Answer, answers}
+use Rattle.x25_layer.proofs.Names.{Outcome, Done, Refused, Request, Calls, Accepts, outcome, Pulled, pulled, Side, Live, Left, has_left, At, OwnStep, live}
+use Rattle.x25_layer.proofs.Names.{left, Connection, channel_takes, channel_acts, LayerPacket, On, Channels, all_fresh, layer_takes, layer_acts, OnChannel}
+use Rattle.x25_layer.proofs.Names.{both, same_name, is_number, Ranges, LayerSettings, Layer, LayerAnswer, is_channel, put_at, packet_on, notices_on, is_ready}
+use Rattle.x25_layer.proofs.Names.{drops, answers_in, layer_answers, LayerRequest, Asks, Dials, Restarts, PullsAll, LayerOutcome, Accepted, Declined}
+use Rattle.x25_layer.proofs.Names.{free_channel, puts_at_once, where_room, if_at_once, outcome_on, dialled, restarted_for, outcome_in, layer_outcome}
+use Rattle.x25_layer.proofs.Names.{LayerPulled, layer_pulled, found, layer_found, bare, bare_layer, bare_layers, AreQuiet, AreNoFaults, Handed, nothing_handed}
+use Rattle.x25_layer.proofs.Names.{added, told_by_all, Entry, name_of, entries_asked, entries_told, Packet}
+use Rattle.std.proofs.lemmas.Bool.{le-leb}
+use Rattle.x25_circuit.specs.{Cause.{is_fault_of_restart, is_of_end}, Circuit.{begun}}
+use Rattle.x25_handshakes.specs.laws.{Channel.{fresh_channel}, Layers.{Restart, put, addressed, on_channel, layer_side_takes, layer_side_acts}}
+use Rattle.x25_layer.proofs.LayerSees.{ShowsAt, SeesLayer, StepOf, FollowsLayer, DoesLayer, dial_act, layer_act, DoesItself, HeedsLayer}
+use Rattle.x25_layer.proofs.{NoteLemmas.{still, notes_taken, notes_asked, notes_pulled}, Sees.{NotesOutcome}}
+use Rattle.x25_layer.proofs.Sees.{unagreed, view, Shows, ParamsLaws, bare_if, IsQuietIf, TellNoFault, Follows, Does, Heeds, act_of, pull_act, Notes}
+use Rattle.x25_layer.proofs.{StepLemmas.{quiet_step, restart_step, step_on, under_one, told_under}, ViewLemmas.{some_none, follows, heeds, pulls_as}}
+use Rattle.x25_layer.specs.Calls.{first_of, lowest_free, highest_free, first_free, where_callable, outcome_ready}
+use Rattle.x25_layer.specs.{Layer.{answers_on, answers_ready, answers_restarting}, Ranges.{may_call}, laws.PeerJoined.{IsConfigured}}
+use Rattle.x25_layer.specs.laws.{Quiet.{IsQuiet, IsQuietAt}, Transcript.{asked_by, Asked}, TwoLayers.{shown, entry_of_request, entry_of_dial}}
+use Rattle.x25_packet.specs.Spelling.{moved_to}
 use Rattle.x25_circuit.specs.declared.error.CircuitError.TheVariants as circuit_error
-use Rattle.x25_circuit.specs.Cause.{is_fault_of_restart, is_of_end}
-use Rattle.x25_circuit.specs.Circuit.{Circuit, begun, forgotten, is_free}
-use Rattle.x25_circuit.specs.Notice.{PlainNotice}
-use Rattle.x25_circuit.specs.Hearing.{Answer, answers}
-use Rattle.x25_circuit.specs.Calling.{Outcome, Done, Refused, Request, Calls, Accepts, outcome, Pulled, pulled}
-use Rattle.x25_handshakes.specs.laws.Handshake.{Side, Live, Left, has_left, At, OwnStep, live, left}
-use Rattle.x25_handshakes.specs.laws.Calls.{Connection}
-use Rattle.x25_handshakes.specs.laws.Channel.{channel_takes, channel_acts, fresh_channel}
-use Rattle.x25_handshakes.specs.laws.Layers.{LayerPacket, On, Restart, Channels, put, addressed, on_channel, all_fresh, layer_takes, layer_side_takes}
-use Rattle.x25_handshakes.specs.laws.Layers.{layer_acts, layer_side_acts, OnChannel}
-use Rattle.x25_handshakes.specs.laws.Names.{both, same_name}
-use Rattle.x25_layer.specs.Ranges.{is_number, may_call}
-use Rattle.x25_layer.specs.declared.ranges.Ranges.{Ranges}
-use Rattle.x25_layer.specs.Layer.{LayerSettings, Layer, LayerAnswer, is_channel, put_at, packet_on, notices_on, is_ready, answers_on, drops, answers_ready}
-use Rattle.x25_layer.specs.Layer.{answers_restarting, answers_in, layer_answers}
 use Rattle.x25_layer.specs.declared.error.LayerError.TheVariants as layer_error
 use Rattle.x25_layer.specs.Layer as flat
-use Rattle.x25_layer.specs.Calls.{LayerRequest, Asks, Dials, Restarts, PullsAll, LayerOutcome, Accepted, Declined, first_of, lowest_free, highest_free}
-use Rattle.x25_layer.specs.Calls.{first_free, where_callable, free_channel, puts_at_once, where_room, if_at_once, outcome_on, dialled, restarted_for}
-use Rattle.x25_layer.specs.Calls.{outcome_ready, outcome_in, layer_outcome, LayerPulled, layer_pulled}
-use Rattle.x25_handshakes.specs.laws.PeerLayers.{found, layer_found}
-use Rattle.x25_layer.specs.laws.PeerJoined.{IsConfigured}
-use Rattle.x25_layer.specs.laws.Bare.{bare, bare_layer, bare_layers}
-use Rattle.x25_layer.specs.laws.Quiet.{IsQuiet, IsQuietAt, AreQuiet, AreNoFaults}
-use Rattle.x25_layer.specs.laws.Transcript.{Handed, nothing_handed, added, told_by_all, asked_by, Entry, Asked, name_of}
-use Rattle.x25_layer.specs.laws.TwoLayers.{shown, entries_asked, entry_of_request, entry_of_dial, entries_told}
-use Rattle.x25_layer.proofs.Sees.{unagreed, view, Shows, ParamsLaws, bare_if, IsQuietIf, TellNoFault, Follows, Does, Heeds, act_of, pull_act, Notes}
-use Rattle.x25_layer.proofs.Sees.{NotesOutcome}
-use Rattle.x25_layer.proofs.ViewLemmas.{some_none, follows, heeds, pulls_as}
-use Rattle.x25_layer.proofs.NoteLemmas.{still, notes_taken, notes_asked, notes_pulled}
-use Rattle.x25_layer.proofs.LayerSees.{ShowsAt, SeesLayer, StepOf, FollowsLayer, DoesLayer, dial_act, layer_act, DoesItself, HeedsLayer}
-use Rattle.x25_layer.proofs.StepLemmas.{quiet_step, restart_step, step_on, under_one, told_under}
-use Rattle.x25_handshakes.specs.laws.Stretch.{Packet}
 
 pub true≢false : true ≡ false → ⊥
 true≢false e = subst (λ (b : Bool). elim b as (λ _. Type 0) [ true ↦ Unit {0} | false ↦ ⊥ ]) e tt

@@ -1,22 +1,9 @@
 -- What a layer is of the nested handshakes, and what a step does to the names and lists of its channels.
-use Rattle.std.proofs.Common.{◌≡◌, ℕ, ◌<◌, List, Option, None, Some, if◌then◌else◌, option_to_list}
-use Rattle.x25_packet.specs.Packet.{PlainPacket}
-use Rattle.x25_circuit.specs.Params.{Proposal}
-use Rattle.x25_circuit.specs.Circuit.{Circuit, forgotten}
-use Rattle.x25_circuit.specs.Calling.{request_of}
-use Rattle.x25_handshakes.specs.laws.Handshake.{Side, Live, Left, has_left, At, OwnStep}
-use Rattle.x25_handshakes.specs.laws.Calls.{PlacesCall}
-use Rattle.x25_handshakes.specs.laws.Channel.{Within}
-use Rattle.x25_handshakes.specs.laws.Layers.{Channels, LayerAct, OnChannel, SendsRestart, LayerPacket}
-use Rattle.x25_handshakes.specs.laws.Names.{Name, same_name}
-use Rattle.x25_handshakes.specs.laws.Histories.{circuit_at}
-use Rattle.x25_layer.specs.declared.ranges.Ranges.{Ranges}
-use Rattle.x25_layer.specs.Layer.{LayerSettings, Layer, LayerAnswer}
-use Rattle.x25_layer.specs.Calls.{LayerRequest, Asks, Dials, Restarts, PullsAll, LayerOutcome, Accepted, Declined, free_channel}
-use Rattle.x25_layer.specs.laws.Bare.{bare_layers}
-use Rattle.x25_layer.specs.laws.Quiet.{AreQuiet, AreNoFaults}
-use Rattle.x25_layer.specs.laws.Transcript.{Handed, nothing_handed, Entry, under}
-use Rattle.x25_layer.specs.laws.TwoLayers.{entries_told, entries_asked}
+use Rattle.x25_layer.proofs.Names.{◌≡◌, ℕ, ◌<◌, List, Option, None, Some, if◌then◌else◌, option_to_list, PlainPacket, Proposal, Circuit, forgotten, request_of}
+use Rattle.x25_layer.proofs.Names.{Side, Live, Left, has_left, At, OwnStep, Channels, OnChannel, LayerPacket, Name, same_name, circuit_at, Ranges}
+use Rattle.x25_layer.proofs.Names.{LayerSettings, Layer, LayerAnswer, LayerRequest, Asks, Dials, Restarts, PullsAll, LayerOutcome, Accepted, Declined}
+use Rattle.x25_layer.proofs.Names.{free_channel, bare_layers, AreQuiet, AreNoFaults, Handed, nothing_handed, Entry, under, entries_told, entries_asked}
+use Rattle.x25_handshakes.specs.laws.{Calls.{PlacesCall}, Channel.{Within}, Layers.{LayerAct, SendsRestart}}
 use Rattle.x25_layer.proofs.Sees.{unagreed, view, Shows, held_of, resets_of, Notes, act_of}
 
 -- of a channel in a layer that restarts nothing but its counts is kept

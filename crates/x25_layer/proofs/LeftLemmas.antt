@@ -1,16 +1,11 @@
 -- Where the link has room behind the rounds, a pull of any channel gives nothing.
-use Rattle.std.proofs.Common.{◌≡◌, ◌⊎◌, inl, inr, ℕ, zero, suc, ◌<◌, ◌≤◌, [], ◌∷◌, ◌++◌, length, Option, Some, None, Bool, true, false, nat_le, ◌==◌}
-use Rattle.std.proofs.Common.{if◌then◌else◌, refl, sym, ap, subst, ◌∙◌, arith}
-use Rattle.std.proofs.lemmas.Bool.{lt-ltb, leb-true, and_parts}
-use Rattle.std.proofs.lemmas.List.{length_push}
-use Rattle.x25_packet.specs.Packet.{PlainPacket}
-use Rattle.x25_layer.specs.declared.error.LayerError.{LayerError}
+use Rattle.x25_layer.proofs.Names.{◌≡◌, ◌⊎◌, inl, inr, ℕ, zero, suc, ◌<◌, ◌≤◌, [], ◌∷◌, ◌++◌, length, Option, Some, None, Bool, true, false, nat_le, ◌==◌}
+use Rattle.x25_layer.proofs.Names.{if◌then◌else◌, refl, sym, ap, subst, ◌∙◌, arith, and_parts, PlainPacket, LayerError, LayerSettings, Layer, is_ready}
+use Rattle.x25_layer.proofs.Names.{PullsAll, outcome_in, layer_outcome, layer_pulled, LinkView, Putting, begin, with_pulled, pull_one, round, rounds_of, rounds}
+use Rattle.std.proofs.lemmas.{Bool.{lt-ltb, leb-true}, List.{length_push}}
+use Rattle.x25_layer.proofs.{Names.{backlog}, SettleLemmas.{left, Lessens, one_lessens, lessens_then, round_lessens, split, rounds_settle}}
+use Rattle.x25_layer.specs.laws.{Rounds.{Went, Refuses, went}, WaitLaw.{PullsNone, RoundsLeaveNone, StillPullsNone}}
 use Rattle.x25_layer.specs.declared.error.LayerError.TheVariants as error
-use Rattle.x25_layer.specs.Layer.{LayerSettings, Layer, is_ready}
-use Rattle.x25_layer.specs.Calls.{PullsAll, outcome_in, layer_outcome, layer_pulled}
-use Rattle.x25_layer.specs.laws.Rounds.{LinkView, Putting, begin, with_pulled, pull_one, round, rounds_of, rounds, backlog, Went, Refuses, went}
-use Rattle.x25_layer.specs.laws.WaitLaw.{PullsNone, RoundsLeaveNone, StillPullsNone}
-use Rattle.x25_layer.proofs.SettleLemmas.{left, Lessens, one_lessens, lessens_then, round_lessens, split, rounds_settle}
 
 -- a pull that leaves all as it was gives nothing
 one_none : (link : LinkView) (c : LayerSettings) (h : ℕ) (s : Putting) → link.waits s.put < 8 → pull_one link c h s ≡ s → (layer_pulled c s.layer h).packet

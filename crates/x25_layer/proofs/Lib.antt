@@ -1,3 +1,4 @@
+pub mod Names
 pub mod Sees
 pub mod ParamsLemmas
 pub mod ViewLemmas

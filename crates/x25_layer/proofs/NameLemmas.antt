@@ -1,26 +1,16 @@
 -- What a circuit tells counts its clears and resets, where no CLEAR comes in p1; and so what a layer tells counts its restarts.
-use Rattle.std.proofs.Common.{◌≡◌, ℕ, List, [], ◌∷◌, ◌++◌, length, Option, Some, None, Bool, true, false, nat_lt, nat_le, ◌&&◌, if◌then◌else◌, refl}
-use Rattle.x25_bits.specs.declared.role.Role.{Role}
-use Rattle.x25_bits.specs.declared.role.Role.TheVariants.{Dte, Dce}
-use Rattle.x25_packet.specs.Packet.{PlainPacket, call, accept, clear, clear_conf, user_data, rr, rnr, interrupt, interrupt_conf, reset, reset_conf, restart}
-use Rattle.x25_packet.specs.Packet.{restart_conf}
-use Rattle.x25_packet.specs.declared.marks.Marks.{Marks}
-use Rattle.x25_circuit.specs.declared.error.CircuitError.TheVariants.{Full, TooLong, InterruptOutstanding, BadParameter}
-use Rattle.x25_circuit.specs.declared.state.State.{State}
-use Rattle.x25_circuit.specs.declared.state.State.TheVariants.{Free, Calling, Arriving, Collision, Open, Resetting, Clearing}
-use Rattle.x25_circuit.specs.declared.params.Params.{Params}
-use Rattle.x25_circuit.specs.Params.{Proposal, default_params, may_answer, field_for, said_in}
-use Rattle.x25_circuit.specs.Cause.{may_clear_for, may_reset_for}
-use Rattle.x25_circuit.specs.Message.{Message, Piece, piece_of, no_part, joining, completed, cut}
-use Rattle.x25_circuit.specs.Circuit.{CircuitSettings, Talk, Circuit, outgoing, incoming as terms_in, is_free, is_free_in, waits}
-use Rattle.x25_circuit.specs.Notice.{CallRequest, PlainNotice, connected, deliveries}
-use Rattle.x25_circuit.specs.Hearing.{Answer, answers, goes, clears_for, request_in, collides, connects, row_call, row_accept, row_clear, row_clear_conf}
-use Rattle.x25_circuit.specs.Hearing.{row_reset, row_reset_conf, unless, takes, hears_status, confirms, row_open, row_data, data_ground, number_ground}
-use Rattle.x25_circuit.specs.Calling.{Outcome, Done, Refused, Request, Calls, Accepts, Clears, Sends, Interrupts, Resets, SaysReady, SaysNotReady, does}
-use Rattle.x25_circuit.specs.Calling.{keeps_on, call_sent, may_call, call_in, accept_with, accept_in, clear_with, clear_in, send_in, interrupt_in, reset_in}
-use Rattle.x25_circuit.specs.Calling.{ready_in, outcome, Pulled, pull_open, pull_in, pulled}
-use Rattle.x25_handshakes.specs.laws.Names.{Name}
-use Rattle.x25_layer.specs.laws.NameLaw.{named_by}
+use Rattle.x25_layer.proofs.Names.{◌≡◌, ℕ, List, [], ◌∷◌, ◌++◌, length, Option, Some, None, Bool, true, false, nat_lt, nat_le, ◌&&◌, if◌then◌else◌, refl, Role}
+use Rattle.x25_layer.proofs.Names.{Dte, Dce, PlainPacket, call, accept, clear, clear_conf, user_data, rr, rnr, interrupt, interrupt_conf, reset, reset_conf}
+use Rattle.x25_layer.proofs.Names.{restart, restart_conf, Marks, BadParameter, State, Free, Calling, Arriving, Collision, Open, Resetting, Clearing, Params}
+use Rattle.x25_layer.proofs.Names.{Proposal, default_params, may_answer, field_for, said_in, Message, Piece, piece_of, no_part, joining, completed}
+use Rattle.x25_layer.proofs.Names.{CircuitSettings, Talk, Circuit, outgoing, is_free, is_free_in, waits, CallRequest, PlainNotice, connected, deliveries}
+use Rattle.x25_layer.proofs.Names.{Answer, answers, goes, clears_for, request_in, collides, unless, takes, hears_status, confirms, Outcome, Done, Refused}
+use Rattle.x25_layer.proofs.Names.{Request, Calls, Accepts, Clears, Sends, Interrupts, Resets, SaysReady, SaysNotReady, does, call_sent, may_call, outcome}
+use Rattle.x25_circuit.specs.Calling.{keeps_on, call_in, accept_with, accept_in, clear_with, clear_in, send_in, interrupt_in, reset_in, ready_in}
+use Rattle.x25_circuit.specs.{Cause.{may_clear_for, may_reset_for}, Circuit.{incoming as terms_in}, Hearing.{number_ground}, Message.{cut}}
+use Rattle.x25_circuit.specs.Hearing.{connects, row_call, row_accept, row_clear, row_clear_conf, row_reset, row_reset_conf, row_open, row_data, data_ground}
+use Rattle.x25_circuit.specs.declared.error.CircuitError.TheVariants.{Full, TooLong, InterruptOutstanding}
+use Rattle.x25_layer.{proofs.Names.{Pulled, pull_open, pull_in, pulled, Name}, specs.laws.NameLaw.{named_by}}
 
 -- the name of the stretch of a circuit
 abbrev pub name_in : ℕ → Circuit → Name

@@ -1,24 +1,13 @@
 -- The next data packet, one circuit after another.
-use Rattle.std.proofs.Common.{◌≡◌, ℕ, zero, suc, ◌+◌, ◌<◌, ◌≤◌, List, length, Option, Some, None, Bool, true, false, slice_get, refl, sym, ap, subst, ◌∙◌}
-use Rattle.std.proofs.Common.{inl, inr, arith, IfSome, MatchOption}
-use Rattle.std.proofs.lemmas.Bool.{cases_lt}
-use Rattle.std.proofs.lemmas.Option.{none-some}
-use Rattle.x25_packet.specs.Packet.{PlainPacket}
+use Rattle.x25_layer.proofs.Names.{◌≡◌, ℕ, zero, suc, ◌+◌, ◌<◌, ◌≤◌, List, length, Option, Some, None, Bool, true, false, refl, sym, ap, subst, ◌∙◌, inl, inr}
+use Rattle.x25_layer.proofs.Names.{arith, none-some, PlainPacket, CircuitSettings, Circuit, Pulled, pulled, FitsCircuit, LayerSettings, Layer, packet_on}
+use Rattle.std.proofs.{Common.{IfSome, MatchOption}, lemmas.Bool.{cases_lt}}
+use Rattle.x25_circuit.specs.laws.PullLaw.{PullsWhatWaits}
+use Rattle.x25_layer.proofs.{CallLemmas.{IsLike}, FitLemmas.{there}, Names.{FitsCircuits, FitsLayer}, PullLemmas.{none_kept}}
+use Rattle.x25_layer.specs.code.{Answering.{GivesNext, GivesNone}, Idle.{IsOutside, IdleBeside}, Pulling.{IsPut, next_packet, GoesTo, GoesNowhere}}
 use Rattle.x25_packet.specs.Spelling.{moved_to}
 use Rattle.x25_circuit.specs.declared.circuit.Circuit as circuit_code
-use Rattle.x25_circuit.specs.Circuit.{CircuitSettings, Circuit}
-use Rattle.x25_circuit.specs.Calling.{Pulled, pulled}
-use Rattle.x25_circuit.specs.code.FitsCircuit.{FitsCircuit}
-use Rattle.x25_circuit.specs.laws.PullLaw.{PullsWhatWaits}
 use Rattle.x25_layer.specs.declared.layer.Layer as code
-use Rattle.x25_layer.specs.Layer.{LayerSettings, Layer, packet_on}
-use Rattle.x25_layer.specs.code.FitsLayer.{FitsCircuits, FitsLayer}
-use Rattle.x25_layer.specs.code.Idle.{IsOutside, IdleBeside}
-use Rattle.x25_layer.specs.code.Pulling.{IsPut, next_packet, GoesTo, GoesNowhere}
-use Rattle.x25_layer.specs.code.Answering.{GivesNext, GivesNone}
-use Rattle.x25_layer.proofs.FitLemmas.{there}
-use Rattle.x25_layer.proofs.CallLemmas.{IsLike}
-use Rattle.x25_layer.proofs.PullLemmas.{none_kept}
 
 -- ---- what no circuit has
 

@@ -1,40 +1,21 @@
 -- What a circuit tells and what its user asks is what its channel gains, in the nested handshakes, under its present
 -- name; or the name grows, and nothing is said.
-use Rattle.std.proofs.Common.{◌≡◌, inl, inr, ℕ, ◌+◌, ◌%◌, List, [], ◌∷◌, ◌++◌, length, Option, Some, None, Bool, true, false, nat_lt, nat_le, ◌&&◌}
-use Rattle.std.proofs.Common.{if◌then◌else◌, refl, sym, ap, subst, ◌∙◌, arith}
+use Rattle.x25_layer.proofs.Names.{◌≡◌, inl, inr, ℕ, ◌+◌, ◌%◌, List, [], ◌∷◌, ◌++◌, length, Option, Some, None, Bool, true, false, nat_lt, nat_le, ◌&&◌}
+use Rattle.x25_layer.proofs.Names.{if◌then◌else◌, refl, sym, ap, subst, ◌∙◌, arith, Role, Dte, Dce, PlainPacket, call, accept, clear, clear_conf, user_data, rr}
+use Rattle.x25_layer.proofs.Names.{rnr, interrupt, interrupt_conf, reset, reset_conf, restart, restart_conf, HasChannel, Marks, Message, Piece, piece_of}
+use Rattle.x25_layer.proofs.Names.{no_part, joining, completed, wholes, Params, BadParameter, Calling, Open, Terms, Proposal, may_answer, field_for, said_in}
+use Rattle.x25_layer.proofs.Names.{CircuitSettings, Circuit, CallRequest, connected, deliveries, answers, unless, takes, hears_status, confirms, request_in}
+use Rattle.x25_layer.proofs.Names.{goes, clears_for, collides, Outcome, Refused, Request, Calls, Accepts, Clears, Sends, Interrupts, Resets, does, call_sent}
+use Rattle.x25_layer.proofs.Names.{may_call, request_of, outcome, Side, Live, Left, At, OwnStep, live, left, Stretch, Packet, Phase, Unused, Waiting, Offered}
+use Rattle.x25_layer.proofs.Names.{Crossed, Talking, Connection, channel_takes, channel_acts, found, bare, Handed, nothing_handed, added, told_by_all}
 use Rattle.std.proofs.lemmas.Grind.{common_steps}
-use Rattle.x25_bits.specs.declared.role.Role.{Role}
-use Rattle.x25_bits.specs.declared.role.Role.TheVariants.{Dte, Dce}
-use Rattle.x25_packet.specs.Packet.{PlainPacket, call, accept, clear, clear_conf, user_data, rr, rnr, interrupt, interrupt_conf, reset, reset_conf, restart}
-use Rattle.x25_packet.specs.Packet.{restart_conf}
-use Rattle.x25_packet.specs.Spelling.{HasChannel}
-use Rattle.x25_packet.specs.declared.marks.Marks.{Marks}
-use Rattle.x25_circuit.specs.Message.{Message, Piece, piece_of, no_part, joining, completed, wholes}
-use Rattle.x25_circuit.specs.declared.params.Params.{Params}
-use Rattle.x25_circuit.specs.declared.error.CircuitError.TheVariants.{BadParameter}
-use Rattle.x25_circuit.specs.declared.state.State.TheVariants.{Calling, Open}
-use Rattle.x25_handshakes.specs.laws.Terms.{Terms}
-use Rattle.x25_circuit.specs.Params.{Proposal, may_answer, field_for, said_in}
-use Rattle.x25_circuit.specs.Circuit.{CircuitSettings, Circuit}
-use Rattle.x25_circuit.specs.Notice.{CallRequest, connected, deliveries}
-use Rattle.x25_circuit.specs.Hearing.{answers, unless, takes, hears_status, confirms, request_in, goes, clears_for, collides}
-use Rattle.x25_circuit.specs.Calling.{Outcome, Refused, Request, Calls, Accepts, Clears, Sends, Interrupts, Resets, does, call_sent, may_call, request_of}
-use Rattle.x25_circuit.specs.Calling.{outcome}
 use Rattle.x25_circuit.specs.Cause.{may_clear_for, may_reset_for}
-use Rattle.x25_handshakes.specs.laws.Handshake.{Side, Live, Left, At, OwnStep, live, left}
-use Rattle.x25_handshakes.specs.laws.Stretch.{Data, Call, Accept, Stretch, stretch_does, stretch_fails, by_ground, takes_data, takes_status, data_ground}
-use Rattle.x25_handshakes.specs.laws.Stretch.{ack_ground, pulls, Packet}
-use Rattle.x25_handshakes.specs.laws.Transfer.{lifted}
-use Rattle.x25_handshakes.specs.laws.Calls.{Phase, Unused, Waiting, Offered, Crossed, Talking, Connection, in_transfer, call_crosses, calling_talk, called_talk}
-use Rattle.x25_handshakes.specs.laws.Calls as nested_calls
-use Rattle.x25_handshakes.specs.laws.Channel.{lifted_call, channel_takes, channel_acts}
-use Rattle.x25_handshakes.specs.laws.PeerLayers.{found}
-use Rattle.x25_layer.specs.laws.Bare.{bare}
-use Rattle.x25_layer.specs.laws.Transcript.{Handed, nothing_handed, added, told_by_all, asked_by}
+use Rattle.x25_handshakes.specs.laws.{Calls.{in_transfer, call_crosses, calling_talk, called_talk}, Channel.{lifted_call}, Stretch.{pulls}, Transfer.{lifted}}
+use Rattle.x25_handshakes.specs.laws.Stretch.{Data, Call, Accept, stretch_does, stretch_fails, by_ground, takes_data, takes_status, data_ground, ack_ground}
+use Rattle.x25_layer.proofs.{ParamsLemmas.{call_proposes}, Sees.{AfterReset, AfterClear, NotesOutcome}}
 use Rattle.x25_layer.proofs.Sees.{talk_of, Agreed, taken_on, AreAgreedIn, AreAgreed, view, act_of, pull_act, held_stretch, held_of, resets_of, Notes, Adds}
-use Rattle.x25_layer.proofs.Sees.{AfterReset, AfterClear, NotesOutcome}
-use Rattle.x25_layer.proofs.ParamsLemmas.{call_proposes}
-use Rattle.x25_layer.proofs.ViewLemmas.{some_none, channel_step, in_open, in_resetting, in_talk, in_call, on_terms}
+use Rattle.x25_layer.{proofs.ViewLemmas.{some_none, channel_step, in_open, in_resetting, in_talk, in_call, on_terms}, specs.laws.Transcript.{asked_by}}
+use Rattle.x25_handshakes.specs.laws.Calls as nested_calls
 
 -- nothing more
 pub append_nil : {A : Type 0} (a : List A) → a ++ [] ≡ a

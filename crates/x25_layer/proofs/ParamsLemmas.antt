@@ -1,11 +1,7 @@
 -- An empty facility field is allowed, and what a call proposes may be proposed.
-use Rattle.std.proofs.Common.{◌≡◌, Bool, ℕ, None, true, ◌&&◌, nat_le, List, [], length, refl}
-use Rattle.std.proofs.lemmas.Bool.{and_parts}
-use Rattle.x25_packet.specs.Facilities.{IsFacilityField}
-use Rattle.x25_packet.specs.Spelling.{longest_user}
-use Rattle.x25_circuit.specs.declared.params.Params.{Params}
-use Rattle.x25_circuit.specs.Params.{may_propose}
-use Rattle.x25_circuit.specs.Calling.{is_address_text, may_call}
+use Rattle.x25_layer.proofs.Names.{◌≡◌, Bool, ℕ, None, true, ◌&&◌, nat_le, List, [], length, refl, and_parts, Params, may_propose, may_call}
+use Rattle.x25_circuit.specs.Calling.{is_address_text}
+use Rattle.x25_packet.specs.{Facilities.{IsFacilityField}, Spelling.{longest_user}}
 
 pub no_field : IsFacilityField []
 no_field = (record { packet_size = None; window_size = None }, record { sizes = tt; windows = tt }, refl)

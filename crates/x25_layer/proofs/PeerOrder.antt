@@ -1,25 +1,15 @@
 -- Of a layer and a peer: the transcript has what the channels hold under their present names, and the order of the nested handshakes is that of the transcript.
-use Rattle.std.proofs.Common.{◌≡◌, inl, inr, ℕ, List, [], ◌++◌, length, Option, Some, Bool, true, false, if◌then◌else◌, refl, sym, ap, subst, ◌∙◌, eq-eqb}
-use Rattle.std.proofs.Common.{arith}
-use Rattle.x25_circuit.specs.Message.{carried, wholes}
-use Rattle.x25_circuit.specs.Circuit.{Circuit, forgotten, is_open}
-use Rattle.x25_handshakes.specs.laws.Handshake.{Side, Live, Left, At, state_of}
-use Rattle.x25_handshakes.specs.laws.Stretch.{Stretch}
-use Rattle.x25_handshakes.specs.laws.Calls.{Phase, Unused, Waiting, Offered, Crossed, Talking, Connection}
-use Rattle.x25_handshakes.specs.laws.Layers.{Channels}
-use Rattle.x25_handshakes.specs.laws.Names.{Name, same_name, IsEarlier, IsEarlierCount}
-use Rattle.x25_handshakes.specs.laws.Histories.{Lists, none, Kind, messages, interrupts, calls, resets_in, held_in, circuit_at, name_at, held_at, written}
-use Rattle.x25_handshakes.specs.laws.Histories.{IsPrefix}
+use Rattle.x25_layer.proofs.Names.{◌≡◌, inl, inr, ℕ, List, [], ◌++◌, length, Option, Some, Bool, true, false, if◌then◌else◌, refl, sym, ap, subst, ◌∙◌, eq-eqb}
+use Rattle.x25_layer.proofs.Names.{arith, wholes, Circuit, forgotten, is_open, Side, Live, Left, At, state_of, Stretch, Phase, Unused, Waiting, Offered}
+use Rattle.x25_layer.proofs.Names.{Crossed, Talking, Connection, Channels, Name, same_name, IsEarlier, Lists, none, Kind, messages, interrupts, calls, held_in}
+use Rattle.x25_layer.proofs.Names.{circuit_at, name_at, held_at, IsPrefix, open_call, Layer, Handed, Entry, under, calls_in, messages_in, interrupts_in}
+use Rattle.x25_circuit.specs.Message.{carried}
+use Rattle.x25_handshakes.specs.laws.{Arrivals.{open_in, open_phase, open_channel}, Histories.{resets_in, written}, Names.{IsEarlierCount}}
 use Rattle.x25_handshakes.specs.laws.PeerLayer.{PeerChannels}
-use Rattle.x25_handshakes.specs.laws.Arrivals.{open_in, open_phase, open_call, open_channel}
-use Rattle.x25_handshakes.specs.laws.PeerClaims as nested
-use Rattle.x25_layer.specs.Layer.{Layer}
-use Rattle.x25_layer.specs.laws.Transcript.{Handed, Entry, under, calls_in, messages_in, interrupts_in, name_of}
+use Rattle.x25_layer.proofs.{HistoryLemmas.{Moves, StaysAt, GrowsAt, IsListed, same_name-is, recorded}, LayerSees.{ShowsAt, SeesLayer, present, StepOf}}
+use Rattle.x25_layer.proofs.{Names.{name_of}, Sees.{Agreed, unagreed, view}, StepLemmas.{name_eq}}
 use Rattle.x25_layer.specs.laws.PeerClaims.{peer_call, peer_stretch, peer_name, of_call, StretchIsInOrder, CallIsInOrder, HasArrived}
-use Rattle.x25_layer.proofs.Sees.{Agreed, unagreed, view}
-use Rattle.x25_layer.proofs.LayerSees.{ShowsAt, SeesLayer, present, StepOf}
-use Rattle.x25_layer.proofs.StepLemmas.{name_eq}
-use Rattle.x25_layer.proofs.HistoryLemmas.{Moves, StaysAt, GrowsAt, IsListed, same_name-is, recorded}
+use Rattle.x25_handshakes.specs.laws.PeerClaims as nested
 
 -- ---- what a transcript has
 

@@ -1,33 +1,22 @@
 -- All that happens to a layer and a peer happens to the nested handshakes with that peer.
-use Rattle.std.proofs.Common.{◌≡◌, ℕ, List, [], ◌∷◌, ◌++◌, Option, None, Bool, true, false, if◌then◌else◌, option_to_list, refl, sym, ap, subst, ◌∙◌}
-use Rattle.x25_bits.specs.declared.role.Role.{Role}
-use Rattle.x25_packet.specs.Packet.{PlainPacket, restart, restart_conf}
-use Rattle.x25_packet.specs.Spelling.{channel_of, HasChannel}
-use Rattle.x25_handshakes.specs.laws.Handshake.{At, OwnStep, left, near_stepped}
-use Rattle.x25_handshakes.specs.laws.Layers.{LayerPacket, On, Channels, all_fresh, LayerAct, OnChannel, layer_acts, layer_takes}
-use Rattle.x25_handshakes.specs.laws.Histories.{messages, interrupts, calls}
-use Rattle.x25_handshakes.specs.laws.PeerLayer.{PeerChannels}
-use Rattle.x25_handshakes.specs.laws.PeerLayers.{JoinedLayers, layer_found}
-use Rattle.x25_handshakes.specs.laws.PeerLayers as nested
-use Rattle.x25_handshakes.specs.laws.PeerClaims.{WithAnyPeerLayer, LayerFindsNoError, KeepsLayers, LayerHasArrived}
-use Rattle.x25_layer.specs.declared.ranges.Ranges.{Ranges}
-use Rattle.x25_layer.specs.Layer.{LayerSettings, Layer, LayerAnswer, is_channel, layer_answers}
-use Rattle.x25_layer.specs.Calls.{LayerRequest, PullsAll, LayerOutcome, Accepted, Declined, layer_outcome, LayerPulled, layer_pulled}
-use Rattle.x25_layer.specs.laws.Bare.{bare, bare_layer, bare_layers}
-use Rattle.x25_layer.specs.laws.Transcript.{Entry, calls_in, messages_in, interrupts_in}
-use Rattle.x25_layer.specs.laws.TwoLayers.{TwoLayers, entries_asked, entries_told, Move, Requests, Pulls, HandsUp, GoesDown, puts, requested, pulled_in}
-use Rattle.x25_layer.specs.laws.TwoLayers.{handed_up, moves_in, settings_of}
-use Rattle.x25_layer.specs.laws.Law.{IsQuietEnd}
-use Rattle.x25_layer.specs.laws.PeerJoined.{PeerJoined, start, our_end, with_peer, AreConfigured, StaysUp, PeerMoves, Does, Hears, HearsChannel, Happens, Ours}
-use Rattle.x25_layer.specs.laws.PeerJoined.{Theirs, IsReached, at_start, goes_on}
-use Rattle.x25_layer.specs.laws.PeerClaims.{WithAnyPeer, IsAllInOrder, FindsNoError, AllHaveArrived}
-use Rattle.x25_layer.proofs.Sees.{ParamsLaws, pull_act}
-use Rattle.x25_layer.proofs.LayerSees.{SeesLayer, StepOf, FollowsLayer, DoesLayer, layer_act, HeedsLayer}
+use Rattle.x25_layer.proofs.Names.{◌≡◌, ℕ, List, [], ◌∷◌, ◌++◌, Option, None, Bool, true, false, if◌then◌else◌, option_to_list, refl, sym, ap, subst, ◌∙◌, Role}
+use Rattle.x25_layer.proofs.Names.{PlainPacket, restart, restart_conf, channel_of, HasChannel, At, OwnStep, left, LayerPacket, On, Channels, all_fresh}
+use Rattle.x25_layer.proofs.Names.{OnChannel, layer_acts, layer_takes, messages, interrupts, calls, layer_found, Ranges, LayerSettings, Layer, LayerAnswer}
+use Rattle.x25_layer.proofs.Names.{is_channel, layer_answers, LayerRequest, PullsAll, LayerOutcome, Accepted, Declined, layer_outcome, LayerPulled}
+use Rattle.x25_layer.proofs.Names.{layer_pulled, bare, bare_layer, bare_layers, Entry, calls_in, messages_in, interrupts_in, TwoLayers, entries_asked}
+use Rattle.x25_layer.proofs.Names.{entries_told, Move, Requests, Pulls, HandsUp, GoesDown, requested, pulled_in, handed_up, moves_in, settings_of}
+use Rattle.x25_handshakes.specs.laws.{Handshake.{near_stepped}, Layers.{LayerAct}}
+use Rattle.x25_handshakes.specs.laws.{PeerClaims.{WithAnyPeerLayer, LayerFindsNoError, KeepsLayers, LayerHasArrived}, PeerLayer.{PeerChannels}}
+use Rattle.x25_handshakes.specs.laws.PeerLayers.{JoinedLayers}
+use Rattle.x25_layer.proofs.{FirstLemmas.{restart_is_quiet}, HistoryLemmas.{messages_listed, interrupts_listed, calls_listed}}
 use Rattle.x25_layer.proofs.LayerLemmas.{layer_follows, layer_heeds, layer_pulls}
-use Rattle.x25_layer.proofs.HistoryLemmas.{messages_listed, interrupts_listed, calls_listed}
-use Rattle.x25_layer.proofs.TwoLayerLemmas.{bare_more, quiet_more, no_faults_more, pulls_change_nothing, second}
-use Rattle.x25_layer.proofs.FirstLemmas.{restart_is_quiet}
-use Rattle.x25_layer.proofs.PeerOrder.{Written, written_on, calls_order, stretch_order, has_arrived}
+use Rattle.x25_layer.proofs.LayerSees.{SeesLayer, StepOf, FollowsLayer, DoesLayer, layer_act, HeedsLayer}
+use Rattle.x25_layer.proofs.{PeerOrder.{Written, written_on, calls_order, stretch_order, has_arrived}, Sees.{ParamsLaws, pull_act}}
+use Rattle.x25_layer.{proofs.TwoLayerLemmas.{bare_more, quiet_more, no_faults_more, pulls_change_nothing, second}, specs.laws.Law.{IsQuietEnd}}
+use Rattle.x25_layer.specs.laws.{PeerClaims.{WithAnyPeer, IsAllInOrder, FindsNoError, AllHaveArrived}, PeerJoined.{Theirs, IsReached, at_start, goes_on}}
+use Rattle.x25_layer.specs.laws.PeerJoined.{PeerJoined, start, our_end, with_peer, AreConfigured, StaysUp, PeerMoves, Does, Hears, HearsChannel, Happens, Ours}
+use Rattle.x25_layer.specs.laws.TwoLayers.{puts}
+use Rattle.x25_handshakes.specs.laws.PeerLayers as nested
 
 -- what is known of the nested handshakes and a peer, and of packet sizes and windows
 pub record PeerPremises : Type 0 where

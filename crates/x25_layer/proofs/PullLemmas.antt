@@ -1,19 +1,9 @@
 -- One circuit pulled, and changed.
-use Rattle.std.proofs.Common.{◌≡◌, ℕ, suc, ◌+◌, ◌<◌, List, [], ◌∷◌, length, Option, Some, None, Bool, true, false, nat_lt, ◌==◌, ◌&&◌, if◌then◌else◌, set}
-use Rattle.std.proofs.Common.{slice_get, refl, sym, ap, subst, ◌∙◌, ◌⊎◌, inl, inr, arith, eq-eqb}
-use Rattle.std.proofs.lemmas.Option.{none-some}
-use Rattle.x25_packet.specs.Packet.{PlainPacket}
+use Rattle.x25_layer.proofs.Names.{◌≡◌, ℕ, suc, ◌+◌, List, [], ◌∷◌, length, Some, None, Bool, true, false, nat_lt, ◌==◌, ◌&&◌, if◌then◌else◌, set, slice_get}
+use Rattle.x25_layer.proofs.Names.{refl, sym, ap, subst, ◌∙◌, ◌⊎◌, inl, inr, arith, eq-eqb, none-some, PlainPacket, State, Free, Calling, Arriving, Collision}
+use Rattle.x25_layer.proofs.Names.{Open, Resetting, Clearing, Piece, CircuitSettings, Talk, Circuit, outgoing, Pulled, pulls_nothing, pull_open, pull_in}
+use Rattle.x25_layer.proofs.{FitLemmas.{get_changed}, Names.{pulled, FitsCircuit, LayerSettings, put_at, FitsCircuits}, SettleLemmas.{put_other, not_same}}
 use Rattle.x25_circuit.specs.declared.circuit.Circuit as circuit_code
-use Rattle.x25_circuit.specs.declared.state.State.{State}
-use Rattle.x25_circuit.specs.declared.state.State.TheVariants.{Free, Calling, Arriving, Collision, Open, Resetting, Clearing}
-use Rattle.x25_circuit.specs.Message.{Piece}
-use Rattle.x25_circuit.specs.Circuit.{CircuitSettings, Talk, Circuit, outgoing}
-use Rattle.x25_circuit.specs.Calling.{Pulled, pulls_nothing, pull_open, pull_in, pulled}
-use Rattle.x25_circuit.specs.code.FitsCircuit.{FitsCircuit}
-use Rattle.x25_layer.specs.Layer.{LayerSettings, put_at}
-use Rattle.x25_layer.specs.code.FitsLayer.{FitsCircuits}
-use Rattle.x25_layer.proofs.FitLemmas.{get_changed}
-use Rattle.x25_layer.proofs.SettleLemmas.{put_other, not_same}
 
 -- a pull that gives none leaves the circuit as it was
 

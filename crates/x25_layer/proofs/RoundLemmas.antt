@@ -1,19 +1,12 @@
 -- The rounds of a step are pulls of configured channels, one after another.
-use Rattle.std.proofs.Common.{◌≡◌, ℕ, zero, suc, ◌≤◌, List, [], ◌∷◌, ◌++◌, Option, Some, None, Bool, true, false, nat_lt, ◌==◌, if◌then◌else◌, option_to_list}
-use Rattle.std.proofs.Common.{refl, sym, ap, subst, ◌∙◌, append_assoc, arith}
-use Rattle.x25_packet.specs.Packet.{PlainPacket}
-use Rattle.x25_layer.specs.declared.ranges.Ranges.{Ranges}
-use Rattle.x25_layer.specs.Layer.{LayerSettings, Layer, LayerAnswer, is_channel, layer_answers}
-use Rattle.x25_layer.specs.Calls.{LayerOutcome, Accepted, Declined, layer_outcome, layer_pulled}
-use Rattle.x25_layer.specs.Receiving.{answer_to}
-use Rattle.x25_layer.specs.laws.Rounds.{LinkView, Putting, begin, with_pulled, pull_one, round, rounds_of, rounds, backlog, Answered, Went, Refuses, went}
-use Rattle.x25_layer.specs.laws.Rounds.{heard}
-use Rattle.x25_layer.specs.declared.error.LayerError.{LayerError}
+use Rattle.x25_layer.proofs.Names.{◌≡◌, ℕ, zero, suc, ◌≤◌, List, [], ◌∷◌, ◌++◌, Option, Some, None, Bool, true, false, nat_lt, ◌==◌, if◌then◌else◌}
+use Rattle.x25_layer.proofs.Names.{option_to_list, refl, sym, ap, subst, ◌∙◌, append_assoc, arith, PlainPacket, Ranges, LayerSettings, Layer, LayerAnswer}
+use Rattle.x25_layer.proofs.Names.{is_channel, layer_answers, LayerOutcome, Accepted, Declined, layer_outcome, layer_pulled, LinkView, Putting, begin}
+use Rattle.x25_layer.proofs.Names.{with_pulled, pull_one, round, rounds_of, rounds, backlog, LayerError, TwoLayers, Move, Requests, Pulls, HandsUp, requested}
+use Rattle.x25_layer.proofs.{LayerLemmas.{is_between}, Names.{pulled_in, handed_up, moves_in}, NoteLemmas.{append_nil}}
+use Rattle.x25_layer.specs.{Receiving.{answer_to}, laws.RoundLaw.{moves_all, pulls_of, AreChannels, IsRun, CallsRun, HearsRun}}
+use Rattle.x25_layer.specs.laws.{Rounds.{Answered, Went, Refuses, went, heard}, TwoLayers.{answered, moves}}
 use Rattle.x25_layer.specs.declared.error.LayerError.TheVariants as error
-use Rattle.x25_layer.specs.laws.TwoLayers.{TwoLayers, Move, Requests, Pulls, HandsUp, requested, pulled_in, answered, handed_up, moves_in, moves}
-use Rattle.x25_layer.specs.laws.RoundLaw.{moves_all, pulls_of, AreChannels, IsRun, CallsRun, HearsRun}
-use Rattle.x25_layer.proofs.NoteLemmas.{append_nil}
-use Rattle.x25_layer.proofs.LayerLemmas.{is_between}
 
 -- the pulls that lead from s to s₂, at an end that stands as s
 record Pulled (c : LayerSettings) (w : TwoLayers) (s s₂ : Putting) : Type 0 where

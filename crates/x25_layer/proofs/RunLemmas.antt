@@ -1,21 +1,13 @@
 -- Each run of two layers is a run of the nested handshakes, with the transcripts as histories.
-use Rattle.std.proofs.Common.{◌≡◌, ◌⊎◌, inl, inr, ℕ, List, [], ◌∷◌, ◌++◌, None, Bool, true, false, if◌then◌else◌, refl, sym, ap, subst, ◌∙◌}
-use Rattle.x25_bits.specs.declared.role.Role.{Role}
-use Rattle.x25_bits.specs.declared.role.Role.TheVariants.{Dte, Dce}
-use Rattle.x25_handshakes.specs.laws.Handshake.{state_of}
-use Rattle.x25_handshakes.specs.laws.Layers.{Channels, Pair, pair_moves, pair_happens, pair_run, pair_start}
+use Rattle.x25_layer.proofs.Names.{◌≡◌, ◌⊎◌, inl, inr, ℕ, List, [], ◌∷◌, ◌++◌, None, Bool, true, false, if◌then◌else◌, refl, sym, ap, subst, ◌∙◌, Role, Dte}
+use Rattle.x25_layer.proofs.Names.{Dce, state_of, Pair, pair_moves, pair_run, pair_start, Name, IsEarlier, Lists, none, Kind, messages, interrupts, calls}
+use Rattle.x25_layer.proofs.Names.{name_at, held_at, Histories, histories_run, histories_start, Ranges, Handed, Entry, under, calls_in, messages_in}
+use Rattle.x25_handshakes.specs.laws.{Arrivals.{AllArrives}, Histories.{turned_histories, histories_moves, histories_happens, AreInOrder}}
+use Rattle.x25_handshakes.specs.laws.Layers.{pair_happens}
+use Rattle.x25_layer.proofs.{HistoryLemmas.{IsListed, recorded, messages_listed, interrupts_listed, calls_listed}, LayerSees.{StepOf}}
+use Rattle.x25_layer.proofs.{Names.{interrupts_in, TwoLayers, Move, EndMove, turned, happens, run, start, settings_of}, Sees.{ParamsLaws}}
+use Rattle.x25_layer.{proofs.TwoLayerLemmas.{Sees, Stepped, world_moves, sees_turned}, specs.laws.TwoLayers.{moves}}
 use Rattle.x25_handshakes.specs.laws.Layers as nested
-use Rattle.x25_handshakes.specs.laws.Names.{Name, IsEarlier}
-use Rattle.x25_handshakes.specs.laws.Histories.{Lists, none, Kind, messages, interrupts, calls, name_at, held_at, Histories, turned_histories, histories_moves}
-use Rattle.x25_handshakes.specs.laws.Histories.{histories_happens, histories_run, histories_start, AreInOrder}
-use Rattle.x25_handshakes.specs.laws.Arrivals.{AllArrives}
-use Rattle.x25_layer.specs.declared.ranges.Ranges.{Ranges}
-use Rattle.x25_layer.specs.laws.Transcript.{Handed, Entry, under, calls_in, messages_in, interrupts_in}
-use Rattle.x25_layer.specs.laws.TwoLayers.{TwoLayers, Move, EndMove, moves, turned, happens, run, start, settings_of}
-use Rattle.x25_layer.proofs.Sees.{ParamsLaws}
-use Rattle.x25_layer.proofs.LayerSees.{StepOf}
-use Rattle.x25_layer.proofs.HistoryLemmas.{IsListed, recorded, messages_listed, interrupts_listed, calls_listed}
-use Rattle.x25_layer.proofs.TwoLayerLemmas.{Sees, Stepped, world_moves, sees_turned}
 
 -- what is known of the nested handshakes, and of packet sizes and windows
 pub record Premises : Type 0 where

@@ -1,27 +1,14 @@
 -- What a circuit of the table is of a channel of the nested handshakes: the lists that no row needs are forgotten, and of packet sizes
 -- and windows in force the terms of data packets alone are known there.
-use Rattle.std.proofs.Common.{◌≡◌, ◌⊎◌, ℕ, ◌<◌, List, [], ◌∷◌, Option, Some, None, Bool, true, false, if◌then◌else◌}
-use Rattle.x25_packet.specs.Packet.{PlainPacket}
-use Rattle.x25_packet.specs.Spelling.{HasChannel}
-use Rattle.x25_circuit.specs.declared.state.State.{State}
-use Rattle.x25_circuit.specs.declared.state.State.TheVariants.{Free, Calling, Arriving, Collision, Open, Resetting, Clearing}
-use Rattle.x25_circuit.specs.declared.params.Params.{Params}
-use Rattle.x25_circuit.specs.Params.{default_params, may_propose, called_terms, calling_terms}
+use Rattle.x25_layer.proofs.Names.{◌≡◌, ◌⊎◌, ℕ, ◌<◌, List, [], ◌∷◌, Option, Some, None, Bool, true, false, if◌then◌else◌, PlainPacket, HasChannel, State, Free}
+use Rattle.x25_layer.proofs.Names.{Calling, Arriving, Collision, Open, Resetting, Clearing, Params, default_params, may_propose, Talk, Circuit, CallRequest}
+use Rattle.x25_layer.proofs.Names.{PlainNotice, Answer, Outcome, Done, Refused, Request, Calls, Accepts, Clears, Sends, Interrupts, Resets, SaysReady}
+use Rattle.x25_layer.proofs.Names.{SaysNotReady, request_of, Side, Live, Left, At, state_of, OwnStep, Packet, Stretch, Terms, Phase, Unused, Waiting, Offered}
+use Rattle.x25_circuit.specs.{Circuit.{silent}, Params.{called_terms, calling_terms}}
 use Rattle.x25_circuit.specs.laws.ParamsLaws.{FieldIsSaid, FieldIsAllowed, SaidIsAllowed, AnswerIsAllowed}
-use Rattle.x25_circuit.specs.Circuit.{Talk, silent, Circuit}
-use Rattle.x25_circuit.specs.Notice.{CallRequest, PlainNotice}
-use Rattle.x25_circuit.specs.Hearing.{Answer}
-use Rattle.x25_circuit.specs.Calling.{Outcome, Done, Refused, Request, Calls, Accepts, Clears, Sends, Interrupts, Resets, SaysReady, SaysNotReady, request_of}
-use Rattle.x25_handshakes.specs.laws.Handshake.{Side, Live, Left, At, state_of, OwnStep}
-use Rattle.x25_handshakes.specs.laws.Stretch.{Packet, Stretch, Send, Pull, Ready, NotReady, Interrupt}
-use Rattle.x25_handshakes.specs.laws.Terms.{Terms, with_longest}
-use Rattle.x25_handshakes.specs.laws.Transfer.{Inside, SendsReset}
-use Rattle.x25_handshakes.specs.laws.Calls.{Phase, Unused, Waiting, Offered, Crossed, Talking, Connection, PlacesCall, AcceptsCall, Talks}
-use Rattle.x25_handshakes.specs.laws.Channel.{ChannelAct, Within, SendsClear}
-use Rattle.x25_handshakes.specs.laws.Histories.{resets_in}
-use Rattle.x25_layer.specs.laws.Bare.{bare}
-use Rattle.x25_layer.specs.laws.Quiet.{IsQuiet, IsNoFault}
-use Rattle.x25_layer.specs.laws.Transcript.{Handed, nothing_handed, added}
+use Rattle.x25_handshakes.specs.laws.{Calls.{PlacesCall, AcceptsCall, Talks}, Channel.{ChannelAct, Within, SendsClear}, Histories.{resets_in}}
+use Rattle.x25_handshakes.specs.laws.{Stretch.{Send, Pull, Ready, NotReady, Interrupt}, Terms.{with_longest}, Transfer.{Inside, SendsReset}}
+use Rattle.x25_layer.{proofs.Names.{Crossed, Talking, Connection, bare, Handed, nothing_handed, added}, specs.laws.Quiet.{IsQuiet, IsNoFault}}
 
 -- a stretch as the table has it
 abbrev pub talk_of : Stretch → Talk

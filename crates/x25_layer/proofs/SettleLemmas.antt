@@ -1,18 +1,10 @@
 -- Behind the rounds of a step, one round more gives nothing.
-use Rattle.std.proofs.Common.{◌≡◌, ◌⊎◌, inl, inr, ℕ, zero, suc, ◌+◌, ◌<◌, ◌≤◌, ◌%◌, List, [], ◌∷◌, ◌++◌, length, Option, Some, None, Bool, true, false, nat_lt}
-use Rattle.std.proofs.Common.{◌==◌, ◌&&◌, if◌then◌else◌, refl, sym, ap, ◌∙◌, eq-eqb, arith}
-use Rattle.std.proofs.lemmas.Option.{none-some}
-use Rattle.std.proofs.lemmas.Bool.{eqb-true}
-use Rattle.x25_packet.specs.Packet.{PlainPacket}
-use Rattle.x25_circuit.specs.declared.state.State.{State}
-use Rattle.x25_circuit.specs.declared.state.State.TheVariants.{Free, Calling, Arriving, Collision, Open, Resetting, Clearing}
-use Rattle.x25_circuit.specs.Message.{Piece}
-use Rattle.x25_circuit.specs.Circuit.{CircuitSettings, Talk, Circuit, begun, talking, outgoing}
-use Rattle.x25_circuit.specs.Calling.{Pulled, pulls_nothing, data_packet, pull_open, pull_in, pulled}
-use Rattle.x25_layer.specs.Layer.{LayerSettings, put_at, packet_on, goes_up}
-use Rattle.x25_layer.specs.Calls.{layer_pulled}
-use Rattle.x25_layer.specs.laws.Rounds.{LinkView, Putting, begin, with_pulled, pull_one, round, rounds_of, rounds, backlog}
-use Rattle.x25_layer.specs.laws.RoundLaw.{RoundsSettle, ComesUpAlone}
+use Rattle.x25_layer.proofs.Names.{◌≡◌, ◌⊎◌, inl, inr, ℕ, zero, suc, ◌+◌, ◌<◌, ◌≤◌, ◌%◌, List, [], ◌∷◌, ◌++◌, length, Option, Some, None, Bool, true, false}
+use Rattle.x25_layer.proofs.Names.{nat_lt, ◌==◌, ◌&&◌, if◌then◌else◌, refl, sym, ap, ◌∙◌, eq-eqb, arith, none-some, eqb-true, PlainPacket, State, Free, Calling}
+use Rattle.x25_layer.proofs.Names.{Arriving, Collision, Open, Resetting, Clearing, Piece, CircuitSettings, Talk, Circuit, outgoing, Pulled, pulls_nothing}
+use Rattle.x25_layer.proofs.Names.{pull_open, pull_in, pulled, LayerSettings, put_at, packet_on, layer_pulled, LinkView, Putting, begin, with_pulled, pull_one}
+use Rattle.x25_circuit.specs.{Calling.{data_packet}, Circuit.{begun, talking}}
+use Rattle.x25_layer.{proofs.Names.{round, rounds_of, rounds, backlog}, specs.Layer.{goes_up}, specs.laws.RoundLaw.{RoundsSettle, ComesUpAlone}}
 
 -- a pull that gives a packet leaves one fewer
 

@@ -1,19 +1,10 @@
 -- The entries of a step stand under the name after it, and are what the channels gain.
-use Rattle.std.proofs.Common.{◌≡◌, ℕ, suc, List, [], ◌∷◌, ◌++◌, Bool, true, false, ◌==◌, if◌then◌else◌, refl, sym, ap, subst, ◌∙◌, arith}
-use Rattle.std.proofs.lemmas.Bool.{eqb-true}
-use Rattle.x25_circuit.specs.Circuit.{Circuit}
-use Rattle.x25_circuit.specs.Notice.{PlainNotice}
-use Rattle.x25_handshakes.specs.laws.Handshake.{Side, At, live}
-use Rattle.x25_handshakes.specs.laws.Calls.{Connection}
-use Rattle.x25_handshakes.specs.laws.Layers.{Channels, put, all_fresh}
-use Rattle.x25_handshakes.specs.laws.Names.{Name, both, same_name}
-use Rattle.x25_handshakes.specs.laws.Histories.{circuit_at}
-use Rattle.x25_layer.specs.Layer.{Layer, notices_on}
-use Rattle.x25_layer.specs.laws.Transcript.{Handed, nothing_handed, added, told_by, told_by_all, Entry, under, name_of}
-use Rattle.x25_layer.specs.laws.TwoLayers.{entries_told}
-use Rattle.x25_layer.proofs.Sees.{Notes}
-use Rattle.x25_layer.proofs.NoteLemmas.{still, append_nil}
+use Rattle.x25_layer.proofs.Names.{◌≡◌, ℕ, suc, List, [], ◌∷◌, ◌++◌, Bool, true, false, ◌==◌, if◌then◌else◌, refl, sym, ap, subst, ◌∙◌, arith, eqb-true}
+use Rattle.x25_layer.proofs.Names.{Circuit, PlainNotice, Side, At, live, Connection, Channels, all_fresh, Name, both, same_name, circuit_at, Layer, notices_on}
+use Rattle.x25_handshakes.specs.laws.Layers.{put}
 use Rattle.x25_layer.proofs.LayerSees.{SeesLayer, present, Here, Afresh, StepOf}
+use Rattle.x25_layer.proofs.{Names.{Handed, nothing_handed, added, told_by_all, Entry, under, name_of, entries_told}, NoteLemmas.{still, append_nil}}
+use Rattle.x25_layer.{proofs.Sees.{Notes}, specs.laws.Transcript.{told_by}}
 
 -- a name is its three counts
 pub name_eq : (m n : Name) → m.restarts ≡ n.restarts → m.clears ≡ n.clears → m.resets ≡ n.resets → m ≡ n

@@ -1,29 +1,16 @@
 -- Each event of two layers is an event of the nested handshakes, or changes nothing.
-use Rattle.std.proofs.Common.{◌≡◌, ◌⊎◌, inl, inr, ℕ, List, [], ◌∷◌, ◌++◌, Option, Some, None, Bool, true, false, if◌then◌else◌, option_to_list, refl, sym, ap}
-use Rattle.std.proofs.Common.{subst, ◌∙◌, append_assoc}
-use Rattle.x25_bits.specs.declared.role.Role.{Role}
-use Rattle.x25_packet.specs.Packet.{PlainPacket}
-use Rattle.x25_handshakes.specs.laws.Handshake.{Side, Live, Left, At, state_of, OwnStep, first_error}
-use Rattle.x25_handshakes.specs.laws.Layers.{LayerPacket, On, Restart, RestartConf, Channels, OnChannel, Pair, Acts, Takes, LinkDown, pair_moves, layer_acts}
-use Rattle.x25_handshakes.specs.laws.Layers.{layer_takes}
-use Rattle.x25_handshakes.specs.laws.Layers as nested
-use Rattle.x25_handshakes.specs.laws.Histories.{circuit_at}
-use Rattle.x25_handshakes.specs.laws.Stretch.{Packet, Clear}
-use Rattle.x25_handshakes.specs.laws.PeerLayers.{found, layer_found}
-use Rattle.x25_layer.specs.declared.ranges.Ranges.{Ranges}
-use Rattle.x25_layer.specs.Layer.{LayerSettings, Layer, LayerNotice, LayerAnswer, is_channel, layer_answers, rested}
-use Rattle.x25_layer.specs.Calls.{LayerRequest, PullsAll, LayerOutcome, Accepted, Declined, outcome_in, layer_outcome, LayerPulled, layer_pulled}
-use Rattle.x25_layer.specs.laws.Bare.{bare_layer, bare_layers}
-use Rattle.x25_layer.specs.laws.Quiet.{AreQuiet, AreNoFaults}
-use Rattle.x25_layer.specs.laws.Transcript.{Entry}
-use Rattle.x25_layer.specs.laws.TwoLayers.{End, TwoLayers, entries_asked, entries_told, Move, Requests, Pulls, HandsUp, GoesDown, puts, requested, pulled_in}
-use Rattle.x25_layer.specs.laws.TwoLayers.{answered, handed_up, moves_in, turned, settings_of}
-use Rattle.x25_layer.specs.laws.Law.{IsQuietEnd, KeepsOrder}
-use Rattle.x25_layer.proofs.Sees.{ParamsLaws, pull_act}
-use Rattle.x25_layer.proofs.NoteLemmas.{still, append_nil}
-use Rattle.x25_layer.proofs.LayerSees.{SeesLayer, StepOf, FollowsLayer, DoesLayer, layer_act, HeedsLayer}
-use Rattle.x25_layer.proofs.StepLemmas.{quiet_step}
+use Rattle.x25_layer.proofs.Names.{◌≡◌, ◌⊎◌, inl, inr, ℕ, List, [], ◌∷◌, ◌++◌, Option, Some, None, Bool, true, false, if◌then◌else◌, option_to_list, refl, sym}
+use Rattle.x25_layer.proofs.Names.{ap, subst, ◌∙◌, append_assoc, Role, PlainPacket, Side, Live, Left, At, state_of, OwnStep, LayerPacket, On, Channels}
+use Rattle.x25_layer.proofs.Names.{OnChannel, Pair, pair_moves, layer_acts, layer_takes, circuit_at, Packet, found, layer_found, Ranges, LayerSettings, Layer}
+use Rattle.x25_layer.proofs.Names.{LayerNotice, LayerAnswer, is_channel, layer_answers, LayerRequest, PullsAll, LayerOutcome, Accepted, Declined, outcome_in}
+use Rattle.x25_layer.proofs.Names.{layer_outcome, LayerPulled, layer_pulled, bare_layer, bare_layers, AreQuiet, AreNoFaults, Entry, End, TwoLayers}
+use Rattle.x25_layer.proofs.Names.{entries_asked, entries_told, Move, Requests, Pulls, HandsUp, GoesDown, requested, pulled_in, handed_up, moves_in, turned}
+use Rattle.x25_handshakes.specs.laws.{Handshake.{first_error}, Layers.{Restart, RestartConf, Acts, Takes, LinkDown}, Stretch.{Clear}}
 use Rattle.x25_layer.proofs.LayerLemmas.{true≢false, layer_follows, layer_heeds, layer_pulls}
+use Rattle.x25_layer.proofs.{LayerSees.{SeesLayer, StepOf, FollowsLayer, DoesLayer, layer_act, HeedsLayer}, Names.{settings_of, KeepsOrder}}
+use Rattle.x25_layer.{proofs.NoteLemmas.{still, append_nil}, proofs.Sees.{ParamsLaws, pull_act}, proofs.StepLemmas.{quiet_step}, specs.Layer.{rested}}
+use Rattle.x25_layer.specs.laws.{Law.{IsQuietEnd}, TwoLayers.{puts, answered}}
+use Rattle.x25_handshakes.specs.laws.Layers as nested
 
 -- what an end is of one of the nested handshakes; an end that is out has stopped there
 abbrev pub SeesEnd : ℕ → End → Side (At Channels) → Type 0

@@ -1,38 +1,22 @@
 -- Each row of a circuit's table is a step of its channel in the nested handshakes, where that is no error of procedure.
-use Rattle.std.proofs.Common.{◌≡◌, ℕ, ◌+◌, ◌%◌, List, [], ◌∷◌, ◌++◌, length, Option, Some, None, Bool, true, false, nat_lt, nat_le, ◌==◌, ◌&&◌, ◌||◌}
-use Rattle.std.proofs.Common.{if◌then◌else◌, refl, sym, ap, subst, ◌∙◌}
-use Rattle.x25_bits.specs.declared.role.Role.{Role}
-use Rattle.x25_bits.specs.declared.role.Role.TheVariants.{Dte, Dce}
-use Rattle.x25_packet.specs.Packet.{PlainPacket, call, accept, clear, clear_conf, user_data, rr, rnr, interrupt, interrupt_conf, reset, reset_conf, restart}
-use Rattle.x25_packet.specs.Packet.{restart_conf}
-use Rattle.x25_packet.specs.Spelling.{HasChannel}
-use Rattle.x25_packet.specs.Digits.{digits_of_text}
-use Rattle.x25_packet.specs.declared.marks.Marks.{Marks}
-use Rattle.x25_circuit.specs.Message.{Message, Piece, More, Last, piece_of, no_part, joining, completed, wholes}
-use Rattle.x25_circuit.specs.declared.params.Params.{Params}
-use Rattle.x25_circuit.specs.declared.error.CircuitError.TheVariants.{BadParameter}
-use Rattle.x25_circuit.specs.declared.state.State.TheVariants.{Calling, Open}
-use Rattle.x25_handshakes.specs.laws.Terms.{Terms}
-use Rattle.x25_circuit.specs.Params.{Proposal, default_params, may_propose, may_answer, field_for, said_in}
-use Rattle.x25_circuit.specs.Circuit.{CircuitSettings, silent, Circuit, entered}
-use Rattle.x25_circuit.specs.Notice.{CallRequest, connected, deliveries}
-use Rattle.x25_circuit.specs.Hearing.{answers, unless, takes, hears_status, confirms, status, request_in, goes, clears_for, collides}
-use Rattle.x25_circuit.specs.Cause.{is_of_end, may_give, is_fault_of_clear, is_fault_of_reset}
-use Rattle.x25_circuit.specs.Calling.{Outcome, Refused, Request, Calls, Accepts, Clears, Sends, Interrupts, Resets, SaysReady, SaysNotReady, does, request_of}
-use Rattle.x25_circuit.specs.Calling.{call_sent, may_call, outcome, Pulled, pulled, pull_open, data_packet}
-use Rattle.x25_handshakes.specs.laws.Handshake.{Side, Live, Left, At, OwnStep, live, left}
-use Rattle.x25_handshakes.specs.laws.Stretch.{Data, Call, Accept, Stretch, stretch_does, stretch_fails, pulls, by_ground, takes_data, takes_status, data_ground}
-use Rattle.x25_handshakes.specs.laws.Stretch.{ack_ground, Packet}
-use Rattle.x25_handshakes.specs.laws.Stretch as nested
+use Rattle.x25_layer.proofs.Names.{◌≡◌, ℕ, ◌+◌, ◌%◌, List, [], ◌∷◌, ◌++◌, length, Option, Some, None, Bool, true, false, nat_lt, nat_le, ◌==◌, ◌&&◌, ◌||◌}
+use Rattle.x25_layer.proofs.Names.{if◌then◌else◌, refl, sym, ap, subst, ◌∙◌, Role, Dte, Dce, PlainPacket, call, accept, clear, clear_conf, user_data, rr, rnr}
+use Rattle.x25_layer.proofs.Names.{interrupt, interrupt_conf, reset, reset_conf, restart, restart_conf, HasChannel, Marks, Message, Piece, piece_of, no_part}
+use Rattle.x25_layer.proofs.Names.{joining, completed, wholes, Params, BadParameter, Calling, Open, Terms, Proposal, default_params, may_propose, may_answer}
+use Rattle.x25_layer.proofs.Names.{field_for, said_in, CircuitSettings, Circuit, CallRequest, connected, deliveries, answers, unless, takes, hears_status}
+use Rattle.x25_layer.proofs.Names.{confirms, request_in, goes, clears_for, collides, Outcome, Refused, Request, Calls, Accepts, Clears, Sends, Interrupts}
+use Rattle.x25_layer.proofs.Names.{Resets, SaysReady, SaysNotReady, does, request_of, call_sent, may_call, outcome, Pulled, pulled, pull_open, Side, Live, Left}
+use Rattle.x25_layer.proofs.Names.{At, OwnStep, live, left, Stretch, Packet, Phase, Unused, Waiting, Offered, Crossed, Talking, Connection, channel_takes}
+use Rattle.x25_circuit.specs.{Calling.{data_packet}, Cause.{is_of_end, may_give, is_fault_of_clear, is_fault_of_reset}, Circuit.{silent, entered}}
+use Rattle.x25_circuit.specs.{Hearing.{status}, Message.{More, Last}}
+use Rattle.x25_handshakes.specs.laws.{Calls.{in_transfer, call_crosses, calling_talk, called_talk}, Channel.{lifted_call}, Stretch.{ack_ground}}
+use Rattle.x25_handshakes.specs.laws.Stretch.{Data, Call, Accept, stretch_does, stretch_fails, pulls, by_ground, takes_data, takes_status, data_ground}
 use Rattle.x25_handshakes.specs.laws.Transfer.{lifted}
-use Rattle.x25_handshakes.specs.laws.Calls.{Phase, Unused, Waiting, Offered, Crossed, Talking, Connection, in_transfer, call_crosses, calling_talk, called_talk}
-use Rattle.x25_handshakes.specs.laws.Calls as nested_calls
-use Rattle.x25_handshakes.specs.laws.Channel.{lifted_call, channel_takes, channel_acts}
-use Rattle.x25_handshakes.specs.laws.PeerLayers.{found}
-use Rattle.x25_layer.specs.laws.Bare.{bare}
+use Rattle.x25_layer.proofs.{Names.{channel_acts, found, bare}, ParamsLemmas.{no_field, call_proposes}, Sees.{Heeds, act_of, pull_act}}
 use Rattle.x25_layer.proofs.Sees.{talk_of, Agreed, sent_on, taken_on, AreAgreedIn, AreAgreed, view, ParamsLaws, bare_if, IsQuietIf, TellNoFault, Follows, Does}
-use Rattle.x25_layer.proofs.Sees.{Heeds, act_of, pull_act}
-use Rattle.x25_layer.proofs.ParamsLemmas.{no_field, call_proposes}
+use Rattle.x25_packet.specs.Digits.{digits_of_text}
+use Rattle.x25_handshakes.specs.laws.Stretch as nested
+use Rattle.x25_handshakes.specs.laws.Calls as nested_calls
 
 -- a number isn't none
 pub some_none : (n : ℕ) → Some n ≡ None → ⊥

@@ -1,36 +1,14 @@
 -- Where nothing is in flight and a pull gives nothing, what waits waits for the other end's user: from what is known of the nested handshakes.
-use Rattle.std.proofs.Common.{◌≡◌, ◌⊎◌, inl, inr, ℕ, ◌+◌, ◌≤◌, List, [], ◌++◌, length, Option, Some, None, Bool, true, false, option_to_list, refl, sym, ap}
-use Rattle.std.proofs.Common.{◌∙◌, length-append, arith}
-use Rattle.std.proofs.lemmas.Option.{same_Some, none-some}
+use Rattle.x25_layer.proofs.Names.{◌≡◌, ◌⊎◌, inl, inr, ℕ, ◌+◌, ◌≤◌, List, [], ◌++◌, length, Option, Some, None, Bool, true, false, option_to_list, refl, sym}
+use Rattle.x25_layer.proofs.Names.{ap, ◌∙◌, length-append, arith, same_Some, none-some, Dte, Dce, PlainPacket, wholes, Terms, Circuit, is_open, waits, Side}
+use Rattle.x25_layer.proofs.Names.{Live, Left, has_left, At, state_of, Stretch, Phase, Talking, Connection, Channels, Pair, pair_run, pair_start, messages}
+use Rattle.x25_layer.proofs.Names.{name_at, open_call, open_at, Ranges, LayerSettings, Layer, is_channel, layer_pulled, bare_layers, name_of, End, TwoLayers}
 use Rattle.std.proofs.lemmas.Bool.{true≢false}
-use Rattle.x25_bits.specs.declared.role.Role.TheVariants.{Dte, Dce}
-use Rattle.x25_packet.specs.Packet.{PlainPacket}
-use Rattle.x25_circuit.specs.Message.{wholes}
-use Rattle.x25_handshakes.specs.laws.Terms.{Terms}
-use Rattle.x25_circuit.specs.Circuit.{Circuit, is_open, waits}
-use Rattle.x25_handshakes.specs.laws.Handshake.{Side, Live, Left, has_left, At, state_of}
-use Rattle.x25_handshakes.specs.laws.Stretch.{Stretch}
-use Rattle.x25_handshakes.specs.laws.Calls.{Phase, Talking, Connection}
-use Rattle.x25_handshakes.specs.laws.Layers.{Channels, Pair, pair_run, pair_start}
-use Rattle.x25_handshakes.specs.laws.Histories.{messages, name_at}
-use Rattle.x25_handshakes.specs.laws.Arrivals.{open_in, open_phase, open_call, open_at}
-use Rattle.x25_handshakes.specs.laws.Drained.{is_up, pulled_at, IsOpenThere, AllIsKnown}
-use Rattle.x25_layer.specs.declared.ranges.Ranges.{Ranges}
-use Rattle.x25_layer.specs.Layer.{LayerSettings, Layer, is_channel}
-use Rattle.x25_layer.specs.Calls.{layer_pulled}
-use Rattle.x25_layer.specs.laws.Bare.{bare_layers}
-use Rattle.x25_layer.specs.laws.Transcript.{name_of}
-use Rattle.x25_layer.specs.laws.TwoLayers.{End, TwoLayers, settings_of, run, start}
-use Rattle.x25_layer.specs.laws.Law.{Always, HasAllOf, IsIdleTo}
+use Rattle.x25_handshakes.specs.laws.{Arrivals.{open_in, open_phase}, Drained.{is_up, pulled_at, IsOpenThere, AllIsKnown}}
+use Rattle.x25_layer.proofs.{ArrivalLemmas.{OpenEnd, open_end}, LawLemmas.{always_arrives}, LayerLemmas.{layer_pulls}, LayerSees.{ShowsAt}}
+use Rattle.x25_layer.proofs.{Names.{settings_of, run, start, Always}, RunLemmas.{Premises, InRun, in_run}, Sees.{Agreed, view}, StepLemmas.{name_eq}}
+use Rattle.x25_layer.{proofs.TwoLayerLemmas.{SeesEnd}, specs.laws.Law.{HasAllOf, IsIdleTo}}
 use Rattle.x25_layer.specs.laws.WaitLaw.{ClosedKeepNone, NoneOpenInRestart, IsOpenAtBoth, WaitsForUser, NotOpen, Arrived, NotReady, WaitForUsersAlone}
-use Rattle.x25_layer.proofs.Sees.{Agreed, view}
-use Rattle.x25_layer.proofs.LayerSees.{ShowsAt}
-use Rattle.x25_layer.proofs.LayerLemmas.{layer_pulls}
-use Rattle.x25_layer.proofs.StepLemmas.{name_eq}
-use Rattle.x25_layer.proofs.TwoLayerLemmas.{SeesEnd}
-use Rattle.x25_layer.proofs.RunLemmas.{Premises, InRun, in_run}
-use Rattle.x25_layer.proofs.ArrivalLemmas.{OpenEnd, open_end}
-use Rattle.x25_layer.proofs.LawLemmas.{always_arrives}
 
 -- ---- a circuit that isn't open keeps nothing
 

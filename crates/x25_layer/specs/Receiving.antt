@@ -1,13 +1,13 @@
 -- What a layer makes of octets that its link handed up, whatever they are.
 use Rattle.std.specs.Prelude.{ℕ, List, Option, Some, None, Bool, true, false, Result, Ok, Err, if◌then◌else◌}
-use Rattle.x25_packet.specs.declared.packet.Packet.{Packet}
+use Rattle.x25_packet.specs.declared.form.Form.{Form}
 use Rattle.x25_packet.specs.declared.error.PacketError.{PacketError}
-use Rattle.x25_packet.specs.Packet.{PlainPacket, plain}
+use Rattle.x25_packet.specs.Packet.{PlainPacket}
 use Rattle.x25_packet.specs.Reading.{channel_in}
 use Rattle.x25_packet.specs.Spelling.{longest_user}
-use Rattle.x25_packet.specs.Taking.{read_in}
-use Rattle.x25_circuit.specs.Circuit.{CircuitSettings, Circuit}
-use Rattle.x25_circuit.specs.Hearing.{Answer, answers, undecoded}
+use Rattle.x25_packet.specs.Taking.{IsFormOf, read_in}
+use Rattle.x25_circuit.specs.Hearing.{hears as circuit_hears}
+use Rattle.x25_layer.specs.declared.layer.Layer as code
 use Rattle.x25_layer.specs.Layer.{LayerSettings, Layer, LayerAnswer, is_channel, answers_on, drops, layer_answers}
 use Rattle.x25_layer.specs.Layer.{layer_undecoded}
 
@@ -23,15 +23,11 @@ answer_to c l octets (Err e) = undecoded_at c l e (channel_in octets)
 abbrev pub layer_hears : LayerSettings → Bool → Layer → List ℕ → LayerAnswer
 layer_hears c wide l octets = answer_to c l octets (read_in wide (longest_user c.circuit.long_data) octets)
 
+-- what such octets are read to in any form, where that is asked
+abbrev pub IsReadBy : code.Layer → List ℕ → Option (Result Form PacketError) → Type 0
+IsReadBy v octets form = IsFormOf (longest_user v.long_data) octets form
+
 -- ---- step by step
-
-abbrev pub plain_read : Result Packet PacketError → Result PlainPacket PacketError
-plain_read (Ok packet) = Ok (plain packet)
-plain_read (Err e) = Err e
-
-abbrev pub circuit_hears : CircuitSettings → Circuit → Result PlainPacket PacketError → Answer
-circuit_hears c x (Ok packet) = answers c x packet
-circuit_hears c x (Err e) = undecoded c x e
 
 -- the circuit of the channel answers, in a layer that is ready
 abbrev pub channel_hears : LayerSettings → Layer → ℕ → Result PlainPacket PacketError → LayerAnswer

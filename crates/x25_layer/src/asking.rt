@@ -60,7 +60,7 @@ impl Layer {
         ensures missing { IsErrOf result LayerError.NoMemory → may_ask_memory (plain_request request.entry) ≡ true }
     {
         let place = usize::from(channel) - 1;
-        self.busy.insert(channel);
+        self.busy.note(channel, true);
         match self.circuits[place].ask(request) {
             Ok(packet) => Ok(packet),
             Err(error) => Err(LayerError::of_circuit(error)),

@@ -9,15 +9,6 @@ use crate::error::LayerError;
 use std::alloc::Global;
 use x25_circuit::Circuit;
 
-// Whether no message waits in a circuit, and no answer is awaited.
-fn is_idle(circuit: &Circuit) -> bool
-    ensures { result ≡ true → IsIdle circuit.now }
-{
-    let waits = circuit.waits();
-    let awaits = circuit.awaits();
-    waits == 0 && !awaits.is_any()
-}
-
 // The bit of a place in a word, or none.
 fn bit(place: u16, is_set: bool) -> u64
     requires { place < 64 }
@@ -87,8 +78,8 @@ impl Busy {
         Some((64 * at + left.trailing_zeros() as usize) as u16)
     }
 
-    // With this channel, where it is so.
-    fn insert_if(&mut self, channel: u16, is_busy: bool)
+    /// With this channel, where it is busy.
+    pub(crate) fn note(&mut self, channel: u16, is_busy: bool)
         requires { is_number self.old.count channel ≡ true }
         ensures others { (k : ℕ) → IsOutside self.new.words.items k → IsOutside self.old.words.items k }
         ensures this { IsOutside self.new.words.items channel → is_busy ≡ false }
@@ -96,27 +87,6 @@ impl Busy {
     {
         self.words[usize::from(channel / 64)] |= bit(channel % 64, is_busy);
         self.used |= bit(channel / 64, is_busy);
-    }
-
-    /// With this channel.
-    pub(crate) fn insert(&mut self, channel: u16)
-        requires { is_number self.old.count channel ≡ true }
-        ensures others { (k : ℕ) → IsOutside self.new.words.items k → IsOutside self.old.words.items k }
-        ensures this { IsOutside self.new.words.items channel → ⊥ }
-        ensures places { self.new.count ≡ self.old.count }
-    {
-        self.insert_if(channel, true);
-    }
-
-    /// With this channel, where its circuit isn't idle.
-    pub(crate) fn note(&mut self, channel: u16, circuit: &Circuit)
-        requires { is_number self.old.count channel ≡ true }
-        ensures others { (k : ℕ) → (k ≡ channel → ⊥) → IsOutside self.new.words.items k
-            → IsOutside self.old.words.items k }
-        ensures this { IsOutside self.new.words.items channel → IsIdle circuit.now }
-        ensures places { self.new.count ≡ self.old.count }
-    {
-        self.insert_if(channel, !is_idle(circuit));
     }
 
     /// Without this channel, which is one of them, where its circuit is idle.
@@ -128,7 +98,7 @@ impl Busy {
         ensures this { IsOutside self.new.words.items channel → IsIdle circuit.now }
         ensures places { self.new.count ≡ self.old.count }
     {
-        self.words[usize::from(channel / 64)] &= !bit(channel % 64, is_idle(circuit));
+        self.words[usize::from(channel / 64)] &= !bit(channel % 64, circuit.is_idle());
     }
 
     /// With all of these whose circuits aren't idle; the first is on channel 1.
@@ -141,7 +111,7 @@ impl Busy {
         let mut channel = 0;
         for circuit in circuits {
             channel += 1;
-            self.note(channel, circuit);
+            self.note(channel, !circuit.is_idle());
         }
     }
 }

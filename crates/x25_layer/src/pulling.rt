@@ -1,11 +1,9 @@
 //! The data packets that wait, one at a time, of channels in rising order.
-ghost use Rattle.std.specs.Prelude.{◌≡◌, ◌<◌, ◌≤◌, length, true, false, IfSome};
+ghost use Rattle.std.specs.Prelude.{◌≡◌, false};
 ghost use Rattle.x25_packet.specs.Spelling.{IsChannel};
 ghost use Rattle.x25_layer.specs.code.Answering.{PullsNext};
-ghost use Rattle.x25_layer.specs.code.Pulling.{PullsOne, GoesOn};
-ghost use Rattle.x25_layer.specs.code.Idle.{IdleBeside};
+ghost use Rattle.x25_layer.specs.code.Pulling.{PullsOne};
 
-use crate::busy::Busy;
 use crate::layer::Layer;
 use crate::sheet::Sheet;
 use x25_circuit::{Circuit, what_waits_is_pulled};
@@ -38,33 +36,6 @@ fn pull_waiting(circuit: &mut Circuit, channel: u16, sheet: &mut Sheet) -> bool
     true
 }
 
-// The next data packet of the circuits that may be busy, of those behind a channel.
-#[inline(always)]
-fn pull_next(
-    circuits: &mut Vec<Circuit>,
-    busy: &mut Busy,
-    sheet: &mut Sheet,
-    behind: u16,
-) -> Option<u16>
-    requires few { length circuits.old.items ≤ 4095 }
-    requires places { busy.old.count ≡ length circuits.old.items }
-    requires still { IdleBeside busy.old.words.items circuits.old.items }
-    ensures { GoesOn circuits.old.items circuits.new.items sheet.new behind result busy.new }
-{
-    what_waits_is_pulled();
-    let mut channel = behind;
-    while let Some(next) = busy.after(channel) {
-        let circuit = &mut circuits[usize::from(next) - 1];
-        let is_put = pull_one(circuit, next, sheet);
-        busy.leave_idle(next, circuit);
-        if is_put {
-            return Some(next);
-        }
-        channel = next;
-    }
-    None
-}
-
 impl Layer {
     /// The next data packet that may be sent, of the channels behind this one in rising order, is to be put. It answers
     /// the channel; where none has one, nothing happens.
@@ -72,6 +43,17 @@ impl Layer {
     pub fn pull(&mut self, behind: u16) -> Option<u16>
         ensures { PullsNext self.old self.new behind result }
     {
-        pull_next(&mut self.circuits, &mut self.busy, &mut self.sheet, behind)
+        what_waits_is_pulled();
+        let mut channel = behind;
+        while let Some(next) = self.busy.after(channel) {
+            let circuit = &mut self.circuits[usize::from(next) - 1];
+            let is_put = pull_one(circuit, next, &mut self.sheet);
+            self.busy.leave_idle(next, circuit);
+            if is_put {
+                return Some(next);
+            }
+            channel = next;
+        }
+        None
     }
 }

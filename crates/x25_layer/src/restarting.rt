@@ -1,5 +1,5 @@
 //! Restart. ITU-T X.25 (10/96), section 3.3.
-ghost use Rattle.std.specs.Prelude.{◌≡◌, suc, ◌-◌, ◌^◌, ◌<◌, ◌≤◌, [], length};
+ghost use Rattle.std.specs.Prelude.{◌≡◌, suc, ◌-◌, ◌^◌, ◌<◌, ◌≤◌, [], length, false};
 ghost use Rattle.x25_packet.specs.Packet.{restart, restart_conf};
 ghost use Rattle.x25_packet.specs.Spelling.{spelling_of};
 ghost use Rattle.x25_circuit.specs.Circuit.{begun};
@@ -10,6 +10,7 @@ ghost use Rattle.x25_layer.specs.Layer.{Layer as State};
 ghost use Rattle.x25_layer.specs.code.FitsLayer.{FitsLayer};
 ghost use Rattle.x25_layer.specs.code.Answering.{spelled, Hears, Answers};
 ghost use Rattle.x25_layer.specs.Calls.{Restarts};
+ghost use Rattle.x25_layer.specs.Report.{is_of_channel};
 
 use crate::circuits::{begin_all, forget_all};
 use crate::error::LayerError;
@@ -115,7 +116,8 @@ impl Layer {
     pub(crate) fn hear_restart<'a>(&mut self, cause: u8, diagnostic: u8) -> Report<'a>
         requires restarts { self.old.restarts < 2 ^ 64 - 1 }
         requires none { self.old.sheet ≡ [] }
-        ensures { Hears self.old self.new result 1 (λ c l. layer_answers c l (restart cause diagnostic)) }
+        ensures hears { Hears self.old self.new result [] [] (λ c l. layer_answers c l (restart cause diagnostic)) }
+        ensures told { is_of_channel result ≡ false }
     {
         if self.restarting {
             self.restart_is_done();
@@ -131,7 +133,8 @@ impl Layer {
     pub(crate) fn hear_restart_conf<'a>(&mut self) -> Report<'a>
         requires restarts { self.old.restarts < 2 ^ 64 - 1 }
         requires none { self.old.sheet ≡ [] }
-        ensures { Hears self.old self.new result 1 (λ c l. layer_answers c l restart_conf) }
+        ensures hears { Hears self.old self.new result [] [] (λ c l. layer_answers c l restart_conf) }
+        ensures told { is_of_channel result ≡ false }
     {
         if self.restarting {
             self.restart_is_done();

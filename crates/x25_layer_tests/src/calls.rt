@@ -54,20 +54,21 @@ pub fn call(
     (told, layer.call(link, called, calling, user, &proposal))
 }
 
-/// Spare memory for a message.
-pub fn spare(alloc: Global) -> Option<Octets> {
+/// Memory for a message.
+pub fn message(alloc: Global) -> Option<Octets> {
     Octets::new(alloc).ok()
 }
 
-/// Octets are handed up, and with `wide` are read in all forms. None where a count is full or no memory is spare.
+/// Octets are handed up, and with `wide` are read in all forms. None where a count is full.
 pub fn hear<'a>(
     layer: &mut Layer,
     wide: bool,
     octets: &'a [u8],
-    spare: &mut Option<Octets>,
+    message: &mut Octets,
 ) -> Option<Report<'a>> {
-    if layer.full() || spare.is_none() {
+    if layer.full() {
         return None;
     }
-    Some(layer.packet(wide, octets, spare))
+    let form = if wide { Some(layer.form(octets)) } else { None };
+    Some(layer.packet(&form, octets, message))
 }

@@ -1,9 +1,9 @@
 //! What a layer leaves to be put, and what it says of itself then; `tests/golden` has the packets of whole calls.
 
-use crate::calls::{ask, call, hear, layer, layer_with, pull, restart, spare, up};
+use crate::calls::{ask, call, hear, layer, layer_with, message, pull, restart, up};
 use crate::refusals::{UP, request};
 use std::alloc::Global;
-use x25_circuit::{Marks, Notice, Request};
+use x25_circuit::{Marks, Notice, Octets, Request};
 use x25_layer::{Layer, LayerError, Params, Ranges, Report, Role, Stretch};
 
 /// What happens to a layer whose link is up.
@@ -242,13 +242,13 @@ fn pulled(layer: &Layer, channel: Option<u16>) -> (Answer, Put) {
     }
 }
 
-fn told(report: &Report) -> Answer {
+fn told(report: &Report, message: &Octets) -> Answer {
     match report {
         Report::Channel {
             notice: Some(notice),
             ..
         } => match notice {
-            Notice::Delivered { user, .. } => (0, Some(user.as_slice().len())),
+            Notice::Delivered { .. } => (0, Some(message.as_slice().len())),
             Notice::Interrupted { user } => (0, Some(user.len())),
             Notice::Fault { diagnostic } => (*diagnostic, None),
             _ => OK,
@@ -270,8 +270,8 @@ fn sends(alloc: Global, layer: &mut Layer, channel: u16, count: usize) -> (Answe
     answered(layer, answer)
 }
 
-// Whether a message is handed over.
-fn is_handed_over(report: &Report) -> bool {
+// Whether a message is told.
+fn is_message(report: &Report) -> bool {
     matches!(
         report,
         Report::Channel {
@@ -281,12 +281,18 @@ fn is_handed_over(report: &Report) -> bool {
     )
 }
 
-// Memory is spare behind it exactly where no message is handed over.
+// The octets in the place of the message, before something comes.
+const BEFORE: &[u8] = b"before";
+
+// What is told, where the octets in the place of the message are as they were unless one is told.
 fn hears(alloc: Global, layer: &mut Layer, octets: &[u8], is_wide: bool) -> (Answer, Put) {
-    let mut spare = spare(alloc);
-    match hear(layer, is_wide, octets, &mut spare) {
-        Some(report) if is_handed_over(&report) != spare.is_some() => {
-            (told(&report), head(layer.to_put()))
+    let Some(mut message) = message(alloc) else {
+        return (NO_MEMORY, None);
+    };
+    message.set(BEFORE, &[]);
+    match hear(layer, is_wide, octets, &mut message) {
+        Some(report) if is_message(&report) || message.as_slice() == BEFORE => {
+            (told(&report, &message), head(layer.to_put()))
         }
         _ => (NO_MEMORY, None),
     }
@@ -533,7 +539,7 @@ fn unconfirmed(alloc: Global) -> Option<(usize, usize, usize)> {
     }
     ask(&mut layer, UP, 1, request(7)).ok()?;
     let asked = layer.unconfirmed(1);
-    hear(&mut layer, false, &[0x10, 0x01, 0x21], &mut spare(alloc))?;
+    hear(&mut layer, false, &[0x10, 0x01, 0x21], &mut message(alloc)?)?;
     Some((asked, layer.unconfirmed(1), layer.unconfirmed(3)))
 }
 

@@ -1,7 +1,8 @@
 -- What the code's variables stand for after a small change.
 use Rattle.std.proofs.Common.{◌≡◌, ℕ, ◌%◌, List, [], ◌∷◌, ◌++◌, Bool, true, false, if◌then◌else◌, refl, sym, ap, ◌∙◌, append_assoc, add-one, ◌+◌, ◌<◌, ◌==◌}
-use Rattle.std.proofs.Common.{max, arith}
-use Rattle.std.proofs.lemmas.Bool.{eq-eqb, ne_eqb}
+use Rattle.std.proofs.Common.{max, arith, not, length, length-append, ◌≤◌, ◌-◌, ◌&&◌}
+use Rattle.std.specs.Prelude.{IsTrue}
+use Rattle.std.proofs.lemmas.Bool.{eq-eqb, ne_eqb, and_right}
 use Rattle.x25_window.specs.code.Modulo.{resolved}
 use Rattle.std.proofs.lemmas.List.{map-append}
 use Rattle.x25_bits.specs.declared.role.Role.{Role}
@@ -13,9 +14,12 @@ use Rattle.x25_link.specs.Outgoing.{Outgoing, acknowledged_to, gone_back, is_ope
 use Rattle.x25_link.specs.code.OutgoingHeld.{FitsOutgoing}
 use Rattle.x25_link.specs.declared.phase.Phase.{Phase}
 use Rattle.x25_link.specs.declared.phase.Phase.TheVariants.{Up}
-use Rattle.x25_link.specs.Station.{LinkSettings, LinkStation, Side, with_near, with_nothing, fresh, is_up, wanted, may_send, pumped, pumped_once}
-use Rattle.x25_link.specs.Hearing.{acknowledged, peer_is, goes_back}
+use Rattle.x25_link.specs.Station.{LinkSettings, LinkStation, Side, with_near, with_nothing, fresh, is_up, is_busy, wanted, may_send, pumped, pumped_once, owes_ready}
+use Rattle.x25_bits.specs.declared.seq.Seq.{Seq}
+use Rattle.x25_window.specs.Receiver.{FitsTaken}
+use Rattle.x25_link.specs.Hearing.{acknowledged, peer_is, goes_back, is_taken, takes}
 use Rattle.x25_link.specs.code.Fits.{FitsStation, FitsSide, Made}
+use Rattle.x25_link.proofs.EndLemmas.{true_false, pumped_settled, once_none}
 
 pub made_more : (c : LinkSettings) (role : Role) (before old made : List (List ℕ)) (frames : List PlainFrame) (frame : PlainFrame) → role ≡ c.role
     → Made c before old frames
@@ -58,6 +62,20 @@ sends_fits c v b before old made s o out nr false near h number may outgoing e =
 pub pumped_more : (n k : ℕ) (t : Side) → pumped (n + 1) k t ≡ pumped_once k (pumped n k t)
 unfolding pumped
 pumped_more n k t = rw (add-one n) refl
+
+-- once nothing may be sent, the others of seven send nothing
+pub pumped_all : (c : LinkSettings) (v : StationCode) (before made : List (List ℕ)) (t : Side) (i : ℕ) → i ≤ 7
+    → false ≡ may_send c.window (pumped i c.window t).near → FitsSide c v before made (pumped_once c.window (pumped i c.window t))
+    → FitsSide c v before made (pumped 7 c.window t)
+pumped_all c v before made t i low none side =
+    let k = c.window in
+    let seven : 7 ≡ (7 - i) + i = omega (arith, low) in
+    rw (ap (λ (n : ℕ). pumped n k t) seven ∙ pumped_settled (7 - i) i k t (sym none)) (rw (once_none k (pumped i k t) (sym none)) at side)
+
+-- whether an RR is owed, by the code's variables
+pub owes_is : (c : LinkSettings) (v : StationCode) (s : LinkStation) → FitsStation c v s → (up said busy : Bool) → up ≡ is_up v.phase → v.said_busy ≡ said
+    → busy ≡ is_busy s → owes_ready s ≡ (up && (said && not busy))
+owes_is c v s fits up said busy e f g = rw (sym fits.phase, sym fits.said_busy, f, sym e, sym g) refl
 
 pub said : (c : LinkSettings) (v : StationCode) (s : LinkStation) (b : Bool) → FitsStation c v s
     → FitsStation c (record v { said_busy = b }) (record s { said_busy = b })
@@ -196,3 +214,39 @@ recovery_fits c v s b fits = record {
   rejecting = fits.rejecting;
   said_busy = fits.said_busy;
 }
+
+-- ---- an I frame
+
+pub received : (c : LinkSettings) (v : StationCode) (s : LinkStation) (r : Seq) (packets : List (List ℕ)) → FitsStation c v s
+    → FitsTaken r (length packets) → FitsStation c (record v { receiver = r }) (record s { taken = packets })
+received c v s r packets fits taken = record {
+  role = fits.role;
+  longest = fits.longest;
+  retries = fits.retries;
+  outgoing = fits.outgoing;
+  taken = taken;
+  phase = fits.phase;
+  tries = fits.tries;
+  recovery = fits.recovery;
+  peer_busy = fits.peer_busy;
+  rejecting = fits.rejecting;
+  said_busy = fits.said_busy;
+}
+
+pub taken_fits : (c : LinkSettings) (v : StationCode) (before made : List (List ℕ)) (t : Side) (r : Seq) (packet : List ℕ) → FitsSide c v before made t
+    → FitsTaken r (length t.near.taken + 1) → FitsSide c (record v { receiver = r; rejecting = false }) before made (takes packet t)
+taken_fits c v before made t r packet side taken =
+    let more : length t.near.taken + 1 ≡ length (t.near.taken ++ packet ∷ []) = omega (arith, length-append t.near.taken (packet ∷ [])) in
+    record {
+      near = received c (record v { rejecting = false }) (record t.near { rejecting = false }) r _ (rejecting c v t.near false side.near) (rw more at taken);
+      out = side.out;
+    }
+
+pub busy_passes : (ns : ℕ) (s : LinkStation) → true ≡ is_busy s → is_taken ns s ≡ false
+busy_passes ns s busy = rw (sym busy) refl
+
+pub other_passes : (ns : ℕ) (s : LinkStation) → (ns ≡ wanted s → IsTrue false) → is_taken ns s ≡ false
+other_passes ns s other = and_right (not (is_busy s)) _ (ne_eqb _ _ (λ e. true_false (sym (other e))))
+
+pub wanted_taken : (ns : ℕ) (s : LinkStation) → false ≡ is_busy s → ns ≡ wanted s → is_taken ns s ≡ true
+wanted_taken ns s free same = rw (sym free, eq-eqb _ _ same) refl

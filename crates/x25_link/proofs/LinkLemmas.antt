@@ -2,8 +2,11 @@
 use Rattle.std.proofs.Common.{length, arith, ◌≤◌, ◌≡◌, ℕ, ◌+◌, ◌%◌, List, [], ◌∷◌, ◌++◌, append-nil, Bool, true, false, not, if◌then◌else◌, refl, sym, ap, ◌∙◌, subst}
 use Rattle.std.proofs.lemmas.Bool.{and_left, and_right}
 use Rattle.std.proofs.lemmas.List.{length-drop}
-use Rattle.std.specs.Prelude.{nat_lt, ◌&&◌, ◌||◌}
-use Rattle.x25_frame.specs.Frame.{info}
+use Rattle.std.specs.Prelude.{nat_lt, ◌&&◌, ◌||◌, Result, Ok}
+use Rattle.x25_frame.specs.Frame.{PlainFrame, info}
+use Rattle.x25_frame.specs.Reading.{frame_of}
+use Rattle.x25_frame.specs.declared.error.FrameError.{FrameError}
+use Rattle.x25_bits.specs.declared.role.Role.{Role}
 use Rattle.x25_frame.specs.Spelling.{spelling_of}
 use Rattle.x25_link.specs.declared.outgoing.Outgoing.{Outgoing as OutgoingCode}
 use Rattle.x25_link.specs.declared.station.LinkStation.{LinkStation as StationCode}
@@ -13,12 +16,13 @@ use Rattle.x25_link.proofs.FitsLemmas.{sends_fits}
 use Rattle.x25_link.specs.declared.phase.Phase.{Phase}
 use Rattle.x25_link.specs.declared.phase.Phase.TheVariants.{Up}
 use Rattle.x25_link.specs.Station.{LinkSettings, LinkStation, Side, is_up, is_busy, wanted, with_near, ready, may_send, owes_ready, ended}
-use Rattle.x25_link.specs.Link.{alone, asks_again, closed_by, fires, puts}
+use Rattle.x25_link.specs.Hearing.{other, row_of_frame}
+use Rattle.x25_link.specs.Link.{alone, asks_again, closed_by, fires, hears, puts}
 use Rattle.x25_link.specs.code.Fits.{FitsStation, FitsSide, Made}
 use Rattle.x25_link.proofs.OutgoingLemmas.{sent_length}
 use Rattle.x25_link.specs.code.Bounds.{FewWait, FewStand, WindowIsSmall}
 use Rattle.x25_link.specs.code.FitsLink.{ShownLink, FitsLink}
-use Rattle.x25_link.proofs.EndLemmas.{put_once, ready_sends, ended_stays}
+use Rattle.x25_link.proofs.EndLemmas.{true_false, put_once, ready_sends, ended_stays}
 
 -- ---- a call begins: no frame is made yet
 
@@ -28,6 +32,19 @@ begins c old inside made s same fits none = record {
   near = (subst (λ (v : ShownLink). FitsLink c v s) (sym same) fits).near;
   out = none;
 }
+
+-- ---- a frame that comes while the link is up
+
+pub hears_up : (c : LinkSettings) (v : StationCode) (from : Role) (octets : List ℕ) (t : Side) (frame : PlainFrame) → FitsStation c v t.near
+    → is_up v.phase ≡ true → from ≡ other v.role → frame_of from v.parameters.n1 octets ≡ Ok frame
+    → hears c octets (frame_of (other c.role) c.longest octets) t.near.phase t ≡ row_of_frame c octets frame t
+hears_up c v from octets t frame fits up same read =
+    ap (λ (r : Result PlainFrame FrameError). hears c octets r t.near.phase t) (rw (same, fits.role, fits.longest) at read)
+    ∙ by_phase t.near.phase (sym (ap is_up fits.phase) ∙ up)
+  where
+    by_phase : (p : Phase) → is_up p ≡ true → hears c octets (Ok frame) p t ≡ row_of_frame c octets frame t
+    by_phase Up e = refl
+    by_phase p e = true_false (sym e)
 
 -- ---- a packet that is handed down where nothing may be sent
 

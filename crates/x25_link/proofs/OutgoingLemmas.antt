@@ -23,10 +23,10 @@ pub record Parts (k : ℕ) (h : Held (List ℕ)) (q : List (List ℕ)) (o : Outg
   pub sent : o.sent ≤ length o.given
   pub few : length q ≤ 256
 
-pub parts : (k : ℕ) (b : OutgoingCode) (o : Outgoing) → FitsOutgoing k b o → Parts k b.sender b.queue o
+pub parts : (k : ℕ) (b : OutgoingCode) (o : Outgoing) → FitsOutgoing k b o → Parts k b.sender b.queue.items o
 parts k b o fits = record { sender = fits.sender; queue = fits.queue; sent = fits.sent; few = fits.few }
 
-pub whole : (k : ℕ) (b : OutgoingCode) (o : Outgoing) → Parts k b.sender b.queue o → FitsOutgoing k b o
+pub whole : (k : ℕ) (b : OutgoingCode) (o : Outgoing) → Parts k b.sender b.queue.items o → FitsOutgoing k b o
 whole k b o fits = record { sender = fits.sender; queue = fits.queue; sent = fits.sent; few = fits.few }
 
 pub part_length : (k : ℕ) (h : Held (List ℕ)) (q : List (List ℕ)) (o : Outgoing) → Parts k h q o → length (take o.sent o.given) ≡ o.sent

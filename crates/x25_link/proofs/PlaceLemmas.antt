@@ -1,7 +1,8 @@
 -- How many packets stand in long places.
 use Rattle.std.proofs.Common.{◌≡◌, ℕ, ◌+◌, ◌<◌, ◌≤◌, List, [], ◌∷◌, ◌++◌, length, drop, Some, slice_get, length-append, Bool, true, false, if◌then◌else◌, refl}
-use Rattle.std.proofs.Common.{ap, ◌∙◌, arith}
+use Rattle.std.proofs.Common.{◌-◌, sym, ap, ◌∙◌, arith}
 use Rattle.std.specs.Prelude.{nat_le}
+use Rattle.circular_buffer.specs.Buffer.{Buffer, buffer, keep_last}
 use Rattle.x25_link.specs.code.Places.{long_of, longs, left_for, ShownSpares}
 
 by_size : (b : Bool) → (if b then 0 else 1) ≤ 1
@@ -40,7 +41,18 @@ first_of [] x e = absurd (none e)
     none e = cc
 first_of (y ∷ xs) x e = cc
 
+-- the first packet that waits, taken out of the ring
+pub popped : (b b' : Buffer (List ℕ)) (x : List ℕ) (n : ℕ) → Some x ≡ slice_get b.items 0 → b' ≡ buffer (drop 1 b.items) n → b.items ≡ x ∷ b'.items
+popped b b' x n e f = first_of b.items x (sym e) ∙ ap (λ (r : Buffer (List ℕ)). x ∷ r.items) (sym f)
+
 -- ---- a packet more: its place is taken
+
+-- one more waits, where there is a place in the ring
+pub pushed : (b b' : Buffer (List ℕ)) (x : List ℕ) → b' ≡ buffer (keep_last b.capacity (b.items ++ x ∷ [])) b.capacity → length b.items < b.capacity
+    → b'.items ≡ b.items ++ x ∷ []
+pushed b b' x e room =
+    let all : length (b.items ++ x ∷ []) - b.capacity ≡ 0 = omega (arith, length-append b.items (x ∷ []), room) in
+    ap (λ (r : Buffer (List ℕ)). r.items) e ∙ ap (λ (n : ℕ). drop n (b.items ++ x ∷ [])) all
 
 pub more_short : (left left' n m : ℕ) (q q' : List (List ℕ)) (x y : List ℕ) → q' ≡ q ++ y ∷ [] → y ≡ x → left' + 1 ≡ left + long_of x → left + (n + length q)
     ≡ 263 + (m + longs q)

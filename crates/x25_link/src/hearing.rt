@@ -4,7 +4,7 @@ ghost use Rattle.x25_frame.specs.Frame.{plain};
 ghost use Rattle.x25_frame.specs.Reading.{frame_of};
 ghost use Rattle.x25_link.specs.Station.{is_up};
 ghost use Rattle.x25_link.specs.code.Fits.{Leads, Hears};
-ghost use Rattle.x25_link.specs.Hearing.{numbered, hears_info, polls, peer_is, goes_back, quiet, row_of_frame, row_of};
+ghost use Rattle.x25_link.specs.Hearing.{numbered, hears_info, polls, peer_is, goes_back, quiet, row_of};
 ghost use Rattle.x25_link.specs.Hearing.{other};
 ghost use Rattle.x25_link.specs.Link.{declines, when_down, when_waiting, hears};
 
@@ -37,11 +37,14 @@ impl LinkStation {
         let Some(acknowledged) = self.acknowledge(nr) else {
             return self.reject(octets, INVALID_NR, out);
         };
-        if !self.takes(ns) {
+        if self.is_busy() || !self.receiver.accept(ns) {
             self.pass_over(p, out);
             return Heard::numbered(None, acknowledged);
         }
-        self.answer(p, out);
+        self.rejecting = false;
+        if p || !self.pump_once(out) {
+            self.ready(false, p, out);
+        }
         Heard::numbered(Some(info), acknowledged)
     }
 
@@ -90,33 +93,6 @@ impl LinkStation {
         self.outgoing.go_back();
         self.poll(command, pf, out);
         Heard::numbered(None, acknowledged)
-    }
-
-    // A frame, in Up.
-    fn hear_frame<'a>(&mut self, octets: &[u8], frame: Frame<'a>, out: &mut Frames) -> Heard<'a>
-        requires place { length out.old < 25 }
-        ensures step { Hears self.old self.new out.old out.new result
-            (λ c t. row_of_frame c octets.now (plain frame.entry) t) }
-        ensures one { length out.new ≤ length out.old + 1 }
-    {
-        match frame {
-            Frame::I { ns, nr, p, info } => self.hear_i(octets, ns, nr, p, info, out),
-            Frame::Rr { command, nr, pf } => self.hear_ready(octets, false, command, nr, pf, out),
-            Frame::Rnr { command, nr, pf } => self.hear_ready(octets, true, command, nr, pf, out),
-            Frame::Rej { command, nr, pf } => self.hear_rej(octets, command, nr, pf, out),
-            Frame::Sabm { p } => {
-                self.send(&Frame::Ua { f: p }, out);
-                self.set_up();
-                Heard::noted(Some(Reason::Reset), true)
-            }
-            Frame::Disc { p } => {
-                self.send(&Frame::Ua { f: p }, out);
-                self.leave(Reason::Disc)
-            }
-            Frame::Ua { .. } => Heard::quiet(),
-            Frame::Dm { .. } => self.leave(Reason::Dm),
-            Frame::Frmr { .. } => self.leave(Reason::FrmrGot),
-        }
     }
 
     // Octets that spell no frame, in Up.
@@ -231,9 +207,28 @@ impl LinkStation {
         if !self.phase.is_up() {
             return self.hear_apart(octets, out);
         }
-        match decode(self.role.other(), self.parameters.n1, octets) {
-            Ok(frame) => self.hear_frame(octets, frame, out),
-            Err(error) => self.hear_error(octets, error, out),
+        let read = decode(self.role.other(), self.parameters.n1, octets);
+        let frame = match read {
+            Ok(frame) => frame,
+            Err(error) => return self.hear_error(octets, error, out),
+        };
+        match frame {
+            Frame::I { ns, nr, p, info } => self.hear_i(octets, ns, nr, p, info, out),
+            Frame::Rr { command, nr, pf } => self.hear_ready(octets, false, command, nr, pf, out),
+            Frame::Rnr { command, nr, pf } => self.hear_ready(octets, true, command, nr, pf, out),
+            Frame::Rej { command, nr, pf } => self.hear_rej(octets, command, nr, pf, out),
+            Frame::Sabm { p } => {
+                self.send(&Frame::Ua { f: p }, out);
+                self.set_up();
+                Heard::noted(Some(Reason::Reset), true)
+            }
+            Frame::Disc { p } => {
+                self.send(&Frame::Ua { f: p }, out);
+                self.leave(Reason::Disc)
+            }
+            Frame::Ua { .. } => Heard::quiet(),
+            Frame::Dm { .. } => self.leave(Reason::Dm),
+            Frame::Frmr { .. } => self.leave(Reason::FrmrGot),
         }
     }
 }

@@ -14,7 +14,6 @@ mod outgoing;
 mod phase;
 mod places;
 mod station;
-mod waiting_packets;
 
 pub use error::LinkError;
 pub use frames::Frames;

@@ -12,10 +12,9 @@ ghost use Rattle.x25_link.specs.declared.phase.Phase.TheVariants.{Down};
 use crate::error::LinkError;
 use crate::frames::{Frames, MOST_FRAMES};
 use crate::heard::Heard;
-use crate::outgoing::Outgoing;
+use crate::outgoing::{Outgoing, PLACES};
 use crate::phase::{Phase, Reason};
 use crate::station::{FRAMES, LinkStation, Parameters};
-use crate::waiting_packets::PLACES;
 use std::alloc::Global;
 use std::marker::Model;
 use std::mem;
@@ -262,14 +261,12 @@ impl Link {
             return Err(LinkError::NoMemory);
         }
         let station = &mut self.station;
-        if station.outgoing.places.left_for(packet.len()) == 0 {
-            return Err(LinkError::NoMemory);
-        }
         let held = station.recovery | station.peer_busy;
         let nr = station.receiver.wanted();
-        station
-            .outgoing
-            .put(packet, held, station.role, nr, &mut self.frames);
+        let outgoing = &mut station.outgoing;
+        if !outgoing.put(packet, held, station.role, nr, &mut self.frames) {
+            return Err(LinkError::NoMemory);
+        }
         Ok(())
     }
 }

@@ -4,8 +4,7 @@ ghost use Rattle.std.specs.Prelude.{is_some, IfSome, OnSome, MatchOption};
 ghost use Rattle.x25_window.specs.code.Modulo.{resolved};
 ghost use Rattle.x25_link.specs.Station.{LinkSettings, LinkStation as StationState, Side};
 ghost use Rattle.x25_link.specs.code.Fits.{FitsStation, FitsSide, Leads};
-ghost use Rattle.x25_link.specs.Hearing.{is_valid, acknowledged, is_taken, takes, answers, passes_over};
-ghost use Rattle.x25_link.specs.Hearing.{polls};
+ghost use Rattle.x25_link.specs.Hearing.{is_valid, acknowledged, passes_over, polls};
 
 use crate::frames::Frames;
 use crate::station::LinkStation;
@@ -34,42 +33,6 @@ impl LinkStation {
         self.outgoing.release(count);
         self.tries = 0;
         Some(true)
-    }
-
-    /// Whether an I frame of this number is taken: the one wanted, where the station isn't busy. The REJ condition ends
-    /// with that.
-    pub fn takes(&mut self, ns: Seq) -> bool
-        ensures value { (c : LinkSettings) (s : StationState) → FitsStation c self.old s
-            → result ≡ is_taken ns.number s }
-        ensures taken { (c : LinkSettings) (packet : List ℕ) (before made : List (List ℕ)) (t : Side)
-            → FitsSide c self.old before made t → result ≡ true → FitsSide c self.new before made (takes packet t) }
-        ensures passed { (c : LinkSettings) (s : StationState) → FitsStation c self.old s → result ≡ false
-            → FitsStation c self.new s }
-    {
-        let busy = self.is_busy();
-        if busy {
-            return false;
-        }
-        if !self.receiver.accept(ns) {
-            return false;
-        }
-        self.rejecting = false;
-        true
-    }
-
-    /// Answers an I frame that was taken.
-    pub fn answer(&mut self, p: bool, out: &mut Frames)
-        requires place { length out.old < 25 }
-        ensures step { Leads self.old self.new out.old out.new (λ c t. answers c.window p t) }
-        ensures one { length out.new ≤ length out.old + 1 }
-    {
-        if p {
-            self.ready(false, true, out);
-            return;
-        }
-        if !self.pump_once(out) {
-            self.ready(false, false, out);
-        }
     }
 
     /// Passes over an I frame that isn't taken.

@@ -1,5 +1,5 @@
-ghost use Rattle.std.specs.Prelude.{◌≡◌, ℕ, ◌+◌, ◌-◌, ◌%◌, ◌<◌, ◌≤◌, nat_lt, List, [], ◌∷◌, ◌++◌, length};
-ghost use Rattle.std.specs.Prelude.{slice_index_or, IfOk, IfErr, MatchOption};
+ghost use Rattle.std.specs.Prelude.{◌≡◌, ℕ, ◌+◌, ◌-◌, ◌%◌, ◌<◌, ◌≤◌, List, [], ◌∷◌, ◌++◌, length};
+ghost use Rattle.std.specs.Prelude.{IfOk, IfErr, MatchOption};
 ghost use Rattle.std.specs.Prelude.{true, false, not, ◌&&◌, if◌then◌else◌};
 ghost use Rattle.x25_window.specs.Sender.{Sending, acknowledged, offered};
 ghost use Rattle.x25_window.specs.code.Held.{Fits, with_item};
@@ -13,7 +13,7 @@ ghost use Rattle.x25_link.specs.code.Places.{longs, left_for};
 use crate::error::LinkError;
 use crate::frames::Frames;
 use crate::places::{Packet, Places};
-use crate::waiting_packets::WaitingPackets;
+use circular_buffer::HeapCircularBuffer;
 use std::alloc::Global;
 use x25_bits::{Role, Seq};
 use x25_window::Sender;
@@ -22,19 +22,24 @@ use x25_window::Sender;
 /// them.
 const LONG_PACKETS: usize = 15;
 
+/// How many packets may wait.
+pub const PLACES: usize = 256;
+
 /// The packets handed down that aren't acknowledged: those that were sent, and behind them those that wait. And the
 /// places that none of them stands in.
 #[derive(Drop)]
 pub struct Outgoing {
     pub sender: Sender<Packet>,
-    pub queue: WaitingPackets,
+    /// The packets that wait, in a ring that is made once.
+    pub queue: HeapCircularBuffer<Packet>,
     pub places: Places,
+    ghost ring: { queue.capacity ≡ 256 },
     ghost long_ones: { places.long.all ≡ 15 },
     ghost window: { sender.window ≤ 7 },
     ghost sent: { length sender.items ≤ sender.window },
-    ghost short: { places.short.left + (length sender.items + length queue)
-        ≡ 263 + (longs sender.items + longs queue) },
-    ghost long: { places.long.left + (longs sender.items + longs queue) ≡ places.long.all },
+    ghost short: { places.short.left + (length sender.items + length queue.items)
+        ≡ 263 + (longs sender.items + longs queue.items) },
+    ghost long: { places.long.left + (longs sender.items + longs queue.items) ≡ places.long.all },
 }
 
 impl Outgoing {
@@ -50,7 +55,7 @@ impl Outgoing {
         let Some(sender) = Sender::new(alloc, window)? else {
             return Ok(None);
         };
-        let queue = WaitingPackets::new(alloc)?;
+        let queue = HeapCircularBuffer::with_capacity(alloc, PLACES)?;
         Ok(Some(Outgoing {
             sender,
             queue,
@@ -97,7 +102,7 @@ impl Outgoing {
         self.release(unacked);
         let waiting = self.queue.len();
         for _packet in 0..waiting {
-            if let Some(packet) = self.queue.pop() {
+            if let Some(packet) = self.queue.pop_front() {
                 self.places.give(packet);
             }
         }
@@ -105,28 +110,29 @@ impl Outgoing {
     }
 
     /// Takes a packet, which waits where frames are held up. Else nothing may be sent before it: so it goes at once if
-    /// the window is open, for then none waits. It says whether it went.
+    /// the window is open, for then none waits. `false` where no place is left for it.
     pub fn put(&mut self, packet: &[u8], held: bool, from: Role, nr: Seq, out: &mut Frames) -> bool
-        requires few { length self.old.queue < 256 }
+        requires few { length self.old.queue.items < 256 }
         requires fits { length packet.now ≤ 4099 }
-        requires standing { 0 < left_for self.old.places.short self.old.places.long (length packet.now) }
         requires place { length out.old < 25 }
-        ensures sent { (k : ℕ) (o : OutgoingState) → FitsOutgoing k self.old o → (held ≡ false → is_open k o ≡ false)
-            → result ≡ (not held && is_open k (added packet.now o)) }
         ensures step { (k : ℕ) (o : OutgoingState) → FitsOutgoing k self.old o → (held ≡ false → is_open k o ≡ false)
-            → FitsOutgoing k self.new (if result then sent_on (added packet.now o) else added packet.now o) }
-        ensures made { (k : ℕ) (o : OutgoingState) → FitsOutgoing k self.old o → (held ≡ false → is_open k o ≡ false) →
-            out.new ≡ (if result
+            → result ≡ true → FitsOutgoing k self.new
+            (if not held && is_open k (added packet.now o) then sent_on (added packet.now o) else added packet.now o) }
+        ensures made { (k : ℕ) (o : OutgoingState) → FitsOutgoing k self.old o → (held ≡ false → is_open k o ≡ false)
+            → result ≡ true → out.new ≡ (if not held && is_open k (added packet.now o)
             then out.old
             ++ spelling_of from (info (o.place % 8) nr.number false (next_packet (added packet.now o))) ∷ []
             else out.old) }
-        ensures queue { length self.new.queue ≤ length self.old.queue + 1 }
+        ensures refused { result ≡ false → (self.new ≡ self.old) × (out.new ≡ out.old)
+            × (left_for self.old.places.short self.old.places.long (length packet.now) ≡ 0) }
         ensures one { length out.new ≤ length out.old + 1 }
     {
-        let packet = self.places.take(packet);
-        if held | self.sender.is_full() {
-            self.queue.push(packet);
+        let Some(packet) = self.places.take(packet) else {
             return false;
+        };
+        if held | self.sender.is_full() {
+            let _ = self.queue.push_back(packet);
+            return true;
         }
         send_new(&mut self.sender, packet, from, nr, out);
         true
@@ -143,7 +149,7 @@ impl Outgoing {
             out.new ≡ (if result
             then out.old ++ spelling_of from (info (o.place % 8) nr.number false (next_packet o)) ∷ []
             else out.old) }
-        ensures queue { length self.new.queue ≤ length self.old.queue }
+        ensures queue { length self.new.queue.items ≤ length self.old.queue.items }
         ensures one { length out.new ≤ length out.old + 1 }
         ensures none { result ≡ false → out.new ≡ out.old }
     {
@@ -155,7 +161,7 @@ impl Outgoing {
         if is_closed {
             return false;
         }
-        let Some(packet) = self.queue.pop() else {
+        let Some(packet) = self.queue.pop_front() else {
             return false;
         };
         send_new(&mut self.sender, packet, from, nr, out);

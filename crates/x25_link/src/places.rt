@@ -1,4 +1,5 @@
-ghost use Rattle.std.specs.Prelude.{◌≡◌, ℕ, ◌+◌, ◌<◌, ◌≤◌, [], length, vec_len, vec_capacity, IfOk, OnOk};
+ghost use Rattle.std.specs.Prelude.{◌≡◌, ℕ, ◌+◌, ◌<◌, ◌≤◌, length, vec_len, vec_capacity};
+ghost use Rattle.std.specs.Prelude.{IfOk, OnOk, OnSome, MatchOption};
 ghost use Rattle.x25_link.specs.code.Places.{room_for, long_of, left_for};
 
 use std::alloc::{AllocError, Global};
@@ -75,23 +76,6 @@ impl<const ROOM: usize> Spares<ROOM> {
         Ok(Spares { places })
     }
 
-    // Takes a place, and puts octets there, over those that stood there.
-    fn take(&mut self, packet: &[u8]) -> Vec<u8>
-        requires some { 0 < self.old.left }
-        requires short { length packet.now ≤ ROOM }
-        ensures octets { result.items ≡ packet.now }
-        ensures len { vec_len result ≡ length packet.now }
-        ensures room { vec_capacity result ≡ ROOM }
-        ensures left { self.new.left + 1 ≡ self.old.left }
-        ensures all { self.new.all ≡ self.old.all }
-    {
-        let spare = self.places.pop().unwrap();
-        let mut octets = spare.octets;
-        octets.clear();
-        append_octets(&mut octets, packet);
-        octets
-    }
-
     // Takes a place back.
     fn give(&mut self, octets: Vec<u8>)
         requires room { vec_capacity octets ≡ ROOM }
@@ -143,33 +127,25 @@ impl Places {
         })
     }
 
-    /// For how many packets of so many octets places are left.
-    pub fn left_for(&self, length: usize) -> usize
-        ensures { result ≡ left_for self.now.short self.now.long length }
-    {
-        if length <= SHORT {
-            self.short.places.len()
-        } else {
-            self.long.places.len()
-        }
-    }
-
-    /// Copies a packet into a place of its own.
-    pub fn take(&mut self, packet: &[u8]) -> Packet
-        requires place { 0 < left_for self.old.short self.old.long (length packet.now) }
+    /// Copies a packet into a place of its own, over what stood there. `None` where no place is left for it.
+    pub fn take(&mut self, packet: &[u8]) -> Option<Packet>
         requires fits { length packet.now ≤ 4099 }
-        ensures packet { result ≡ packet.now }
-        ensures short { self.new.short.left + 1 ≡ self.old.short.left + long_of packet.now }
-        ensures long { self.new.long.left + long_of packet.now ≡ self.old.long.left }
+        ensures packet { MatchOption result ((left_for self.old.short self.old.long (length packet.now) ≡ 0)
+            × (self.new ≡ self.old)) (λ p. p ≡ packet.now) }
+        ensures short { OnSome result (self.new.short.left + 1 ≡ self.old.short.left + long_of packet.now) }
+        ensures long { OnSome result (self.new.long.left + long_of packet.now ≡ self.old.long.left) }
         ensures long_ones { self.new.long.all ≡ self.old.long.all }
     {
-        if packet.len() <= SHORT {
-            let octets = self.short.take(packet);
-            Packet { octets }
+        let mut octets = if packet.len() <= SHORT {
+            let spare = self.short.places.pop()?;
+            spare.octets
         } else {
-            let octets = self.long.take(packet);
-            Packet { octets }
-        }
+            let spare = self.long.places.pop()?;
+            spare.octets
+        };
+        octets.clear();
+        append_octets(&mut octets, packet);
+        Some(Packet { octets })
     }
 
     /// Takes the place of a packet back.

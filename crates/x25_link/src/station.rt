@@ -3,8 +3,7 @@ ghost use Rattle.x25_frame.specs.Frame.{plain};
 ghost use Rattle.x25_frame.specs.Spelling.{information_of};
 ghost use Rattle.x25_link.specs.Hearing.{leaves};
 ghost use Rattle.x25_link.specs.Station.{LinkSettings, LinkStation as StationState, Side, is_busy, sends, ready};
-ghost use Rattle.x25_link.specs.Station.{with_nothing, with_near, fresh, may_send, pumped_once, pumped};
-ghost use Rattle.x25_link.specs.Station.{ended};
+ghost use Rattle.x25_link.specs.Station.{with_nothing, with_near, fresh, may_send, pumped_once, ended};
 
 use crate::frames::Frames;
 use crate::heard::Heard;
@@ -89,22 +88,13 @@ impl LinkStation {
         ensures step { Leads self.old self.new out.old out.new (λ c t. ended c.window t) }
         ensures few { length out.new ≤ length out.old + 8 }
     {
-        self.pump(out);
-        if self.phase.is_up() && self.said_busy && !self.is_busy() {
-            self.ready(false, false, out);
-        }
-    }
-
-    // The sending rule, for the frames of a window: where it sends none, there is none behind it.
-    fn pump(&mut self, out: &mut Frames)
-        requires { length out.old + 7 ≤ 25 }
-        ensures step { Leads self.old self.new out.old out.new (λ c t. pumped 7 c.window t) }
-        ensures few { length out.new ≤ length out.old + 7 }
-    {
         for _frame in 0..FRAMES {
             if !self.pump_once(out) {
-                return;
+                break;
             }
+        }
+        if self.phase.is_up() && self.said_busy && !self.is_busy() {
+            self.ready(false, false, out);
         }
     }
 

@@ -203,14 +203,18 @@ named forms a most kind body =
     else if kind == 31 then bare reset_conf body
     else Err Unidentified
 
--- on a channel
-abbrev pub channelled : Forms → Bool → ℕ → ℕ → List ℕ → Result PlainKind PacketError
-channelled forms a most kind body =
-    if kind % 2 == 0 then data_of kind body
-    else if kind % 32 == 1 then bare (rr (kind / 32)) body
+-- on a channel, but for data
+abbrev pub without_data : Forms → Bool → ℕ → ℕ → List ℕ → Result PlainKind PacketError
+without_data forms a most kind body =
+    if kind % 32 == 1 then bare (rr (kind / 32)) body
     else if kind % 32 == 5 then bare (rnr (kind / 32)) body
     else if kind % 32 == 9 then rej_of forms (kind / 32) body
     else named forms a most kind body
+
+-- on a channel
+abbrev pub channelled : Forms → Bool → ℕ → ℕ → List ℕ → Result PlainKind PacketError
+channelled forms a most kind body =
+    if kind % 2 == 0 then data_of kind body else without_data forms a most kind body
 
 abbrev pub kind_of : Forms → Bool → ℕ → ℕ → ℕ → List ℕ → Result PlainKind PacketError
 kind_of forms a most channel kind body =

@@ -7,7 +7,7 @@ use Rattle.x25_packet.specs.Packet.Plain as written
 use Rattle.x25_packet.specs.declared.error.PacketError.{PacketError}
 use Rattle.x25_packet.specs.declared.error.PacketError.TheVariants.{BadParameter, Unidentified}
 use Rattle.x25_packet.specs.declared.facilities.Directions.{Directions}
-use Rattle.x25_packet.specs.Block.{PlainBlock, PlainFields, called_in, calling_in}
+use Rattle.x25_packet.specs.Block.{PlainBlock, PlainFields}
 use Rattle.x25_packet.specs.Classes.{none_own, own_in}
 use Rattle.x25_packet.specs.Form.{PlainKind, PlainForm, call, accept, clear, extended_clear, clear_conf}
 use Rattle.x25_packet.specs.Form.{user_data, rr}
@@ -58,13 +58,15 @@ digits_behind b start count =
     then halves_at b.addresses (start + 2) (count - 2)
     else []
 
+abbrev pub taken_at : Bool → PlainBlock → ℕ → ℕ → List ℕ
+taken_at false b start count = halves_at b.addresses start count
+taken_at true b start count = digits_behind b start count
+
 abbrev pub called_taken : Bool → PlainBlock → List ℕ
-called_taken false b = called_in b
-called_taken true b = digits_behind b 0 b.called
+called_taken a b = taken_at a b 0 b.called
 
 abbrev pub calling_taken : Bool → PlainBlock → List ℕ
-calling_taken false b = calling_in b
-calling_taken true b = digits_behind b b.called b.calling
+calling_taken a b = taken_at a b b.called b.calling
 
 -- no diagnostic is taken for 0
 abbrev pub reason_taken : Option ℕ → ℕ

@@ -2,7 +2,7 @@
 ghost use Rattle.std.specs.Prelude.{◌≡◌, ◌≤◌, ◌/◌, ◌+◌, None, drop, length, take};
 ghost use Rattle.x25_packet.specs.Block.{block_at, block_behind, called_in, calling_in, fields_at, hold_addresses};
 ghost use Rattle.x25_packet.specs.Block.{optional_at, plain_block, plain_fields};
-ghost use Rattle.x25_packet.specs.Narrowing.{called_taken, calling_taken, digits_behind};
+ghost use Rattle.x25_packet.specs.Narrowing.{digits_behind, taken_at};
 ghost use Rattle.x25_packet.specs.Grammar.{Gives, addressed, block_of, field_read, fields_of, is_over, no_fields};
 ghost use Rattle.x25_packet.specs.Grammar.{optional_block};
 
@@ -175,16 +175,6 @@ pub(crate) fn check_optional_block(
     Ok(())
 }
 
-fn fields_in<'a>(octets: &'a [u8]) -> Option<Fields<'a>>
-    ensures { plain_fields result ≡ fields_at octets.now }
-{
-    let [size, rest @ ..] = octets else {
-        return None;
-    };
-    let (facilities, user) = front(usize::from(*size), rest);
-    Some(Fields { facilities, user })
-}
-
 /// The first `count` octets, all where there are fewer, and what is behind them.
 fn front<'a>(count: usize, octets: &'a [u8]) -> (&'a [u8], &'a [u8])
     ensures { (result.0.now ≡ take count octets.now) × (result.1.now ≡ drop count octets.now) }
@@ -201,11 +191,18 @@ impl<'a> Block<'a> {
     {
         let size = (usize::from(called) + usize::from(calling) + 1) / 2;
         let (addresses, rest) = front(size, octets);
+        let fields = match rest {
+            [] => None,
+            [size, rest @ ..] => {
+                let (facilities, user) = front(usize::from(*size), rest);
+                Some(Fields { facilities, user })
+            }
+        };
         Block {
             called,
             calling,
             addresses,
-            fields: fields_in(rest),
+            fields,
         }
     }
 
@@ -251,27 +248,15 @@ impl<'a> Block<'a> {
         Halves::of(self.addresses, usize::from(start) + 2, count - 2)
     }
 
-    /// What a station takes the called address for.
-    pub fn called_taken(&self, a: bool) -> Halves<'a>
+    /// What a station takes an address for that begins at the half octet `start`.
+    pub(crate) fn taken(&self, a: bool, start: u8, count: u8) -> Halves<'a>
         requires { length self.now.addresses.now ≤ (self.now.called + self.now.calling + 1) / 2 }
-        ensures { result ≡ called_taken a (plain_block self.now) }
+        ensures { result ≡ taken_at a (plain_block self.now) start count }
     {
         if a {
-            self.digits_behind(0, self.called)
+            self.digits_behind(start, count)
         } else {
-            self.called_halves()
-        }
-    }
-
-    /// What a station takes the calling address for.
-    pub fn calling_taken(&self, a: bool) -> Halves<'a>
-        requires { length self.now.addresses.now ≤ (self.now.called + self.now.calling + 1) / 2 }
-        ensures { result ≡ calling_taken a (plain_block self.now) }
-    {
-        if a {
-            self.digits_behind(self.called, self.calling)
-        } else {
-            self.calling_halves()
+            Halves::of(self.addresses, usize::from(start), count)
         }
     }
 }

@@ -3,12 +3,12 @@ ghost use Rattle.std.specs.Prelude.{◌≡◌, IfOk, IsOkAnd};
 ghost use Rattle.x25_packet.specs.Block.{plain_fields};
 ghost use Rattle.x25_packet.specs.Made.{Makes, Reads};
 ghost use Rattle.x25_packet.specs.Form.{PlainForm, plain, plain_kind};
-ghost use Rattle.x25_packet.specs.Form.Spelling.{Spells, may_have};
+ghost use Rattle.x25_packet.specs.Form.Spelling.{Spells};
 ghost use Rattle.x25_packet.specs.Grammar.{Gives, accept_of, answer_most, answer_read, bare, call_of, cause_alone};
-ghost use Rattle.x25_packet.specs.Grammar.{channelled, clear_conf_of, clear_of, data_of, diagnostic_of};
-ghost use Rattle.x25_packet.specs.Grammar.{extended_of, has_format, interrupt_of, is_short, kind_of, named};
+ghost use Rattle.x25_packet.specs.Grammar.{clear_conf_of, clear_of, data_of, diagnostic_of};
+ghost use Rattle.x25_packet.specs.Grammar.{extended_of, has_format, interrupt_of, is_short};
 ghost use Rattle.x25_packet.specs.Grammar.{read_of, reason_of, registered, rej_of, unchannelled, unwritten};
-ghost use Rattle.x25_packet.specs.Grammar.{form_in};
+ghost use Rattle.x25_packet.specs.Grammar.{form_in, without_data};
 ghost use Rattle.x25_packet.specs.declared.form.Forms.TheVariants.{Any};
 
 use crate::block::{Block, Fields, check_block, check_optional_block};
@@ -289,16 +289,32 @@ fn unchannelled<'a, M: Made<'a>>(
     }
 }
 
-/// A packet of a channel whose type has no number.
-fn named<'a, M: Made<'a>>(
+fn rej<'a, M: Made<'a>>(head: Head, forms: Forms, pr: Seq, body: &[u8]) -> Result<M, PacketError>
+    ensures { Makes M.gives head result (rej_of forms pr.number body.now) }
+{
+    match forms {
+        Forms::Written => Err(PacketError::Unidentified),
+        Forms::Any => bare(head, Kind::Rej { pr }, body),
+    }
+}
+
+/// A packet of a channel, but for data.
+fn channelled<'a, M: Made<'a>>(
     head: Head,
     forms: Forms,
     most: usize,
     kind: u8,
     body: &'a [u8],
 ) -> Result<M, PacketError>
-    ensures { Makes M.gives head result (named forms head.bit_8 most kind body.now) }
+    ensures { Makes M.gives head result (without_data forms head.bit_8 most kind body.now) }
 {
+    let pr = Seq::modulo(kind / 32);
+    match kind % 32 {
+        codes::RR => return bare(head, Kind::Rr { pr }, body),
+        codes::RNR => return bare(head, Kind::Rnr { pr }, body),
+        REJ => return rej(head, forms, pr, body),
+        _ => {}
+    }
     match kind {
         codes::CALL => call(head, forms, most, body),
         codes::ACCEPT => accept(head, forms, body),
@@ -315,59 +331,14 @@ fn named<'a, M: Made<'a>>(
     }
 }
 
-fn rej<'a, M: Made<'a>>(head: Head, forms: Forms, pr: Seq, body: &[u8]) -> Result<M, PacketError>
-    ensures { Makes M.gives head result (rej_of forms pr.number body.now) }
+/// Whether a packet of this type may have these bits 7 and 8 in its first octet, which is of one modulo 8.
+fn has_format(forms: Forms, first: u8, kind: u8) -> bool
+    ensures { result ≡ has_format forms first kind }
 {
-    match forms {
-        Forms::Written => Err(PacketError::Unidentified),
-        Forms::Any => bare(head, Kind::Rej { pr }, body),
-    }
-}
-
-/// A packet of a channel.
-fn channelled<'a, M: Made<'a>>(
-    head: Head,
-    forms: Forms,
-    most: usize,
-    kind: u8,
-    body: &'a [u8],
-) -> Result<M, PacketError>
-    ensures { Makes M.gives head result (channelled forms head.bit_8 most kind body.now) }
-{
-    if kind % 2 == 0 {
-        return data(head, kind, body);
-    }
-    let pr = Seq::modulo(kind / 32);
-    match kind % 32 {
-        codes::RR => bare(head, Kind::Rr { pr }, body),
-        codes::RNR => bare(head, Kind::Rnr { pr }, body),
-        REJ => rej(head, forms, pr, body),
-        _ => named(head, forms, most, kind, body),
-    }
-}
-
-fn kind<'a, M: Made<'a>>(
-    head: Head,
-    forms: Forms,
-    most: usize,
-    kind: u8,
-    body: &'a [u8],
-) -> Result<M, PacketError>
-    ensures { Makes M.gives head result (kind_of forms head.bit_8 most head.channel kind body.now) }
-{
-    if head.channel == 0 {
-        unchannelled(head, forms, kind, body)
-    } else {
-        channelled(head, forms, most, kind, body)
-    }
-}
-
-/// Whether a packet of this type may have these bits 7 and 8 in its first octet.
-fn may_have(forms: Forms, bit_8: bool, d: bool, kind: u8) -> bool
-    ensures { result ≡ may_have forms bit_8 d kind }
-{
+    let bit_8 = first / 128 == 1;
+    let d = first / 64 % 2 == 1;
     let is_data = kind % 2 == 0;
-    match forms {
+    let may_have = match forms {
         Forms::Written => (!bit_8 || is_data) && !d,
         Forms::Any => {
             let is_call = kind == codes::CALL || kind == codes::ACCEPT;
@@ -376,14 +347,8 @@ fn may_have(forms: Forms, bit_8: bool, d: bool, kind: u8) -> bool
             let may_d = !d || is_data || is_call;
             may_8 && may_d
         }
-    }
-}
-
-/// Whether the first octet is of a packet modulo 8 with this type.
-fn has_format(forms: Forms, first: u8, kind: u8) -> bool
-    ensures { result ≡ has_format forms first kind }
-{
-    first / 16 % 4 == 1 && may_have(forms, first / 128 == 1, first / 64 % 2 == 1, kind)
+    };
+    first / 16 % 4 == 1 && may_have
 }
 
 /// What the octets are read to, as a packet of these forms.
@@ -395,10 +360,10 @@ pub(crate) fn read<'a, M: Made<'a>>(
 ) -> Result<M, PacketError>
     ensures { Reads M.gives result (read_of forms most octets.now) }
 {
-    let [first, second, kind_octet, body @ ..] = octets else {
+    let [first, second, kind, body @ ..] = octets else {
         return Err(PacketError::TooShort);
     };
-    if !has_format(forms, *first, *kind_octet) {
+    if !has_format(forms, *first, *kind) {
         return Err(PacketError::BadFormat);
     }
     let head = Head {
@@ -406,7 +371,13 @@ pub(crate) fn read<'a, M: Made<'a>>(
         bit_8: *first / 128 == 1,
         d: *first / 64 % 2 == 1,
     };
-    kind(head, forms, most, *kind_octet, body)
+    if head.channel == 0 {
+        return unchannelled(head, forms, *kind, body);
+    }
+    if *kind % 2 == 0 {
+        return data(head, *kind, body);
+    }
+    channelled(head, forms, most, *kind, body)
 }
 
 /// The packet that the octets spell, with at most `most` octets of user data in a CALL without fast select.

@@ -1,7 +1,5 @@
 //! What a packet is read to.
 ghost use Rattle.x25_packet.specs.Made.{head_with};
-ghost use Rattle.x25_packet.specs.Narrowing.{narrow_of};
-ghost use Rattle.x25_packet.specs.Packet.{plain as plain_written};
 ghost use Rattle.x25_packet.specs.Form.{PlainForm, plain, plain_kind};
 ghost use Rattle.x25_packet.specs.Grammar.{Gives};
 ghost use Rattle.x25_packet.specs.declared.error.PacketError.{PacketError};
@@ -9,8 +7,6 @@ ghost use Rattle.std.specs.Prelude.{Result, Ok};
 
 use crate::error::PacketError;
 use crate::form::{Form, Kind};
-use crate::narrowing::narrow;
-use crate::packet::Packet;
 
 /// What the first two octets say.
 #[derive(Clone, Copy, Debug)]
@@ -35,20 +31,6 @@ impl<'a> Made<'a> for Form<'a> {
     #[inline(always)]
     fn made(head: Head, kind: Kind<'a>) -> Result<Form<'a>, PacketError> {
         Ok(Form {
-            channel: head.channel,
-            bit_8: head.bit_8,
-            d: head.d,
-            kind,
-        })
-    }
-}
-
-impl<'a> Made<'a> for Packet<'a> {
-    ghost gives = { λ r w. Gives plain_written r (narrow_of w) };
-
-    #[inline(always)]
-    fn made(head: Head, kind: Kind<'a>) -> Result<Packet<'a>, PacketError> {
-        narrow(&Form {
             channel: head.channel,
             bit_8: head.bit_8,
             d: head.d,

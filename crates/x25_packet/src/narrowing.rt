@@ -2,15 +2,15 @@
 ghost use Rattle.std.specs.Prelude.{◌≡◌};
 ghost use Rattle.x25_packet.specs.Packet.{plain as plain_written};
 ghost use Rattle.x25_packet.specs.Block.{plain_fields};
-ghost use Rattle.x25_packet.specs.Narrowing.{are_within, field_asked, field_said, field_shown, field_taken, narrow_of};
-ghost use Rattle.x25_packet.specs.Form.{plain};
+ghost use Rattle.x25_packet.specs.Narrowing.{are_within, field_shown, field_taken, narrow_of};
 ghost use Rattle.x25_packet.specs.Grammar.{Gives};
 
 use crate::block::{Block, Fields};
-use crate::classes::{Own, asked};
+use crate::classes::asked;
 use crate::error::PacketError;
 use crate::facilities::{Directions, Facilities, FacilityField};
-use crate::form::{Form, Kind};
+use crate::form::Kind;
+use crate::made::{Head, Made};
 use crate::marks::Marks;
 use crate::packet::Packet;
 
@@ -28,22 +28,17 @@ fn are_within(least: u8, most: u8, values: Option<Directions>) -> bool
 }
 
 /// Whether what is asked for is in its range.
-fn check_asked(own: Own) -> Result<(), PacketError>
-    ensures { Gives (λ _. field_asked own) result (field_said own) }
+fn check_fields(fields: Option<Fields>) -> Result<(), PacketError>
+    ensures { Gives (λ _. field_shown (plain_fields fields.entry)) result (field_taken (plain_fields fields.entry)) }
 {
+    let Some(fields) = fields else {
+        return Ok(());
+    };
+    let own = asked(fields.facilities);
     if !are_within(4, 12, own.packet_size) || !are_within(1, 7, own.window_size) {
         return Err(PacketError::BadParameter);
     }
     Ok(())
-}
-
-fn check_fields(fields: Option<Fields>) -> Result<(), PacketError>
-    ensures { Gives (λ _. field_shown (plain_fields fields.entry)) result (field_taken (plain_fields fields.entry)) }
-{
-    match fields {
-        None => Ok(()),
-        Some(fields) => check_asked(asked(fields.facilities)),
-    }
 }
 
 /// The field that says what facilities ask for of those that a station knows.
@@ -60,66 +55,68 @@ pub(crate) fn field_shown(fields: Option<Fields>) -> FacilityField
     })
 }
 
-/// What a station takes the packet for.
-///
-/// 26: a packet size or window size out of its range. 22: REJ, DIAGNOSTIC and REGISTRATION, which a station doesn't
-/// know.
-#[inline(always)]
-pub(crate) fn narrow<'a>(packet: &Form<'a>) -> Result<Packet<'a>, PacketError>
-    ensures { Gives plain_written result (narrow_of (plain packet.now)) }
-{
-    let channel = packet.channel;
-    let a = packet.bit_8;
-    match &packet.kind {
-        Kind::Call { body } => {
-            check_fields(Block::of(a, body).fields)?;
-            Ok(Packet::Call { a, channel, body })
+impl<'a> Made<'a> for Packet<'a> {
+    ghost gives = { λ r w. Gives plain_written r (narrow_of w) };
+
+    /// What a station takes the packet for.
+    ///
+    /// 26: a packet size or window size out of its range. 22: REJ, DIAGNOSTIC and REGISTRATION, which a station doesn't
+    /// know.
+    #[inline(always)]
+    fn made(head: Head, kind: Kind<'a>) -> Result<Packet<'a>, PacketError> {
+        let channel = head.channel;
+        let a = head.bit_8;
+        match kind {
+            Kind::Call { body } => {
+                check_fields(Block::of(a, body).fields)?;
+                Ok(Packet::Call { a, channel, body })
+            }
+            Kind::Accept { body } => {
+                check_fields(Block::of(a, body).fields)?;
+                Ok(Packet::Accept { a, channel, body })
+            }
+            Kind::Clear { cause, diagnostic } => Ok(Packet::Clear {
+                cause,
+                diagnostic: diagnostic.unwrap_or(0),
+                channel,
+            }),
+            Kind::ExtendedClear {
+                cause,
+                diagnostic,
+                ..
+            } => Ok(Packet::Clear {
+                cause,
+                diagnostic,
+                channel,
+            }),
+            Kind::ClearConf { .. } => Ok(Packet::ClearConf { channel }),
+            Kind::Data { m, ps, pr, user } => Ok(Packet::Data {
+                marks: Marks { q: a, d: head.d },
+                m,
+                ps,
+                pr,
+                channel,
+                user,
+            }),
+            Kind::Rr { pr } => Ok(Packet::Rr { channel, pr }),
+            Kind::Rnr { pr } => Ok(Packet::Rnr { channel, pr }),
+            Kind::Interrupt { user } => Ok(Packet::Interrupt { channel, user }),
+            Kind::InterruptConf => Ok(Packet::InterruptConf { channel }),
+            Kind::Reset { cause, diagnostic } => Ok(Packet::Reset {
+                cause,
+                diagnostic: diagnostic.unwrap_or(0),
+                channel,
+            }),
+            Kind::ResetConf => Ok(Packet::ResetConf { channel }),
+            Kind::Restart { cause, diagnostic } => Ok(Packet::Restart {
+                cause,
+                diagnostic: diagnostic.unwrap_or(0),
+            }),
+            Kind::RestartConf => Ok(Packet::RestartConf),
+            Kind::Rej { .. }
+            | Kind::Diagnostic { .. }
+            | Kind::Registration { .. }
+            | Kind::RegistrationConf { .. } => Err(PacketError::Unidentified),
         }
-        Kind::Accept { body } => {
-            check_fields(Block::of(a, body).fields)?;
-            Ok(Packet::Accept { a, channel, body })
-        }
-        Kind::Clear { cause, diagnostic } => Ok(Packet::Clear {
-            cause: *cause,
-            diagnostic: diagnostic.unwrap_or(0),
-            channel,
-        }),
-        Kind::ExtendedClear {
-            cause,
-            diagnostic,
-            ..
-        } => Ok(Packet::Clear {
-            cause: *cause,
-            diagnostic: *diagnostic,
-            channel,
-        }),
-        Kind::ClearConf { .. } => Ok(Packet::ClearConf { channel }),
-        Kind::Data { m, ps, pr, user } => Ok(Packet::Data {
-            marks: Marks { q: a, d: packet.d },
-            m: *m,
-            ps: *ps,
-            pr: *pr,
-            channel,
-            user,
-        }),
-        Kind::Rr { pr } => Ok(Packet::Rr { channel, pr: *pr }),
-        Kind::Rnr { pr } => Ok(Packet::Rnr { channel, pr: *pr }),
-        Kind::Interrupt { user } => Ok(Packet::Interrupt { channel, user }),
-        Kind::InterruptConf => Ok(Packet::InterruptConf { channel }),
-        Kind::Reset { cause, diagnostic } => Ok(Packet::Reset {
-            cause: *cause,
-            diagnostic: diagnostic.unwrap_or(0),
-            channel,
-        }),
-        Kind::ResetConf => Ok(Packet::ResetConf { channel }),
-        Kind::Restart { cause, diagnostic } => Ok(Packet::Restart {
-            cause: *cause,
-            diagnostic: diagnostic.unwrap_or(0),
-        }),
-        Kind::RestartConf => Ok(Packet::RestartConf),
-        Kind::Rej { .. }
-        | Kind::Diagnostic { .. }
-        | Kind::Registration { .. }
-        | Kind::RegistrationConf { .. } => Err(PacketError::Unidentified),
     }
 }

@@ -16,25 +16,6 @@ use crate::packet::Packet;
 use crate::views::{called_digits, calling_digits, facility_field, user_data};
 use x25_bits::{NoMemory, append_octets};
 
-fn channel(packet: &Packet) -> u16
-    ensures { result ≡ channel_of (plain packet.now) }
-{
-    match packet {
-        Packet::Call { channel, .. }
-        | Packet::Accept { channel, .. }
-        | Packet::Clear { channel, .. }
-        | Packet::ClearConf { channel }
-        | Packet::Data { channel, .. }
-        | Packet::Rr { channel, .. }
-        | Packet::Rnr { channel, .. }
-        | Packet::Interrupt { channel, .. }
-        | Packet::InterruptConf { channel }
-        | Packet::Reset { channel, .. }
-        | Packet::ResetConf { channel } => *channel,
-        Packet::Restart { .. } | Packet::RestartConf => 0,
-    }
-}
-
 fn format(packet: &Packet) -> u8
     ensures value { result ≡ format_of (plain packet.now) }
     ensures half { result ≤ 13 }
@@ -56,24 +37,32 @@ fn mark(m: bool) -> u8
     if m { 16 } else { 0 }
 }
 
+/// The channel, 0 where there is none, and the type.
 #[inline(always)]
-fn kind(packet: &Packet) -> u8
-    ensures { result ≡ type_of (plain packet.now) }
+fn named(packet: &Packet) -> (u16, u8)
+    ensures channel { result.0 ≡ channel_of (plain packet.now) }
+    ensures kind { result.1 ≡ type_of (plain packet.now) }
 {
     match packet {
-        Packet::Call { .. } => codes::CALL,
-        Packet::Accept { .. } => codes::ACCEPT,
-        Packet::Clear { .. } => codes::CLEAR,
-        Packet::ClearConf { .. } => codes::CLEAR_CONF,
-        Packet::Data { m, ps, pr, .. } => 2 * ps.get() + mark(*m) + 32 * pr.get(),
-        Packet::Rr { pr, .. } => codes::RR + 32 * pr.get(),
-        Packet::Rnr { pr, .. } => codes::RNR + 32 * pr.get(),
-        Packet::Interrupt { .. } => codes::INTERRUPT,
-        Packet::InterruptConf { .. } => codes::INTERRUPT_CONF,
-        Packet::Reset { .. } => codes::RESET,
-        Packet::ResetConf { .. } => codes::RESET_CONF,
-        Packet::Restart { .. } => codes::RESTART,
-        Packet::RestartConf => codes::RESTART_CONF,
+        Packet::Call { channel, .. } => (*channel, codes::CALL),
+        Packet::Accept { channel, .. } => (*channel, codes::ACCEPT),
+        Packet::Clear { channel, .. } => (*channel, codes::CLEAR),
+        Packet::ClearConf { channel } => (*channel, codes::CLEAR_CONF),
+        Packet::Data {
+            m,
+            ps,
+            pr,
+            channel,
+            ..
+        } => { (*channel, 2 * ps.get() + mark(*m) + 32 * pr.get()) }
+        Packet::Rr { channel, pr } => (*channel, codes::RR + 32 * pr.get()),
+        Packet::Rnr { channel, pr } => (*channel, codes::RNR + 32 * pr.get()),
+        Packet::Interrupt { channel, .. } => (*channel, codes::INTERRUPT),
+        Packet::InterruptConf { channel } => (*channel, codes::INTERRUPT_CONF),
+        Packet::Reset { channel, .. } => (*channel, codes::RESET),
+        Packet::ResetConf { channel } => (*channel, codes::RESET_CONF),
+        Packet::Restart { .. } => (0, codes::RESTART),
+        Packet::RestartConf => (0, codes::RESTART_CONF),
     }
 }
 
@@ -221,25 +210,6 @@ fn append_body(packet: &Packet, octets: &mut Vec<u8>)
     }
 }
 
-#[inline(always)]
-fn append_packet(packet: &Packet, octets: &mut Vec<u8>) -> Result<(), NoMemory>
-    requires { IsInRange 128 (plain packet.now) }
-    ensures ok { OnOk result (octets.new.items ≡ octets.old.items ++ spelling_of (plain packet.now)) }
-    ensures err { OnErr result (VecUnchanged octets.old octets.new) }
-    ensures room { vec_len octets.old + length (spelling_of (plain packet.now)) ≤ vec_capacity octets.old
-        → IsOk result }
-    ensures memory { vec_capacity octets.new
-        ≤ max (vec_capacity octets.old) (vec_len octets.old + length (spelling_of (plain packet.now))) }
-    ensures capacity { vec_capacity octets.old ≤ vec_capacity octets.new }
-{
-    octets.reserve_exact(3 + body_len(packet))?;
-    let [group, number] = channel(packet).to_be_bytes();
-    let head = [16 * format(packet) + group, number, kind(packet)];
-    append_octets(octets, &head);
-    append_body(packet, octets);
-    Ok(())
-}
-
 /// Appends the octets that spell the packet: format, channel, type and body. Each packet has this one spelling.
 ///
 /// The packet's fields are in their ranges, with at most 128 octets of user data in a CALL. It takes no memory where
@@ -259,7 +229,12 @@ pub fn encode(packet: &Packet, octets: &mut Vec<u8>) -> Result<(), NoMemory>
         ≤ max (vec_capacity octets.old) (vec_len octets.old + length (spelling_of (plain packet.now))) }
     ensures capacity { vec_capacity octets.old ≤ vec_capacity octets.new }
 {
-    append_packet(packet, octets)
+    octets.reserve_exact(3 + body_len(packet))?;
+    let (channel, kind) = named(packet);
+    let [group, number] = channel.to_be_bytes();
+    append_octets(octets, &[16 * format(packet) + group, number, kind]);
+    append_body(packet, octets);
+    Ok(())
 }
 
 /// Appends the octets that spell a CALL of these fields, with at most 128 octets of user data.

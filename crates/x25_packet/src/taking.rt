@@ -1,14 +1,14 @@
 //! What a station takes octets for: what the packet that they are, in any form, is taken for.
-ghost use Rattle.std.specs.Prelude.{◌≤◌, IfOk};
+ghost use Rattle.std.specs.Prelude.{◌≤◌, IfOk, is_some};
 ghost use Rattle.x25_packet.specs.Grammar.{Gives};
 ghost use Rattle.x25_packet.specs.Packet.{plain};
 ghost use Rattle.x25_packet.specs.Spelling.{IsInRange};
-ghost use Rattle.x25_packet.specs.Taking.{taken_in, read_in};
+ghost use Rattle.x25_packet.specs.Taking.{IsFormOf, read_in, taken_in};
 
 use crate::error::PacketError;
-use crate::form::Forms;
+use crate::form::{Form, Forms};
+use crate::made::{Head, Made};
 use crate::packet::Packet;
-use crate::reading::decode_within;
 
 /// The packet that a station takes octets for, which borrows these. A CALL has at most `most` octets of user data
 /// without fast select.
@@ -23,14 +23,27 @@ pub fn take<'a>(most: usize, octets: &'a [u8]) -> Result<Packet<'a>, PacketError
     crate::grammar::read(Forms::Any, most, octets)
 }
 
-/// The packet that a station reads octets as: with `wide` as `take` does, and else in the form that it writes itself
-/// alone, as `decode_within` does. Errors 20 to 26.
-pub fn read<'a>(wide: bool, most: usize, octets: &'a [u8]) -> Result<Packet<'a>, PacketError>
-    ensures { Gives plain result (read_in wide most octets.now) }
+/// The packet that a station reads octets as. Where it reads packets in all their forms `form` is what `decode` reads
+/// them to, with `most` octets of user data; else they are read in the form that it writes itself alone, as
+/// `decode_within` does. Errors 20 to 26.
+pub fn read<'a>(
+    form: &Option<Result<Form<'a>, PacketError>>,
+    most: usize,
+    octets: &'a [u8],
+) -> Result<Packet<'a>, PacketError>
+    requires { IsFormOf most octets.now form.now }
+    ensures { Gives plain result (read_in (is_some form.now) most octets.now) }
 {
-    if wide {
-        take(most, octets)
-    } else {
-        decode_within(most, octets)
+    match form {
+        Some(Ok(form)) => {
+            let head = Head {
+                channel: form.channel,
+                bit_8: form.bit_8,
+                d: form.d,
+            };
+            Packet::made(head, form.kind)
+        }
+        Some(Err(error)) => Err(*error),
+        None => crate::grammar::read(Forms::Written, most, octets),
     }
 }

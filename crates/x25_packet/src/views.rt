@@ -33,7 +33,8 @@ pub fn called_digits<'a>(a: bool, body: &'a [u8]) -> Halves<'a>
     ensures digits { result ≡ called_of a body.now }
     ensures few { length result ≤ 15 }
 {
-    Block::of(a, body).called_taken(a)
+    let block = Block::of(a, body);
+    block.taken(a, 0, block.called)
 }
 
 /// The digits of the calling address, as of the called one.
@@ -41,7 +42,8 @@ pub fn calling_digits<'a>(a: bool, body: &'a [u8]) -> Halves<'a>
     ensures digits { result ≡ calling_of a body.now }
     ensures few { length result ≤ 15 }
 {
-    Block::of(a, body).calling_taken(a)
+    let block = Block::of(a, body);
+    block.taken(a, block.called, block.calling)
 }
 
 /// The facility field that says the packet sizes and windows of the facilities, of those before a marker.
@@ -69,8 +71,8 @@ pub fn call_views<'a>(a: bool, body: &'a [u8]) -> CallViews<'a>
 {
     let block = Block::of(a, body);
     CallViews {
-        called: block.called_taken(a),
-        calling: block.calling_taken(a),
+        called: block.taken(a, 0, block.called),
+        calling: block.taken(a, block.called, block.calling),
         facilities: field_shown(block.fields),
         user: user_shown(block.fields),
     }

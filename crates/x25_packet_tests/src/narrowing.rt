@@ -1,7 +1,7 @@
 use crate::views::are_figures;
 use std::alloc::Global;
 use x25_packet::{
-    Packet, PacketError, called_digits, calling_digits, facility_field, read, take,
+    Packet, PacketError, called_digits, calling_digits, decode, facility_field, read, take,
     taking_keeps_octets,
 };
 
@@ -9,7 +9,7 @@ use x25_packet::{
 type Taken = (u8, u8, &'static [u8]);
 
 /// Octets in hexadecimal, the number of the error that they are for a station, or 0, and what it takes of them.
-static ROWS: [(&str, u8, Taken); 19] = [
+static ROWS: [(&str, u8, Taken); 20] = [
     ("10010b431234567000", 0, (0, 0, &[])),
     ("50010b11120201014142", 0, (0, 0, &[])),
     (
@@ -23,6 +23,11 @@ static ROWS: [(&str, u8, Taken); 19] = [
         (0, 0, &[0x42, 0x07, 0x07]),
     ),
     ("10010b1112", 0, (0, 0, &[])),
+    (
+        "10010b0000000102030405060708090a0b0c0d0e0f10",
+        23,
+        (0, 0, &[]),
+    ),
     ("90010b0605114930201320064207", 20, (0, 0, &[])),
     (
         "90010b060511493020132006420707430202",
@@ -83,7 +88,7 @@ fn taken(octets: &[u8], wanted: &Taken) -> u8 {
 
 /// Of octets that a station reads that reads all forms.
 fn read_in_all(octets: &[u8], wanted: &Taken) -> u8 {
-    number_of(&read(true, 16, octets), wanted)
+    number_of(&read(&Some(decode(16, octets)), 16, octets), wanted)
 }
 
 fn numbers(octets: &[u8], wanted: &Taken) -> (u8, u8) {
@@ -105,7 +110,7 @@ fn taken_for_packets(rt: HostRuntime) {
 
 /// The error of octets in the form that a station writes, or 0.
 fn strict_error(octets: &[u8]) -> u8 {
-    match read(false, 16, octets) {
+    match read(&None, 16, octets) {
         Ok(_) => 0,
         Err(error) => error.number(),
     }

@@ -1,40 +1,21 @@
 -- What a station answers to a command, by what its layer answers.
-use Rattle.std.proofs.Common.{◌≡◌, ℕ, List, [], map, Option, Some, None, Result, Ok, Err, Bool, true, false, ◌==◌, if◌then◌else◌, refl, ap, sym, subst, ◌∙◌}
-use Rattle.x25_circuit.specs.Params.{Proposal}
-use Rattle.x25_packet.specs.Packet.{PlainPacket, restart}
-use Rattle.x25_link.specs.Station.{LinkSettings, LinkStation, Side}
-use Rattle.x25_link.specs.Link.{alone}
-use Rattle.x25_link.specs.code.FitsLink.{ShownLink, LinkState, FitsWhole, FitsLink}
+use Rattle.x25_station.proofs.Names.{◌≡◌, ℕ, List, [], Option, Some, None, Result, Ok, Err, Bool, true, false, ◌==◌, if◌then◌else◌, refl, ap, sym, subst, ◌∙◌}
+use Rattle.x25_station.proofs.Names.{Proposal, PlainPacket, restart, LinkSettings, LinkStation, Side, alone, ShownLink, LinkState, FitsWhole, FitsLink}
+use Rattle.x25_station.proofs.Names.{may_restart_for, Circuit, LayerError, LayerSettings, Layer, is_channel, restarting_from, LayerRequest, Asks, Dials}
+use Rattle.x25_station.proofs.Names.{Restarts, PullsAll, LayerOutcome, Accepted, Declined, layer_outcome, outcome_in, outcome_ready, outcome_on, where_room}
+use Rattle.x25_station.proofs.Names.{if_at_once, puts_at_once, dialled, restarted_for, free_channel, LinkView, Putting, Answered, Went, Refuses, went, calls}
+use Rattle.x25_station.proofs.Names.{refusal_of, after_all, LayerGives, LinkGives, FitsLayer, Manner, StationError, of_layer, Settings, link_settings}
+use Rattle.x25_station.proofs.Names.{layer_settings, manner_of, StationEntry, Station, all_put, view_of, waiting_after, may_ask, Outcome, did, requests}
+use Rattle.x25_station.proofs.{LinkLemmas.{put_by_put, same_view}, Names.{requests_of, where_asked, entries_of_outcome, KeptBy, FitsParts, kept_of}}
+use Rattle.x25_station.proofs.ResultLemmas.{ok_err, err_is}
 use Rattle.x25_circuit.specs.declared.error.CircuitError.TheVariants as circuit_error
-use Rattle.x25_circuit.specs.Cause.{may_restart_for}
-use Rattle.x25_circuit.specs.Circuit.{Circuit}
 use Rattle.x25_circuit.specs.Calling as circuit
 use Rattle.x25_layer.specs.declared.layer.Layer as layer_code
-use Rattle.x25_layer.specs.declared.error.LayerError.{LayerError}
 use Rattle.x25_layer.specs.declared.error.LayerError.TheVariants as layer_error
-use Rattle.x25_layer.specs.Layer.{LayerSettings, Layer, is_channel, restarting_from}
-use Rattle.x25_layer.specs.Calls.{LayerRequest, Asks, Dials, Restarts, PullsAll, LayerOutcome, Accepted, Declined, layer_outcome, outcome_in, outcome_ready}
-use Rattle.x25_layer.specs.Calls.{outcome_on, where_room, if_at_once, puts_at_once, dialled, restarted_for, free_channel}
-use Rattle.x25_layer.specs.laws.Rounds.{LinkView, Putting, Answered, Went, Refuses, went, calls, refusal_of}
 use Rattle.x25_station.specs.code.OverLink as over
-use Rattle.x25_station.specs.code.OverLink.{after_all, LayerGives, LinkGives}
-use Rattle.x25_layer.specs.code.FitsLayer.{FitsLayer}
-use Rattle.x25_station.specs.declared.config.Manner.{Manner}
 use Rattle.x25_station.specs.declared.step.Step as code_step
-use Rattle.x25_station.specs.declared.error.StationError.{StationError}
 use Rattle.x25_station.specs.declared.error.StationError.TheVariants as error
-use Rattle.x25_station.specs.Error.{of_layer}
-use Rattle.x25_station.specs.Config.{Settings, link_settings, layer_settings, manner_of}
-use Rattle.x25_station.specs.Entry.{StationEntry}
-use Rattle.x25_station.specs.Station.{Station, all_put, view_of, waiting_after}
-use Rattle.x25_station.specs.Command.{may_ask}
-use Rattle.x25_station.specs.Step.{Outcome, did, requests, requests_of, where_asked, entries_of_outcome}
-use Rattle.x25_station.specs.laws.KeepLaw.{KeptBy}
-use Rattle.x25_station.specs.code.FitsParts.{FitsParts}
 use Rattle.x25_station.specs.code.FitsStation as station
-use Rattle.x25_station.specs.Receiving.{kept_of}
-use Rattle.x25_station.proofs.LinkLemmas.{put_by_put, same_view}
-use Rattle.x25_station.proofs.ResultLemmas.{ok_err, err_is}
 
 -- ---- the link after the packets of a step
 

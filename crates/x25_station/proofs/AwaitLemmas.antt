@@ -1,47 +1,27 @@
 -- What a step makes of an answer that is awaited on a channel: it is awaited still, or fewer steps are left, and that is
 -- told.
-use Rattle.std.proofs.Common.{◌≡◌, ℕ, zero, suc, ◌<◌, ◌≤◌, ◌==◌, ◌⊎◌, inl, inr, List, [], ◌∷◌, map, Bool, true, false, ◌&&◌, ◌||◌, if◌then◌else◌, nat_lt}
-use Rattle.std.proofs.Common.{Option, Some, None, Result, Ok, Err, refl, sym, ap, subst, ◌∙◌, arith}
-use Rattle.std.proofs.lemmas.Bool.{true≢false, eqb-true, eq-eqb}
+use Rattle.x25_station.proofs.Names.{◌≡◌, ℕ, zero, suc, ◌<◌, ◌≤◌, ◌==◌, ◌⊎◌, inl, inr, List, [], ◌∷◌, map, Bool, true, false, ◌&&◌, ◌||◌, if◌then◌else◌, nat_lt}
+use Rattle.x25_station.proofs.Names.{Option, Some, None, Result, Ok, Err, refl, sym, ap, subst, ◌∙◌, arith, true≢false, eqb-true, eq-eqb, Role, Dte, Dce}
+use Rattle.x25_station.proofs.Names.{PacketError, PlainPacket, call, accept, clear, clear_conf, reset, reset_conf, restart, restart_conf, channel_in, Up, Marks}
+use Rattle.x25_station.proofs.Names.{Params, State, Free, Calling, Collision, Open, Resetting, Clearing, may_clear_for, may_restart_for, CircuitSettings}
+use Rattle.x25_station.proofs.Names.{Circuit, Done, Request, Calls, Accepts, Clears, Sends, Interrupts, call_in, accept_in, clear_in, send_in, interrupt_in}
+use Rattle.x25_station.proofs.Names.{outcome, Pulled, pull_in, pull_open, pulled, Piece, CallRequest, PlainNotice, connected, Proposal, may_answer, said_in}
+use Rattle.x25_station.proofs.Names.{Answer, answers, undecoded, Name, LayerSettings, Layer, LayerAnswer, is_channel, is_ready, put_at, notices_on, answers_on}
+use Rattle.x25_station.proofs.Names.{drops, restarting_from, answers_ready, answers_restarting, answers_in, undecoded_in, Asked, Told, name_of, shown}
+use Rattle.x25_station.proofs.Names.{LayerRequest, Asks, Dials, Restarts, PullsAll, LayerOutcome, Accepted, Declined, where_room, if_at_once, puts_at_once}
+use Rattle.x25_station.proofs.Names.{outcome_on, dialled, restarted_for, outcome_ready, outcome_in, layer_outcome, free_channel, layer_pulled, undecoded_at}
+use Rattle.x25_station.proofs.Names.{answer_to, LinkView, Putting, with_pulled, pull_one, round, rounds_of, rounds, backlog, StationEntry, of_channel}
+use Rattle.x25_station.proofs.Names.{restart_asked, was_restarted, restart_confirmed, at_fault, station_told, station_asked}
 use Rattle.std.specs.List.{list_any}
-use Rattle.x25_bits.specs.declared.role.Role.{Role}
-use Rattle.x25_bits.specs.declared.role.Role.TheVariants.{Dte, Dce}
-use Rattle.x25_packet.specs.declared.error.PacketError.{PacketError}
-use Rattle.x25_packet.specs.Packet.{PlainPacket, call, accept, clear, clear_conf, reset, reset_conf, restart, restart_conf}
-use Rattle.x25_packet.specs.Reading.{channel_in}
-use Rattle.x25_packet.specs.Spelling.{channel_of}
-use Rattle.x25_link.specs.declared.phase.Phase.TheVariants.{Up}
-use Rattle.x25_packet.specs.declared.marks.Marks.{Marks}
-use Rattle.x25_circuit.specs.declared.awaits.Awaits.{Awaits}
-use Rattle.x25_circuit.specs.declared.awaits.Awaits.TheVariants.{Nothing}
-use Rattle.x25_circuit.specs.declared.params.Params.{Params}
-use Rattle.x25_circuit.specs.declared.state.State.{State}
-use Rattle.x25_circuit.specs.declared.state.State.TheVariants.{Free, Calling, Collision, Open, Resetting, Clearing}
-use Rattle.x25_circuit.specs.declared.error.CircuitError.TheVariants as circuit_error
-use Rattle.x25_circuit.specs.Cause.{may_clear_for, may_restart_for}
 use Rattle.x25_circuit.specs.Awaits.{awaited_in}
-use Rattle.x25_circuit.specs.Circuit.{CircuitSettings, Circuit}
-use Rattle.x25_circuit.specs.Calling.{Outcome as CircuitOutcome, Done, Refused as CircuitRefused, Request, Calls, Accepts, Clears, Sends, Interrupts, Resets}
-use Rattle.x25_circuit.specs.Calling.{SaysReady, SaysNotReady, call_in, accept_in, clear_in, send_in, interrupt_in, reset_in, ready_in, outcome, Pulled}
-use Rattle.x25_circuit.specs.Calling.{pull_in, pull_open, pulled}
-use Rattle.x25_circuit.specs.Message.{Piece}
-use Rattle.x25_circuit.specs.Notice.{CallRequest, PlainNotice, connected}
-use Rattle.x25_circuit.specs.Params.{Proposal, may_answer, said_in}
+use Rattle.x25_circuit.specs.Calling.{Outcome as CircuitOutcome, Refused as CircuitRefused, Resets, SaysReady, SaysNotReady, reset_in, ready_in}
+use Rattle.x25_circuit.specs.declared.awaits.{Awaits.{Awaits}, Awaits.TheVariants.{Nothing}}
+use Rattle.x25_layer.specs.laws.Transcript.{Said}
+use Rattle.x25_packet.specs.Spelling.{channel_of}
+use Rattle.x25_station.specs.laws.{EndLaw.{is_answer, is_answer_in, clears_in, is_answered_on, is_left_on}, WayOutLaw.{rank_in, rank_of}}
+use Rattle.x25_circuit.specs.declared.error.CircuitError.TheVariants as circuit_error
 use Rattle.x25_circuit.specs.Hearing as table
-use Rattle.x25_circuit.specs.Hearing.{Answer, answers, undecoded}
-use Rattle.x25_handshakes.specs.laws.Names.{Name}
-use Rattle.x25_layer.specs.Layer.{LayerSettings, Layer, LayerAnswer, is_channel, is_ready, put_at, notices_on, answers_on, drops, restarting_from}
-use Rattle.x25_layer.specs.Layer.{answers_ready, answers_restarting, answers_in, undecoded_in}
-use Rattle.x25_layer.specs.laws.Transcript.{Said, Asked, Told, name_of}
-use Rattle.x25_layer.specs.laws.TwoLayers.{shown}
-use Rattle.x25_layer.specs.Calls.{LayerRequest, Asks, Dials, Restarts, PullsAll, LayerOutcome, Accepted, Declined, where_room, if_at_once, puts_at_once}
-use Rattle.x25_layer.specs.Calls.{outcome_on, dialled, restarted_for, outcome_ready, outcome_in, layer_outcome, free_channel, layer_pulled}
-use Rattle.x25_layer.specs.Receiving.{undecoded_at, answer_to}
-use Rattle.x25_layer.specs.laws.Rounds.{LinkView, Putting, with_pulled, pull_one, round, rounds_of, rounds, backlog}
 use Rattle.x25_layer.specs.declared.error.LayerError.TheVariants as error
-use Rattle.x25_station.specs.Entry.{StationEntry, of_channel, restart_asked, was_restarted, restart_confirmed, at_fault, station_told, station_asked}
-use Rattle.x25_station.specs.laws.EndLaw.{is_answer, is_answer_in, clears_in, is_answered_on, is_left_on}
-use Rattle.x25_station.specs.laws.WayOutLaw.{rank_in, rank_of}
 
 -- ---- the states in which an answer is awaited
 

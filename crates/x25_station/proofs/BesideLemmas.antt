@@ -1,53 +1,35 @@
--- Octets that are no DIAGNOSTIC, and are told of on no channel, bring nothing beside.
-use Rattle.std.proofs.Common.{ℕ, ◌+◌, ◌<◌, ◌≡◌, Bool, true, false, List, [], length, refl, sym, subst, nat_eq, nat_lt, Option, Some, None, All, Result, Ok, Err}
-use Rattle.std.specs.Prelude.{if◌then◌else◌, is_some}
-use Rattle.x25_packet.specs.Packet.{PlainPacket}
-use Rattle.x25_packet.specs.Reading.{packet_of}
-use Rattle.x25_packet.specs.Grammar.{form_in}
-use Rattle.x25_packet.specs.Block.{PlainBlock, PlainFields}
-use Rattle.x25_packet.specs.Form.{PlainKind, PlainForm, call, accept, extended_clear, clear_conf, diagnostic}
-use Rattle.x25_packet.specs.Form.Spelling.{type_of}
-use Rattle.x25_packet.specs.declared.error.PacketError.{PacketError}
-use Rattle.x25_packet.specs.declared.form.Forms.TheVariants.{Any}
+-- A packet in which a CALL has less user data than it may have is read so where it may have more.
+use Rattle.x25_station.proofs.Names.{ℕ, ◌<◌, ◌≤◌, ◌≡◌, subst, Bool, List, arith, Option, Some, None, Result, Ok, inl, inr, PacketError}
+use Rattle.std.{proofs.Common.{All}, specs.Prelude.{max}}
+use Rattle.x25_packet.specs.{Block.{IsBlock, PlainFields}, Form.{PlainKind, PlainForm, call, plain}, Form.Spelling.{IsKind, IsShort, Spells}}
+use Rattle.x25_packet.specs.{Grammar.{Gives, form_in}, declared.form.Form.{Form}, declared.form.Forms.TheVariants.{Any}}
 use Rattle.x25_packet.specs.laws.ReadingLaw.{ReadsFormsThatAreSpelled}
-use Rattle.x25_station.specs.Beside.{nothing, fields, of_fields, of_block, without_user, beside_kind, beside_or_none, unless_written, beside_in, may_diagnose}
-use Rattle.x25_station.specs.Entry.{entries_beside}
+use Rattle.x25_station.specs.Beside.{IsReadShorter}
 
-fields_untold : (f : Option PlainFields) → entries_beside (of_fields f) None ≡ []
-fields_untold None = refl
-fields_untold (Some f) = either (nat_lt 0 (length f.facilities + length f.user))
-  where
-    either : (b : Bool) → entries_beside (if b then fields f.facilities f.user else nothing) None ≡ []
-    either true = refl
-    either false = refl
+short_longer : (most : ℕ) (f : Option PlainFields) → most ≤ 128 → IsShort most f → IsShort 128 f
+short_longer most None few is = tt
+short_longer most (Some f) few (inl is) = inl (omega (arith, few, is))
+short_longer most (Some f) few (inr is) = inr is
 
-block_untold : (b : Option PlainBlock) → entries_beside (of_block b) None ≡ []
-block_untold None = refl
-block_untold (Some b) = fields_untold b.fields
+kind_longer : (a : Bool) (most : ℕ) (k : PlainKind) → most ≤ 128 → IsKind Any a most k → IsKind Any a 128 k
+kind_longer a most (call block) few is =
+    let same : max most 128 ≡ max 128 128 = omega (arith, few) in
+    (subst (λ n. IsBlock Any a n block) same is.0, short_longer most block.fields few is.1)
+kind_longer a most k few is = is
 
-differ : true ≡ false → ⊥
-differ h = cc
+spells_longer : (most : ℕ) (w : PlainForm) (octets : List ℕ) → most ≤ 128 → Spells Any most w octets → Spells Any 128 w octets
+spells_longer most w octets few s = record {
+  packet = record {
+    channel = s.packet.channel;
+    place = s.packet.place;
+    marks = s.packet.marks;
+    kind = kind_longer w.bit_8 most w.kind few s.packet.kind;
+  };
+  spelling = s.spelling;
+}
 
-kind_untold : (k : PlainKind) → nat_eq (type_of k) 241 ≡ false → entries_beside (beside_kind k) None ≡ []
-kind_untold (call block) other = fields_untold (without_user block.fields)
-kind_untold (accept block) other = block_untold block
-kind_untold (extended_clear cause reason block) other = fields_untold block.fields
-kind_untold (clear_conf block) other = block_untold block
-kind_untold (diagnostic number explanation) other = absurd (differ other)
-kind_untold k other = refl
-
-untold : ReadsFormsThatAreSpelled → (octets : List ℕ) → All (λ octet. octet < 256) octets → may_diagnose octets ≡ false
-    → entries_beside (beside_in true octets) None ≡ []
-untold reads octets small other = by (packet_of 128 octets) (form_in 128 octets) refl
-  where
-    by : (p : Result PlainPacket PacketError) (r : Result PlainForm PacketError) → form_in 128 octets ≡ r
-        → entries_beside (unless_written p (beside_or_none r)) None ≡ []
-    by (Ok v) r is = refl
-    by (Err e) (Err x) is = refl
-    by (Err e) (Ok w) is = kind_untold w.kind (subst (λ (o : List ℕ). may_diagnose o ≡ false) ((reads Any 128 w octets small).0 is).spelling other)
-
-pub untold_on : ReadsFormsThatAreSpelled → (octets : List ℕ) (channel : Option ℕ) → All (λ octet. octet < 256) octets → is_some channel ≡ false
-    → may_diagnose octets ≡ false
-    → [] ≡ entries_beside (beside_in true octets) channel
-untold_on reads octets None small none other = sym (untold reads octets small other)
-untold_on reads octets (Some h) small none other = absurd (differ none)
+pub read_longer : ReadsFormsThatAreSpelled → (octets : List ℕ) → All (λ octet. octet < 256) octets → (r : Result Form PacketError) (w : Form) → r ≡ Ok w
+    → IsReadShorter r octets → Spells Any 128 (plain w) octets
+read_longer reads octets small r w is shorter =
+    spells_longer shorter.0 (plain w) octets shorter.1 ((reads Any shorter.0 (plain w) octets small).0
+    (subst (λ (q : Result Form PacketError). Gives plain q (form_in shorter.0 octets)) is shorter.2))

@@ -1,27 +1,14 @@
 -- Of what a circuit accepts, the memory of a step has room for a copy.
-use Rattle.std.proofs.Common.{◌≡◌, ℕ, ◌≤◌, nat_le, nat_lt, List, [], length, Bool, true, false, ◌&&◌, ◌==◌, Option, Some, None, if◌then◌else◌, refl, subst}
-use Rattle.std.proofs.Common.{arith}
-use Rattle.std.specs.List.{list_all}
-use Rattle.std.proofs.lemmas.Bool.{and_parts, leb-true}
-use Rattle.x25_packet.specs.Digits.{is_figure}
-use Rattle.x25_packet.specs.Spelling.{longest_user}
-use Rattle.x25_packet.specs.declared.marks.Marks.{Marks}
-use Rattle.x25_circuit.specs.declared.error.CircuitError.{CircuitError}
+use Rattle.x25_station.proofs.Names.{◌≡◌, ℕ, ◌≤◌, nat_le, nat_lt, List, [], length, Bool, true, false, ◌&&◌, ◌==◌, Option, Some, None, if◌then◌else◌, refl}
+use Rattle.x25_station.proofs.Names.{subst, arith, list_all, and_parts, leb-true, longest_user, Marks, State, Free, Open, Proposal, CircuitSettings, Circuit}
+use Rattle.x25_station.proofs.Names.{Request, Calls, Sends, Interrupts, Done, outcome, call_in, send_in, interrupt_in, LayerSettings, Layer, is_channel, Asks}
+use Rattle.x25_station.proofs.Names.{Dials, LayerOutcome, Accepted, Declined, outcome_in, outcome_on, where_room, if_at_once, puts_at_once, dialled}
+use Rattle.x25_circuit.specs.{Calling.{Outcome, Refused, may_call, is_address_text}, Circuit.{waits}, declared.error.CircuitError.{CircuitError}}
 use Rattle.x25_circuit.specs.declared.error.CircuitError.TheVariants.{BadParameter, Full, TooLong, InterruptOutstanding}
-use Rattle.x25_circuit.specs.declared.state.State.{State}
-use Rattle.x25_circuit.specs.declared.state.State.TheVariants.{Free, Open}
-use Rattle.x25_circuit.specs.Params.{Proposal}
-use Rattle.x25_circuit.specs.Circuit.{CircuitSettings, Circuit, waits}
-use Rattle.x25_circuit.specs.Calling as circuit
-use Rattle.x25_circuit.specs.Calling.{Request, Calls, Sends, Interrupts, Outcome, Done, Refused, outcome, call_in, may_call, is_address_text, send_in}
-use Rattle.x25_circuit.specs.Calling.{interrupt_in}
 use Rattle.x25_layer.specs.declared.error.LayerError.TheVariants.{NoSuchChannel}
-use Rattle.x25_layer.specs.Layer.{LayerSettings, Layer, is_channel}
-use Rattle.x25_layer.specs.Calls.{Asks, Dials, LayerOutcome, Accepted, Declined, outcome_in, outcome_on, where_room, if_at_once, puts_at_once, dialled}
-use Rattle.x25_layer.specs.Calls.{free_channel}
-use Rattle.x25_layer.specs.laws.Rounds.{LinkView, Putting, Went, calls}
-use Rattle.x25_station.specs.code.Entries.{IsBrief}
-use Rattle.x25_station.proofs.AskedEntryLemmas.{accepted}
+use Rattle.x25_packet.specs.Digits.{is_figure}
+use Rattle.x25_station.proofs.{AskedEntryLemmas.{accepted}, Names.{free_channel, LinkView, Putting, Went, calls, IsBrief}}
+use Rattle.x25_circuit.specs.Calling as circuit
 
 -- ---- of a circuit
 

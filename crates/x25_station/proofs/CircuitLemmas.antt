@@ -1,39 +1,23 @@
 -- What a circuit gives fits, and what waits in it is cut into packets that fit.
-use Rattle.std.proofs.Common.{◌≡◌, ℕ, zero, suc, ◌+◌, ◌-◌, ◌%◌, ◌<◌, ◌≤◌, List, [], ◌∷◌, ◌++◌, length, take, drop, Option, Some, None, Bool, true, false}
-use Rattle.std.proofs.Common.{nat_lt, nat_le, ◌==◌, if◌then◌else◌, refl, sym, subst, arith, length-drop}
-use Rattle.std.specs.List.{list_all}
-use Rattle.std.specs.Prelude.{◌&&◌}
-use Rattle.std.proofs.lemmas.Bool.{and_parts, leb-true, and_from, le-leb, leb-false}
-use Rattle.std.proofs.lemmas.List.{length-take, length-map}
-use Rattle.std.proofs.lemmas.List.Elements.{All-take, All-drop}
-use Rattle.x25_bits.specs.declared.role.Role.{Role}
-use Rattle.x25_bits.specs.declared.role.Role.TheVariants.{Dte, Dce}
-use Rattle.x25_packet.specs.Digits.{is_digit, is_figure, digits_of_text, IsAddress}
-use Rattle.x25_packet.specs.Packet.{PlainPacket, call, accept, clear, clear_conf, user_data, rr, rnr, interrupt, interrupt_conf, reset, reset_conf, restart}
-use Rattle.x25_packet.specs.Packet.{restart_conf}
-use Rattle.x25_packet.specs.Spelling.{HasChannel, longest_user}
-use Rattle.x25_packet.specs.declared.marks.Marks.{Marks}
-use Rattle.x25_packet.specs.Marks.{with_q}
-use Rattle.x25_circuit.specs.declared.state.State.{State}
-use Rattle.x25_circuit.specs.declared.state.State.TheVariants.{Free, Calling, Arriving, Collision, Open, Resetting, Clearing}
-use Rattle.x25_circuit.specs.declared.error.CircuitError.TheVariants as error
-use Rattle.x25_circuit.specs.Message.{Piece, More, Last, Partial, no_part, joining, may_have_q, ground_of, piece_ground, q_of, user_of, piece_of, cut_from, cut}
-use Rattle.x25_window.specs.code.Modulo.{resolved}
-use Rattle.x25_packet.specs.Facilities.{IsFacilityField}
-use Rattle.x25_circuit.specs.declared.params.Params.{Params}
-use Rattle.x25_circuit.specs.Params.{Proposal, default_params, may_propose, may_answer, field_for, said_in, called_terms, calling_terms}
+use Rattle.x25_station.proofs.Names.{◌≡◌, ℕ, zero, suc, ◌+◌, ◌-◌, ◌%◌, ◌<◌, ◌≤◌, List, [], ◌∷◌, ◌++◌, length, take, drop, Option, Some, None, Bool, true, false}
+use Rattle.x25_station.proofs.Names.{nat_lt, nat_le, ◌==◌, if◌then◌else◌, refl, sym, subst, arith, list_all, and_parts, leb-true, Role, Dte, Dce, is_digit}
+use Rattle.x25_station.proofs.Names.{PlainPacket, call, accept, clear, clear_conf, user_data, rr, rnr, interrupt, interrupt_conf, reset, reset_conf, restart}
+use Rattle.x25_station.proofs.Names.{restart_conf, longest_user, Marks, State, Free, Calling, Arriving, Collision, Open, Resetting, Clearing, Piece, no_part}
+use Rattle.x25_station.proofs.Names.{joining, piece_of, IsFacilityField, Params, Proposal, default_params, may_answer, said_in, CircuitSettings, Talk, Circuit}
+use Rattle.x25_station.proofs.Names.{outgoing, CallRequest, connected, may_clear_for, Done, Request, Calls, Accepts, Clears, Sends, Interrupts, call_in}
+use Rattle.x25_station.proofs.Names.{accept_in, clear_in, send_in, interrupt_in, outcome, Pulled, pull_open, pull_in, pulled, Asks, may_ask, may_mark}
+use Rattle.std.proofs.{Common.{length-drop}, lemmas.Bool.{and_from, le-leb, leb-false}, lemmas.List.{length-take, length-map}}
+use Rattle.std.{proofs.lemmas.List.Elements.{All-take, All-drop}, specs.Prelude.{◌&&◌}}
+use Rattle.x25_circuit.specs.Calling.{Outcome, Refused, Resets, SaysReady, SaysNotReady, does, is_address_text, call_sent, may_call, accept_with, clear_with}
+use Rattle.x25_circuit.specs.{Calling.{reset_in, ready_in, pulls_nothing, data_packet}, Cause.{may_reset_for}, Circuit.{talking, incoming, waits}}
+use Rattle.x25_circuit.specs.Message.{More, Last, Partial, may_have_q, ground_of, piece_ground, q_of, user_of, cut_from, cut}
+use Rattle.x25_circuit.specs.Params.{may_propose, field_for, called_terms, calling_terms}
 use Rattle.x25_circuit.specs.laws.ParamsLaws.{FieldIsAllowed, SaidIsAllowed, AnswerIsAllowed, TermsAreAllowed, AreTerms}
-use Rattle.x25_circuit.specs.Circuit.{CircuitSettings, Talk, Circuit, talking, outgoing, incoming, waits}
-use Rattle.x25_circuit.specs.Notice.{CallRequest, connected}
+use Rattle.x25_packet.specs.{Digits.{is_figure, digits_of_text, IsAddress}, Marks.{with_q}, Spelling.{HasChannel}}
+use Rattle.x25_station.{proofs.FieldLemmas.{Fits}, proofs.Names.{AreOctets}, specs.laws.ReadLaw.{AsksOctets}}
+use Rattle.x25_window.specs.code.Modulo.{resolved}
+use Rattle.x25_circuit.specs.declared.error.CircuitError.TheVariants as error
 use Rattle.x25_circuit.specs.Hearing as table
-use Rattle.x25_circuit.specs.Cause.{may_clear_for, may_reset_for}
-use Rattle.x25_circuit.specs.Calling.{Outcome, Done, Refused, Request, Calls, Accepts, Clears, Sends, Interrupts, Resets, SaysReady, SaysNotReady, does}
-use Rattle.x25_circuit.specs.Calling.{is_address_text, call_sent, may_call, call_in, accept_with, accept_in, clear_with, clear_in, send_in, interrupt_in}
-use Rattle.x25_circuit.specs.Calling.{reset_in, ready_in, outcome, Pulled, pulls_nothing, data_packet, pull_open, pull_in, pulled}
-use Rattle.x25_layer.specs.Calls.{Asks}
-use Rattle.x25_station.specs.Command.{may_ask, may_mark}
-use Rattle.x25_station.specs.laws.ReadLaw.{AreOctets, AsksOctets}
-use Rattle.x25_station.proofs.FieldLemmas.{Fits}
 
 abbrev marks_of : Piece → Marks
 marks_of (More q user) = q

@@ -1,46 +1,52 @@
 -- What timer T1 does behind a step.
-use Rattle.std.proofs.Common.{◌≡◌, ◌∙◌, ◌+◌, ◌<◌, ◌≤◌, ℕ, Bool, true, false, List, [], length, drop, map, get_or, Result, Ok, Err, OnOk, OnErr, ap, sym, refl}
-use Rattle.std.proofs.Common.{arith}
-use Rattle.std.specs.Prelude.{not, ◌||◌}
-use Rattle.std.specs.Result.{is_ok}
-use Rattle.std.proofs.lemmas.Bool.{le-ltb}
-use Rattle.std.proofs.lemmas.List.{at_drop_more, drop_all}
-use Rattle.x25_link.specs.Station.{LinkStation}
-use Rattle.x25_station.specs.declared.entry.Entry.{Entry}
-use Rattle.x25_station.specs.declared.lent.Lent.{Lent}
-use Rattle.x25_station.specs.code.PlainEntry.{plain_entry}
-use Rattle.x25_station.specs.Station.{Station}
-use Rattle.x25_station.specs.Step.{Step, Outcome, Did, Refused}
-use Rattle.x25_station.specs.Config.{Settings}
-use Rattle.x25_station.specs.code.FitsStation.{FitsStation, Does, Leaves, Enters, Refuses}
-use Rattle.x25_station.specs.code.Clock.{IsTimer}
-use Rattle.x25_station.specs.declared.error.StationError.{StationError}
+use Rattle.x25_station.proofs.Names.{◌≡◌, ◌⊎◌, inl, inr, ◌∙◌, ◌+◌, ◌<◌, ◌≤◌, ℕ, Bool, true, false, List, [], length, drop, map, Result, Ok, Err, OnErr, ap, sym}
+use Rattle.x25_station.proofs.Names.{refl, arith, le-ltb, LinkStation, Reason, Lent, plain_entry, Station, Step, Outcome, Did, Refused, Settings, FitsStation}
+use Rattle.std.{proofs.Common.{get_or, OnOk}, proofs.lemmas.List.{at_drop_more, drop_all}, specs.Prelude.{not, ◌||◌}, specs.Result.{is_ok}}
+use Rattle.x25_station.proofs.{Names.{Does, Enters, StationError, Timer, is_acknowledged, tells_link, runs, StationEntry}, TimerLemmas.{HearsNone}}
+use Rattle.x25_station.specs.{Timer.{is_anew, is_of_link, standing, timer_of, timer_at, pulled_timer}, code.Clock.{IsTimer}, code.FitsStation.{Leaves, Refuses}}
+use Rattle.x25_station.specs.declared.{entry.Entry.{Entry}, timer.Timer.TheVariants.{GoesOn}}
+use Rattle.x25_station.specs.declared.entry.Entry.TheVariants as code_entry
 use Rattle.x25_station.specs.declared.station.Station as code
 use Rattle.x25_station.specs.declared.step.Step as code_step
-use Rattle.x25_station.specs.declared.timer.Timer.{Timer}
-use Rattle.x25_station.proofs.TimerLemmas.{HearsNone}
-use Rattle.x25_station.specs.Timer.{is_of_link, is_acknowledged, tells_link, runs, standing, timer_of, timer_at}
 
 -- among some entries the link came up or went down
 abbrev pub up : Lent → List Entry → Bool
 up lent entries = tells_link (map (plain_entry lent) entries)
 
 module _ (lent : Lent) (entries : List Entry) (i : ℕ) (d : Entry) (inside : i < length entries)
-    (same : up lent (drop i entries) ≡ up lent entries) where
-  next : (b : Bool) → is_of_link (plain_entry lent (get_or entries i d)) ≡ b → (b || up lent (drop (i + 1) entries)) ≡ up lent entries
+    (all : Bool) (same : up lent (drop i entries) ≡ all) where
+  next : (b : Bool) → is_of_link (plain_entry lent (get_or entries i d)) ≡ b → (b || up lent (drop (i + 1) entries)) ≡ all
   next b e = ap (λ b. b || up lent (drop (i + 1) entries)) (sym e) ∙ sym (at_drop_more (up lent) entries i d inside) ∙ same
 
-  pub link_here : is_of_link (plain_entry lent (get_or entries i d)) ≡ true → true ≡ up lent entries
+  pub link_here : is_of_link (plain_entry lent (get_or entries i d)) ≡ true → true ≡ all
   link_here e = next true e
 
-  pub link_behind : is_of_link (plain_entry lent (get_or entries i d)) ≡ false → up lent (drop (i + 1) entries) ≡ up lent entries
+  pub link_behind : is_of_link (plain_entry lent (get_or entries i d)) ≡ false → up lent (drop (i + 1) entries) ≡ all
   link_behind e = next false e
 
-pub link_nowhere : (lent : Lent) (entries : List Entry) (i : ℕ) → length entries ≤ i → up lent (drop i entries) ≡ up lent entries
-    → false ≡ up lent entries
-link_nowhere lent entries i all same = sym (ap (up lent) (drop_all i entries all)) ∙ same
+pub link_nowhere : (lent : Lent) (entries : List Entry) (i : ℕ) (all : Bool) → length entries ≤ i → up lent (drop i entries) ≡ all → false ≡ all
+link_nowhere lent entries i all behind same = sym (ap (up lent) (drop_all i entries behind)) ∙ same
+
+pub of_link : (lent : Lent) (e : Entry) → (e ≡ code_entry.LinkUp) ⊎ ((reason : Reason) × (e ≡ code_entry.LinkDown reason))
+    → is_of_link (plain_entry lent e) ≡ true
+of_link lent e (inl up) = ap (λ e. is_of_link (plain_entry lent e)) up
+of_link lent e (inr down) = ap (λ e. is_of_link (plain_entry lent e)) down.1
+
+pub not_of_link : (lent : Lent) (e : Entry) → (e ≡ code_entry.LinkUp → ⊥) → ((reason : Reason) → e ≡ code_entry.LinkDown reason → ⊥)
+    → is_of_link (plain_entry lent e) ≡ false
+not_of_link lent code_entry.LinkUp up down = absurd (up refl)
+not_of_link lent (code_entry.LinkDown reason) up down = absurd (down reason refl)
+not_of_link lent e up down = refl
 
 -- ---- what a call answers
+
+-- whether it begins anew, by what the code has of it
+pub anew_by : (fired : Bool) (s : Station) (step : Step) (ran told acked : Bool) (entries : List StationEntry) → ran ≡ runs s → entries ≡ step.entries
+    → told ≡ tells_link entries → acked ≡ is_acknowledged s.link step.near.link
+    → (not ran || (fired || (told || acked))) ≡ is_anew s fired step
+anew_by fired s step ran told acked entries r e t a =
+    ap (λ b. not b || (fired || (told || acked))) r ∙ ap (λ b. not (runs s) || (fired || (b || acked))) (t ∙ ap tells_link e)
+    ∙ ap (λ b. not (runs s) || (fired || (tells_link step.entries || b))) a
 
 -- a step that does nothing leaves T1 as it was
 abbrev none : Station → Step
@@ -52,6 +58,10 @@ unmoved true more is = ap (timer_of true) is
 
 same_acked : (s : LinkStation) → is_acknowledged s s ≡ false
 same_acked s = le-ltb _ _ (omega arith)
+
+pub goes_on : (runs : Bool) → pulled_timer GoesOn true runs ≡ timer_of runs false
+goes_on true = refl
+goes_on false = refl
 
 stands : (s : Station) → timer_at s false (Did (none s)) ≡ standing s
 stands s = unmoved (runs s) _ (same_acked s.link)

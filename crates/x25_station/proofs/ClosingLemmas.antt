@@ -1,19 +1,9 @@
 -- A call, an acceptance and a clearing confirm nothing: no stretch is open before such a packet and behind it.
-use Rattle.std.proofs.Common.{◌≡◌, ◌≢◌, ℕ, ◌-◌, ◌==◌, List, Bool, true, false, ◌&&◌, if◌then◌else◌, refl, ap, ◌∙◌, arith}
-use Rattle.std.proofs.lemmas.Bool.{eqb-true}
-use Rattle.x25_packet.specs.Packet.{PlainPacket, call, accept, clear}
-use Rattle.x25_packet.specs.Spelling.{spelling_of}
-use Rattle.x25_circuit.specs.declared.state.State.{State}
-use Rattle.x25_circuit.specs.declared.state.State.TheVariants.{Free}
-use Rattle.x25_circuit.specs.Circuit.{CircuitSettings, Circuit, is_open, is_open_in, unconfirmed}
-use Rattle.x25_circuit.specs.Hearing.{Answer, answers, request_in, row_call, row_accept, row_clear}
-use Rattle.x25_circuit.specs.Notice.{CallRequest}
-use Rattle.x25_layer.specs.Layer.{LayerSettings, Layer, LayerAnswer, is_channel, answers_on, answers_in, drops, layer_answers}
-use Rattle.x25_given.specs.Given.{PlainGiven}
-use Rattle.x25_given.specs.Writing.{written}
-use Rattle.x25_station.specs.Confirming.{confirmed, goes_on}
-use Rattle.x25_station.specs.Step.{confirmed_by}
-use Rattle.x25_station.proofs.ConfirmLemmas.{closed_before, closed_behind}
+use Rattle.x25_station.proofs.Names.{◌≡◌, ◌≢◌, ℕ, ◌-◌, ◌==◌, List, Bool, true, false, ◌&&◌, if◌then◌else◌, refl, ap, ◌∙◌, arith, eqb-true, PlainPacket, call}
+use Rattle.x25_station.proofs.Names.{accept, clear, spelling_of, State, Free, CircuitSettings, Circuit, is_open, is_open_in, unconfirmed, Answer, answers}
+use Rattle.x25_station.proofs.Names.{row_call, row_accept, row_clear, CallRequest, LayerSettings, Layer, LayerAnswer, is_channel, answers_on, answers_in, drops}
+use Rattle.x25_circuit.specs.Hearing.{request_in}
+use Rattle.x25_station.proofs.{ConfirmLemmas.{closed_before, closed_behind}, Names.{layer_answers, PlainGiven, written, confirmed, goes_on, confirmed_by}}
 
 -- ---- of a circuit
 

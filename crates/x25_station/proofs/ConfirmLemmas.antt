@@ -1,24 +1,13 @@
 -- What is confirmed from one layer to another, by what these tell.
-use Rattle.std.proofs.Common.{◌≡◌, ℕ, zero, suc, ◌-◌, List, [], ◌∷◌, ◌++◌, Some, None, Bool, true, false, ◌&&◌, ◌==◌, not, if◌then◌else◌, refl, ap, sym, ◌∙◌}
-use Rattle.std.proofs.Common.{eq-eqb, arith}
-use Rattle.std.proofs.lemmas.Bool.{eqb-true}
-use Rattle.std.proofs.lemmas.Option.{none-some, same_Some}
-use Rattle.x25_circuit.specs.Circuit.{is_open, unconfirmed}
-use Rattle.x25_handshakes.specs.laws.Names.{Name, both, same_name}
-use Rattle.x25_layer.specs.Layer.{LayerSettings, Layer, LayerAnswer, is_channel}
-use Rattle.x25_layer.specs.Layer.Confirmed.{unconfirmed_at}
-use Rattle.x25_station.specs.Confirming.{named_by}
-use Rattle.x25_layer.specs.laws.Rounds.{LinkView, Putting, begin, rounds}
-use Rattle.x25_layer.specs.code.FitsLayer.{is_open_at, name_at}
-use Rattle.x25_layer.specs.laws.Transcript.{name_of}
-use Rattle.x25_station.specs.declared.confirming.Unconfirmed.{Unconfirmed}
-use Rattle.x25_station.specs.Confirming.{confirmed, goes_on}
-use Rattle.x25_station.specs.code.Confirming.{StandsFor}
-use Rattle.x25_station.specs.code.PlainEntry.{plain_name}
+use Rattle.x25_station.proofs.Names.{◌≡◌, ℕ, zero, suc, ◌-◌, List, [], ◌∷◌, ◌++◌, Some, None, Bool, true, false, ◌&&◌, ◌==◌, not, if◌then◌else◌, refl, ap, sym}
+use Rattle.x25_station.proofs.Names.{◌∙◌, arith, Option, subst, eqb-true, none-some, same_Some, is_open, unconfirmed, Name, LayerSettings, Layer, LayerAnswer}
+use Rattle.x25_station.proofs.Names.{is_channel, named_by, LinkView, Putting, begin, rounds, is_open_at, name_of, confirmed, goes_on, plain_name, StationEntry}
+use Rattle.x25_station.proofs.Names.{bringing, entries_beside, entries_behind, was_confirmed, beside_in, layer_answer, entries_of_answer, entries_of_packet}
+use Rattle.std.proofs.Common.{eq-eqb}
+use Rattle.x25_handshakes.specs.laws.Names.{both, same_name}
+use Rattle.x25_layer.specs.{Layer.Confirmed.{unconfirmed_at}, code.FitsLayer.{name_at}}
 use Rattle.x25_station.proofs.NameLemmas.{rounds_name, rounds_open, rounds_unconfirmed}
-use Rattle.x25_station.specs.Entry.{StationEntry, bringing, entries_beside, entries_behind, was_confirmed}
-use Rattle.x25_station.specs.Beside.{beside_in}
-use Rattle.x25_station.specs.Step.{layer_answer, entries_of_answer, entries_of_packet}
+use Rattle.x25_station.specs.{code.Confirming.{Stands, StandsFor}, declared.confirming.Unconfirmed.{Unconfirmed}}
 
 true_false : true ≡ false → ⊥
 true_false is = cc
@@ -225,3 +214,6 @@ heard_all link c l octets mid after others told is behind =
     is ∙ ap (λ (es : List StationEntry). es ++ others) told
     ∙ ap (λ (es : List StationEntry). entries_of_answer a ++ es)
     (sym behind ∙ pulled_behind link c l (begin a.next a.owed) (named_by octets) (entries_beside (beside_in true octets) (bringing a.notices)))
+
+pub stands_by : (c : LayerSettings) (l : Layer) (h k : ℕ) (before : Option Unconfirmed) → h ≡ k → Stands c l h before → Stands c l k before
+stands_by c l h k before is stands = subst (λ (h : ℕ). Stands c l h before) is stands

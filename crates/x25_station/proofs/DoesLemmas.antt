@@ -1,38 +1,17 @@
 -- A call does what the definition says of it, by what the calls of its link or of its layer did.
-use Rattle.std.proofs.Common.{◌≡◌, ◌≤◌, List, [], length, Bool, true, false, Some, None, Result, Ok, Err, OnErr, refl, ap, sym, ◌∙◌, subst, arith}
-use Rattle.x25_link.specs.Station.{LinkStation, Side}
-use Rattle.x25_link.specs.Link.{alone}
-use Rattle.x25_link.specs.code.FitsLink.{ShownLink, LinkState, FitsWhole}
-use Rattle.x25_link.specs.code.Bounds.{WindowIsSmall, FewStand}
-use Rattle.x25_layer.specs.Layer.{LayerSettings, Layer}
-use Rattle.x25_layer.specs.Calls.{LayerRequest}
-use Rattle.x25_layer.specs.declared.error.LayerError.{LayerError}
-use Rattle.x25_layer.specs.laws.Rounds.{Answered, Went, Refuses as LayerRefuses, refusal_of}
-use Rattle.x25_station.specs.code.OverLink.{LinkGives}
-use Rattle.x25_layer.specs.code.FitsLayer.{FitsLayer}
+use Rattle.x25_station.proofs.Names.{◌≡◌, ◌≤◌, List, [], length, Bool, true, false, Some, None, Result, Ok, Err, OnErr, refl, ap, sym, ◌∙◌, subst, arith}
+use Rattle.x25_station.proofs.Names.{LinkStation, Side, alone, ShownLink, LinkState, FitsWhole, WindowIsSmall, FewStand, LayerSettings, Layer, LayerRequest}
+use Rattle.x25_station.proofs.Names.{LayerError, Answered, Went, refusal_of, LinkGives, FitsLayer, Manner, StationError, Timer, of_layer, Settings}
+use Rattle.x25_station.proofs.Names.{link_settings, layer_settings, Station, all_put, view_of, kept_of, FitsParts, AreMeant, may_ask, StationEntry, not_taken}
+use Rattle.x25_station.proofs.Names.{Outcome, Did, Refused, did, requests, where_asked, RequestKeeps, FitsStation, Does, IsEmpty, Enters}
+use Rattle.x25_layer.specs.laws.Rounds.{Refuses as LayerRefuses}
+use Rattle.x25_station.proofs.AskLemmas.{Layers, Links, Judges, Answers, IsNamed, answers, answered_by, requested, calls_named, judged_by, link_gives}
+use Rattle.x25_station.proofs.{AskLemmas.{after_puts, refuses, still_fits}, FrameLemmas.{few_put}}
+use Rattle.x25_station.{proofs.ResultLemmas.{ok_err}, proofs.TakeLemmas.{least_by_meaning, few_made}, specs.code.FitsStation.{Leaves, Sends, Refuses}}
 use Rattle.x25_layer.specs.declared.layer.Layer as layer_code
-use Rattle.x25_station.specs.declared.config.Manner.{Manner}
-use Rattle.x25_station.specs.declared.error.StationError.{StationError}
 use Rattle.x25_station.specs.declared.error.StationError.TheVariants as error
 use Rattle.x25_station.specs.declared.station.Station as code
 use Rattle.x25_station.specs.declared.step.Step as code_step
-use Rattle.x25_station.specs.declared.timer.Timer.{Timer}
-use Rattle.x25_station.specs.Error.{of_layer}
-use Rattle.x25_station.specs.Config.{Settings, link_settings, layer_settings}
-use Rattle.x25_station.specs.Station.{Station, all_put, view_of}
-use Rattle.x25_station.specs.Receiving.{kept_of}
-use Rattle.x25_station.specs.code.FitsParts.{FitsParts, AreMeant}
-use Rattle.x25_station.specs.Command.{may_ask}
-use Rattle.x25_station.specs.Entry.{StationEntry}
-use Rattle.x25_station.specs.Giving.{not_taken}
-use Rattle.x25_station.specs.Step.{Outcome, Did, Refused, did, requests, where_asked}
-use Rattle.x25_station.specs.laws.KeepLaw.{RequestKeeps}
-use Rattle.x25_station.specs.code.FitsStation.{FitsStation, Does, IsEmpty, Leaves, Sends, Enters, Refuses}
-use Rattle.x25_station.proofs.AskLemmas.{Layers, Links, Judges, Answers, IsNamed, answers, answered_by, requested, calls_named, judged_by, link_gives}
-use Rattle.x25_station.proofs.AskLemmas.{after_puts, refuses, still_fits}
-use Rattle.x25_station.proofs.TakeLemmas.{least_by_meaning, few_made}
-use Rattle.x25_station.proofs.FrameLemmas.{few_put}
-use Rattle.x25_station.proofs.ResultLemmas.{ok_err}
 
 -- ---- a refused call: nothing is left, sent or entered
 

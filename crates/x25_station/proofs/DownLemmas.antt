@@ -1,26 +1,11 @@
 -- A step of the link that hands nothing up, and notes nothing but that it went down.
-use Rattle.std.proofs.Common.{◌≡◌, ℕ, ◌+◌, List, [], ◌++◌, map, Option, Some, None, Ok, Bool, true, false, if◌then◌else◌, nat_lt, refl, sym, ap, subst, ◌∙◌}
+use Rattle.x25_station.proofs.Names.{◌≡◌, ℕ, ◌+◌, List, [], ◌++◌, map, Option, Some, None, Ok, Bool, true, false, if◌then◌else◌, nat_lt, refl, sym, ap, subst}
+use Rattle.x25_station.proofs.Names.{◌∙◌, LinkError, Reason, LinkSettings, LinkStation, Side, with_near, LinkStep, quiet, leaves, alone, asks_again, timer_step}
+use Rattle.x25_station.proofs.Names.{disconnect_step, relink_step, Retries, ShownLink, FitsLink, Layer, FitsLayer, Manner, Settings, link_settings}
+use Rattle.x25_station.proofs.Names.{layer_settings, manner_of, StationEntry, entries_down, Station, Step, follows, unless, IsKept, KeptBy, FitsParts}
 use Rattle.x25_frame.specs.Spelling.{spelling_of}
-use Rattle.x25_link.specs.declared.error.LinkError.{LinkError}
-use Rattle.x25_link.specs.declared.phase.Reason.{Reason}
-use Rattle.x25_link.specs.Station.{LinkSettings, LinkStation, Side, with_near}
-use Rattle.x25_link.specs.Hearing.{LinkStep, quiet, leaves}
-use Rattle.x25_link.specs.Link.{alone, asks_again, timer_step, disconnect_step, relink_step}
-use Rattle.x25_link.specs.declared.phase.Reason.TheVariants.{Retries}
-use Rattle.x25_link.specs.code.FitsLink.{ShownLink, FitsLink}
-use Rattle.x25_layer.specs.Layer.{Layer}
-use Rattle.x25_layer.specs.code.FitsLayer.{FitsLayer}
+use Rattle.x25_station.{proofs.KeepLemmas.{timer_none}, proofs.Names.{LeavesParts}, proofs.OutcomeLemmas.{leaves_unless}, specs.Step.{layer_down}}
 use Rattle.x25_layer.specs.declared.layer.Layer as layer_code
-use Rattle.x25_station.specs.declared.config.Manner.{Manner}
-use Rattle.x25_station.specs.Config.{Settings, link_settings, layer_settings, manner_of}
-use Rattle.x25_station.specs.Entry.{StationEntry, entries_down}
-use Rattle.x25_station.specs.Station.{Station}
-use Rattle.x25_station.specs.Step.{Step, follows, layer_down, unless}
-use Rattle.x25_station.specs.laws.KeepLaw.{IsKept, KeptBy}
-use Rattle.x25_station.specs.code.FitsParts.{FitsParts}
-use Rattle.x25_station.specs.code.FitsStation.{LeavesParts}
-use Rattle.x25_station.proofs.OutcomeLemmas.{leaves_unless}
-use Rattle.x25_station.proofs.KeepLemmas.{timer_none}
 
 -- the layer rests where it went down, and nothing is put
 abbrev pub downs : Layer → Side → Option Reason → Step

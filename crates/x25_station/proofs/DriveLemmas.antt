@@ -1,24 +1,17 @@
 -- A call of the layer over the link: what it has to put is put, and then what waits is pulled.
-use Rattle.std.proofs.Common.{◌≡◌, ◌≢◌, ◌⊎◌, inl, inr, ℕ, zero, suc, ◌<◌, List, [], ◌∷◌, length, nat_lt, Option, Some, None, Result, Ok, Err, OnErr, IsErrAnd}
-use Rattle.std.proofs.Common.{Bool, true, false, ◌==◌, if◌then◌else◌, refl, sym, ap, subst, ◌∙◌, arith}
-use Rattle.std.proofs.lemmas.Bool.{eqb-true}
-use Rattle.x25_packet.specs.Packet.{PlainPacket}
-use Rattle.x25_packet.specs.Spelling.{spelling_of}
-use Rattle.x25_link.specs.code.FitsLink.{ShownLink, LinkState, FitsWhole, up_of, waiting_of, up_at, waits_of}
-use Rattle.x25_link.specs.laws.LinkLaws.{link_waits, link_up}
-use Rattle.x25_layer.specs.declared.error.LayerError.{LayerError}
+use Rattle.x25_station.proofs.Names.{◌≡◌, ◌≢◌, ◌⊎◌, inl, inr, ℕ, zero, suc, ◌<◌, List, [], ◌∷◌, length, nat_lt, Option, Some, None, Result, Ok, Err, OnErr}
+use Rattle.x25_station.proofs.Names.{option_to_list, Bool, true, false, ◌==◌, if◌then◌else◌, refl, sym, ap, subst, ◌∙◌, arith, eqb-true, PlainPacket}
+use Rattle.x25_station.proofs.Names.{spelling_of, ShownLink, LinkState, FitsWhole, after_put_to, waiting_of, waits_of, link_waits, LayerError, LayerSettings}
+use Rattle.x25_station.proofs.Names.{Layer, LayerRequest, LayerOutcome, Accepted, Declined, PullsAll, layer_outcome, outcome_in, layer_pulled, LinkView}
+use Rattle.x25_station.proofs.Names.{Putting, Answered, Went, Refuses, begin, with_pulled, pull_one, round, rounds_of, backlog, rounds, went, calls, refusal_of}
+use Rattle.std.proofs.Common.{IsErrAnd}
+use Rattle.x25_layer.specs.{Calls.{asked_where, declined_for}, code.Answering.{Gives, Answers}}
+use Rattle.x25_link.specs.{code.FitsLink.{up_of, up_at}, laws.LinkLaws.{link_up}}
+use Rattle.x25_station.proofs.{Names.{FitsLayer, spelled, after_all, LayerGives, LinkGives}, RoundLemmas.{all_spelled, octets_put, spelled_some, not_empty}}
+use Rattle.x25_station.specs.code.OverLink.{seen_at, Drives}
 use Rattle.x25_layer.specs.declared.error.LayerError.TheVariants as error
 use Rattle.x25_layer.specs.declared.layer.Layer as layer_code
 use Rattle.x25_layer.specs.declared.link_state.LinkState as code
-use Rattle.x25_layer.specs.Layer.{LayerSettings, Layer}
-use Rattle.x25_layer.specs.Calls.{LayerRequest, LayerOutcome, Accepted, Declined, PullsAll, layer_outcome, asked_where, declined_for, outcome_in}
-use Rattle.x25_layer.specs.Calls.{layer_pulled}
-use Rattle.x25_layer.specs.laws.Rounds.{LinkView, Putting, Answered, Went, Refuses, begin, with_pulled, pull_one, round, rounds_of, backlog, rounds, went}
-use Rattle.x25_layer.specs.laws.Rounds.{calls, refusal_of}
-use Rattle.x25_layer.specs.code.FitsLayer.{FitsLayer}
-use Rattle.x25_layer.specs.code.Answering.{spelled, Gives, Answers}
-use Rattle.x25_station.proofs.RoundLemmas.{spelled_some, not_empty}
-use Rattle.x25_station.specs.code.OverLink.{after_all, seen_at, LayerGives, LinkGives, Drives}
 
 -- ---- the call, by what the layer is told of the link
 
@@ -219,6 +212,16 @@ none_spelled p octets is none = spelled_some p (sym is ∙ empty octets none)
     empty : (os : List ℕ) → (length os == 0) ≡ true → os ≡ []
     empty [] e = refl
     empty (o ∷ os) e = let n = eqb-true (length (o ∷ os)) 0 e in absurd (omega (arith, n))
+
+-- what was put where there was something to put
+pub some_put : (x : LinkState) (packet : Option PlainPacket) (octets : List ℕ) → octets ≡ spelled packet → (length octets == 0) ≡ false
+    → after_put_to x octets ≡ after_all x (option_to_list packet)
+some_put x packet octets is some = sym (octets_put x octets (not_empty octets some)) ∙ all_spelled x packet octets is
+
+pub none_put : (x : LinkState) (packet : Option PlainPacket) (octets : List ℕ) → octets ≡ spelled packet → (length octets == 0) ≡ true
+    → x ≡ after_all x (option_to_list packet)
+none_put x None octets is none = refl
+none_put x (Some p) octets is none = absurd (none_spelled p octets is none)
 
 pub free_for : (octets : List ℕ) (v : ShownLink) → (length octets == 0) ≡ false → (octets ≡ []) ⊎ (waiting_of v < 256) → waiting_of v < 256
 free_for octets v some (inl none) = absurd (not_empty octets some none)

@@ -1,44 +1,22 @@
 -- A command with or without something given beside its packet, by what the calls of its layer did.
-use Rattle.std.proofs.Common.{◌≡◌, ℕ, List, [], ◌∷◌, map, Option, Some, None, Result, Ok, Err, IsErrOf, Bool, true, false, ◌&&◌, refl, ap, sym, ◌∙◌}
-use Rattle.std.specs.Prelude.{IfSome}
-use Rattle.x25_link.specs.code.FitsLink.{ShownLink}
-use Rattle.x25_link.specs.code.Bounds.{WindowIsSmall, FewStand}
+use Rattle.x25_station.proofs.Names.{◌≡◌, ℕ, List, [], ◌∷◌, Option, Some, None, Result, Ok, Err, Bool, true, false, ◌&&◌, refl, ap, sym, ◌∙◌, ShownLink}
+use Rattle.x25_station.proofs.Names.{WindowIsSmall, FewStand, Proposal, in_brief, LayerError, Layer, is_channel, LayerRequest, Asks, Dials, free_channel}
+use Rattle.x25_station.proofs.Names.{FitsLayer, Asked, name_of, shown, PlainGiven, may_give, Manner, StationError, of_layer, may_ask, said_by, Settings}
+use Rattle.x25_station.proofs.Names.{layer_settings, manner_of, of_channel, suits, not_taken, Station, requests, RequestKeeps, GivenKeeps, FitsParts, AreMeant}
+use Rattle.std.{proofs.Common.{IsErrOf}, specs.Prelude.{IfSome}}
+use Rattle.x25_layer.specs.Calls.{asks_memory}
+use Rattle.x25_station.proofs.{AskLemmas.{Judges, answers, still_fits}, EnteredLemmas.{asked_enters, dialled_enters}, MayLemmas.{memory_unasked}}
+use Rattle.x25_station.proofs.{Names.{FitsStation, Does, IsEmpty, Enters, RefusesOnly, IsBrief}, OutcomeLemmas.{leaves_some, still_meant}}
+use Rattle.x25_station.{proofs.PullLemmas.{never_lacks}, proofs.SaidLemmas.{nowhere_alike}, specs.Command.{requesting}, specs.Giving.{may_ask_with}}
+use Rattle.x25_station.specs.{Step.{asks, commands}, code.OverLink.{DrivesAsked}}
 use Rattle.x25_circuit.specs.declared.error.CircuitError.TheVariants as circuit_error
-use Rattle.x25_circuit.specs.Params.{Proposal, in_brief}
 use Rattle.x25_circuit.specs.Calling as circuit
 use Rattle.x25_layer.specs.declared.layer.Layer as layer_code
-use Rattle.x25_layer.specs.declared.error.LayerError.{LayerError}
 use Rattle.x25_layer.specs.declared.error.LayerError.TheVariants as layer_error
-use Rattle.x25_layer.specs.Layer.{Layer, is_channel}
-use Rattle.x25_layer.specs.Calls.{LayerRequest, Asks, Dials, asks_memory, free_channel}
-use Rattle.x25_layer.specs.code.FitsLayer.{FitsLayer}
-use Rattle.x25_layer.specs.laws.Transcript.{Asked, name_of}
-use Rattle.x25_layer.specs.laws.TwoLayers.{shown}
-use Rattle.x25_given.specs.Given.{PlainGiven, may_give}
-use Rattle.x25_station.specs.declared.config.Manner.{Manner}
 use Rattle.x25_station.specs.declared.station.Station as code
 use Rattle.x25_station.specs.declared.step.Step as code_step
-use Rattle.x25_station.specs.declared.error.StationError.{StationError}
-use Rattle.x25_station.specs.Error.{of_layer}
-use Rattle.x25_station.specs.Command.{may_ask, requesting, said_by}
-use Rattle.x25_station.specs.Config.{Settings, layer_settings, manner_of}
-use Rattle.x25_station.specs.Entry.{of_channel}
-use Rattle.x25_station.specs.Giving.{suits, may_ask_with, not_taken}
-use Rattle.x25_station.specs.Station.{Station}
-use Rattle.x25_station.specs.Step.{asks, commands, requests}
-use Rattle.x25_station.specs.laws.KeepLaw.{RequestKeeps, GivenKeeps}
-use Rattle.x25_station.specs.code.FitsParts.{FitsParts, AreMeant}
-use Rattle.x25_station.specs.code.FitsStation.{FitsStation, Does, IsEmpty, Enters, RefusesOnly}
-use Rattle.x25_station.specs.code.Entries.{IsBrief}
-use Rattle.x25_station.specs.code.OverLink.{DrivesAsked}
-use Rattle.x25_station.proofs.AskLemmas.{Judges, answers, still_fits}
 use Rattle.x25_station.proofs.DoesLemmas as plain
-use Rattle.x25_station.proofs.EnteredLemmas.{asked_enters, dialled_enters}
 use Rattle.x25_station.proofs.GivingLemmas as given
-use Rattle.x25_station.proofs.MayLemmas.{memory_unasked}
-use Rattle.x25_station.proofs.OutcomeLemmas.{leaves_some, still_meant}
-use Rattle.x25_station.proofs.PullLemmas.{never_lacks}
-use Rattle.x25_station.proofs.SaidLemmas.{nowhere_alike}
 
 -- ---- what may be asked
 

@@ -1,30 +1,14 @@
 -- The entries of an accepted command are those of the definition.
-use Rattle.std.proofs.Common.{◌≡◌, ℕ, List, [], ◌∷◌, ◌==◌, Some, Ok, map, true, sym, subst, ◌∙◌}
-use Rattle.x25_circuit.specs.Params.{Proposal, in_brief}
-use Rattle.x25_link.specs.code.FitsLink.{ShownLink}
+use Rattle.x25_station.proofs.Names.{◌≡◌, ℕ, List, [], ◌∷◌, ◌==◌, Some, Ok, true, sym, subst, ◌∙◌, Proposal, in_brief, ShownLink, LayerSettings, Layer}
+use Rattle.x25_station.proofs.Names.{is_channel, LayerRequest, Asks, Dials, Restarts, PullsAll, layer_outcome, free_channel, LinkView, Putting, Answered, Went}
+use Rattle.x25_station.proofs.Names.{LayerGives, FitsLayer, Asked, name_of, shown, Manner, Settings, link_settings, layer_settings, StationEntry, of_channel}
+use Rattle.x25_station.proofs.Names.{restart_asked, Station, view_of, waiting_after, may_ask, requests, entries_of_outcome, FitsParts, Enters, IsBrief}
+use Rattle.x25_station.proofs.AskLemmas.{Layers, answered_by, requested, layer_gives, enters_did}
+use Rattle.x25_station.proofs.AskedEntryLemmas.{asked_entry, dialled_entry, restart_entry, pull_entry, asked_channel, free_is_channel}
+use Rattle.x25_station.proofs.{BriefLemmas.{asked_brief, dialled_brief}, MayLemmas.{where_holds}}
 use Rattle.x25_circuit.specs.Calling as circuit
 use Rattle.x25_layer.specs.declared.layer.Layer as layer_code
-use Rattle.x25_layer.specs.Layer.{LayerSettings, Layer, is_channel}
-use Rattle.x25_layer.specs.Calls.{LayerRequest, Asks, Dials, Restarts, PullsAll, layer_outcome, free_channel}
-use Rattle.x25_layer.specs.laws.Rounds.{LinkView, Putting, Answered, Went}
-use Rattle.x25_station.specs.code.OverLink.{LayerGives}
-use Rattle.x25_layer.specs.code.FitsLayer.{FitsLayer}
-use Rattle.x25_layer.specs.laws.Transcript.{Asked, name_of}
-use Rattle.x25_layer.specs.laws.TwoLayers.{shown}
-use Rattle.x25_station.specs.declared.config.Manner.{Manner}
 use Rattle.x25_station.specs.declared.step.Step as code_step
-use Rattle.x25_station.specs.Config.{Settings, link_settings, layer_settings}
-use Rattle.x25_station.specs.Entry.{StationEntry, of_channel, restart_asked}
-use Rattle.x25_station.specs.Station.{Station, view_of, waiting_after}
-use Rattle.x25_station.specs.Command.{may_ask}
-use Rattle.x25_station.specs.Step.{requests, entries_of_outcome}
-use Rattle.x25_station.specs.code.FitsParts.{FitsParts}
-use Rattle.x25_station.specs.code.FitsStation.{Enters}
-use Rattle.x25_station.proofs.AskLemmas.{Layers, answered_by, requested, layer_gives, enters_did}
-use Rattle.x25_station.specs.code.Entries.{IsBrief}
-use Rattle.x25_station.proofs.BriefLemmas.{asked_brief, dialled_brief}
-use Rattle.x25_station.proofs.MayLemmas.{where_holds}
-use Rattle.x25_station.proofs.AskedEntryLemmas.{asked_entry, dialled_entry, restart_entry, pull_entry, asked_channel, free_is_channel}
 
 abbrev entries_by : Settings → Station → LayerRequest → List StationEntry
 entries_by c s request = entries_of_outcome (layer_settings c) s.layer request

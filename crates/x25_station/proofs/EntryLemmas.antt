@@ -1,12 +1,9 @@
 -- The entries of a step have those of the layer's own transcript.
-use Rattle.std.proofs.Common.{◌≡◌, ℕ, zero, suc, List, [], ◌∷◌, ◌++◌, Option, Some, None, refl, ap}
-use Rattle.x25_circuit.specs.Calling.{Calls}
-use Rattle.x25_layer.specs.Layer.{LayerSettings, Layer, LayerNotice, on_channel, restarted, restart_done, layer_fault}
-use Rattle.x25_layer.specs.Calls.{LayerRequest, Asks, Dials, Restarts, PullsAll, free_channel}
-use Rattle.x25_layer.specs.laws.Transcript.{Entry, Told, name_of}
+use Rattle.x25_station.proofs.Names.{◌≡◌, ℕ, zero, suc, List, [], ◌∷◌, ◌++◌, Option, Some, None, refl, ap, Calls, LayerSettings, Layer, LayerNotice, on_channel}
+use Rattle.x25_station.proofs.Names.{restarted, restart_done, layer_fault, LayerRequest, Asks, Dials, Restarts, PullsAll, free_channel, Entry, Told, name_of}
+use Rattle.x25_station.proofs.Names.{PlainBeside, StationEntry, station_told, entries_beside, entries_behind, station_asked}
 use Rattle.x25_layer.specs.laws.TwoLayers.{entries_told, entries_asked, entry_of_dial}
-use Rattle.x25_station.specs.Beside.{PlainBeside, nothing, fields, diagnosed}
-use Rattle.x25_station.specs.Entry.{StationEntry, station_told, entries_beside, entries_behind, of_channels, station_asked, layer_entries, layer_notices}
+use Rattle.x25_station.specs.{Beside.{nothing, fields, diagnosed}, Entry.{of_channels, layer_entries, layer_notices}}
 
 beside_entries : (b : PlainBeside) (o : Option ℕ) → layer_entries (entries_beside b o) ≡ []
 beside_entries nothing o = refl

@@ -1,24 +1,15 @@
 -- A packet whose fields fit is read again from its octets.
-use Rattle.std.proofs.Common.{◌≡◌, ℕ, ◌+◌, ◌*◌, ◌/◌, ◌%◌, ◌<◌, ◌≤◌, List, [], ◌∷◌, ◌++◌, length, Option, Some, None, Ok, Bool, true, false, not, ◌||◌, refl}
-use Rattle.std.proofs.Common.{sym, ap, subst, ◌∙◌, arith, length-append}
-use Rattle.std.specs.List.{list_all}
+use Rattle.x25_station.proofs.Names.{◌≡◌, ℕ, ◌+◌, ◌*◌, ◌%◌, ◌<◌, ◌≤◌, List, [], ◌∷◌, ◌++◌, length, Option, Some, None, Ok, Bool, true, false, not, ◌||◌, refl}
+use Rattle.x25_station.proofs.Names.{sym, ap, subst, ◌∙◌, arith, length-append, list_all, and_parts, leb-true, is_digit, PlainPacket, call, accept, clear}
+use Rattle.x25_station.proofs.Names.{clear_conf, user_data, rr, rnr, interrupt, interrupt_conf, reset, reset_conf, restart, restart_conf, spelling_of}
+use Rattle.x25_station.proofs.Names.{IsInRange, longest_user, IsFacilityField, ReadsWhatIsSpelled, read_in, TakesWhatIsSpelled, may_mark, AreOctets}
+use Rattle.std.proofs.{Common.{◌/◌}, lemmas.List.Elements.{All-nil, All-cons, All-append}, lemmas.List.Folds.{list_all-append}}
 use Rattle.std.specs.Prelude.{◌&&◌}
-use Rattle.std.proofs.lemmas.Bool.{and_parts, leb-true}
-use Rattle.std.proofs.lemmas.List.Elements.{All-nil, All-cons, All-append}
-use Rattle.std.proofs.lemmas.List.Folds.{list_all-append}
 use Rattle.x25_bits.specs.Bits.{bit}
-use Rattle.x25_packet.specs.Digits.{packed, is_digit, IsAddress}
-use Rattle.x25_packet.specs.Packet.{PlainPacket, call, accept, clear, clear_conf, user_data, rr, rnr, interrupt, interrupt_conf, reset, reset_conf, restart}
-use Rattle.x25_packet.specs.Packet.{restart_conf}
-use Rattle.x25_packet.specs.Spelling.{channel_of, HasChannel, moved_to, format_of, type_of, call_body, accept_body, body_of, header_of, spelling_of, IsInRange}
-use Rattle.x25_packet.specs.Spelling.{IsWithoutD, longest_user}
+use Rattle.x25_packet.specs.{Digits.{packed, IsAddress}, Facilities.{facility, field_of, AreWithin, IfGiven}}
+use Rattle.x25_packet.specs.Spelling.{channel_of, HasChannel, moved_to, format_of, type_of, call_body, accept_body, body_of, header_of, IsWithoutD}
 use Rattle.x25_packet.specs.declared.facilities.Directions.{Directions}
-use Rattle.x25_packet.specs.Facilities.{facility, field_of, AreWithin, IfGiven, IsFacilityField}
-use Rattle.x25_packet.specs.laws.ReadingLaw.{ReadsWhatIsSpelled}
-use Rattle.x25_packet.specs.Taking.{read_in}
-use Rattle.x25_packet.specs.laws.TakingLaw.{TakesWhatIsSpelled}
-use Rattle.x25_station.specs.Command.{may_mark}
-use Rattle.x25_station.specs.laws.ReadLaw.{AreOctets, IsReadable}
+use Rattle.x25_station.specs.laws.ReadLaw.{IsReadable}
 
 abbrev pub IsOctet : ℕ → Type 0
 IsOctet octet = octet < 256

@@ -1,13 +1,9 @@
 -- What the layer does at a step of the link, by what the step noted and handed up.
-use Rattle.std.proofs.Common.{◌≡◌, ℕ, List, ◌++◌, Option, Some, None, Bool, true, false, refl, ap, sym, subst, ◌∙◌}
-use Rattle.std.proofs.lemmas.List.{append-nil}
+use Rattle.x25_station.proofs.Names.{◌≡◌, ℕ, List, ◌++◌, Option, Some, None, Bool, true, false, refl, ap, sym, subst, ◌∙◌, append-nil, Notes, Reason}
+use Rattle.x25_station.proofs.Names.{LayerSettings, Layer, LinkView, Putting, StationEntry, entries_noted, layer_at, layer_answer, entries_of_answer}
 use Rattle.std.specs.Option.{is_some}
-use Rattle.x25_link.specs.declared.phase.Notes.{Notes}
-use Rattle.x25_link.specs.declared.phase.Reason.{Reason}
-use Rattle.x25_layer.specs.Layer.{LayerSettings, Layer}
-use Rattle.x25_layer.specs.laws.Rounds.{LinkView, Putting, hears, comes_up}
-use Rattle.x25_station.specs.Entry.{StationEntry, entries_noted}
-use Rattle.x25_station.specs.Step.{rests, layer_at, layer_down, layer_answer, entries_of_answer, entries_of_packet, entries_heard}
+use Rattle.x25_layer.specs.laws.Rounds.{hears, comes_up}
+use Rattle.x25_station.{proofs.Names.{entries_of_packet, entries_heard}, specs.Step.{rests, layer_down}}
 
 true_false : true ≡ false → ⊥
 true_false is = cc
@@ -55,7 +51,5 @@ heard_entries c wide l o octets notes after off stays handed is =
     quiet = ap (λ (d : Option Reason). record { down = d; up = notes.up }) stays ∙ ap (λ (u : Bool). record { down = None; up = u }) off
 
 -- a station that reads the one form alone is told what the layer tells
-pub strict_entries : (c : LayerSettings) (wide : Bool) (l : Layer) (octets : List ℕ) → wide ≡ false → entries_of_packet c wide l octets
-    ≡ entries_of_answer (layer_answer c wide l octets)
-strict_entries c true l octets strict = absurd (true_false strict)
-strict_entries c false l octets strict = append-nil (entries_of_answer (layer_answer c false l octets))
+pub strict_entries : (c : LayerSettings) (l : Layer) (octets : List ℕ) → entries_of_packet c false l octets ≡ entries_of_answer (layer_answer c false l octets)
+strict_entries c l octets = append-nil (entries_of_answer (layer_answer c false l octets))

@@ -1,21 +1,14 @@
 -- A step is answered by few frames, whatever is handed down in it: one answers what came, each I frame takes a place in
 -- the window, and one RR at most ends an RNR.
-use Rattle.std.proofs.Common.{◌≡◌, ℕ, zero, suc, ◌+◌, ◌-◌, ◌<◌, ◌≤◌, List, [], ◌∷◌, ◌++◌, Bool, true, false, not, ◌&&◌, if◌then◌else◌, nat_lt, length, refl, ap}
-use Rattle.std.proofs.Common.{sym, ◌∙◌, arith}
-use Rattle.std.proofs.Math.Nat.{le_trans}
-use Rattle.std.proofs.lemmas.Bool.{and_parts, ltb-true}
+use Rattle.x25_station.proofs.Names.{◌≡◌, ℕ, zero, suc, ◌+◌, ◌-◌, ◌<◌, ◌≤◌, List, [], ◌∷◌, ◌++◌, Bool, true, false, not, ◌&&◌, if◌then◌else◌, nat_lt, length}
+use Rattle.x25_station.proofs.Names.{refl, ap, sym, ◌∙◌, arith, le_trans, and_parts, ltb-true, PlainPacket, PlainFrame, frame_of, added, LinkSettings}
+use Rattle.x25_station.proofs.Names.{LinkStation, Side, is_up, is_busy, with_near, sends, ready, send_next, may_send, pumped, owes_ready, ended, quiet, other}
 use Rattle.std.proofs.lemmas.List.{length-append}
-use Rattle.x25_packet.specs.Packet.{PlainPacket}
-use Rattle.x25_packet.specs.Spelling as packet
-use Rattle.x25_frame.specs.Frame.{PlainFrame, rr, rnr}
-use Rattle.x25_frame.specs.Reading.{frame_of}
-use Rattle.x25_link.specs.Outgoing.{is_open, added}
-use Rattle.x25_link.specs.Station.{LinkSettings, LinkStation, Side, is_up, is_busy, with_near, sends, wanted, ready, send_next, next_frame, may_send, pumped}
-use Rattle.x25_link.specs.Station.{owes_ready, finished, ended}
-use Rattle.x25_link.specs.Hearing.{quiet, other, takes, answers}
-use Rattle.x25_link.specs.Link.{alone, hears, take_step, put_step}
+use Rattle.x25_frame.specs.Frame.{rr, rnr}
 use Rattle.x25_link.proofs.FrameCount.{Few, hears_few}
-use Rattle.x25_station.specs.Station.{behind, put_on, all_put}
+use Rattle.x25_link.specs.{Link.{hears}, Outgoing.{is_open}, Station.{wanted, next_frame, finished}}
+use Rattle.x25_station.{proofs.Names.{alone, take_step, put_step, put_on, all_put}, specs.Station.{behind}}
+use Rattle.x25_packet.specs.Spelling as packet
 
 -- the places left in the window, and one where RNR was said
 abbrev pub said : Bool → ℕ

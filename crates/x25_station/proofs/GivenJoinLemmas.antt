@@ -1,30 +1,14 @@
 -- A step with something given is a step of its link joined with moves of its layer.
-use Rattle.std.proofs.Common.{◌≡◌, ℕ, List, ◌∷◌, ◌++◌, Option, Some, None, Bool, true, false, ◌==◌, if◌then◌else◌, option_to_list, refl, sym, ap, subst, ◌∙◌}
-use Rattle.std.proofs.lemmas.List.{append-nil}
-use Rattle.x25_packet.specs.Packet.{PlainPacket}
-use Rattle.x25_link.specs.Outgoing.{waits}
-use Rattle.x25_link.specs.Station.{LinkSettings, is_up}
-use Rattle.x25_link.specs.Link.{alone}
-use Rattle.x25_link.specs.laws.NoteLaw.{PutTells}
-use Rattle.x25_layer.specs.declared.error.LayerError.TheVariants as layer_error
-use Rattle.x25_layer.specs.Layer.{LayerSettings, Layer, LayerNotice}
-use Rattle.x25_layer.specs.Calls.{LayerOutcome, Accepted, Declined, layer_outcome}
-use Rattle.x25_layer.specs.laws.Rounds.{LinkView, Putting, begin, rounds, backlog, Went, Refuses, went, calls}
-use Rattle.x25_layer.specs.laws.Transcript.{Entry}
-use Rattle.x25_layer.specs.laws.TwoLayers.{TwoLayers, Move, Requests, requested, moves_in, moves}
-use Rattle.x25_layer.specs.laws.RoundLaw.{moves_all, pulls_of, AreChannels, CallsRun}
-use Rattle.x25_station.specs.declared.error.StationError.{StationError}
-use Rattle.x25_station.specs.declared.error.StationError.TheVariants as error
-use Rattle.x25_station.specs.Config.{link_settings, layer_settings}
-use Rattle.x25_station.specs.Entry.{station_asked}
-use Rattle.x25_station.specs.Giving.{is_taken, view_given, not_taken}
-use Rattle.x25_station.specs.Step.{Step, Did, Refused, entries_of_outcome, with_given, gave}
+use Rattle.x25_station.proofs.Names.{◌≡◌, ℕ, List, ◌∷◌, ◌++◌, Option, Some, None, Bool, true, false, ◌==◌, if◌then◌else◌, option_to_list, refl, sym, ap, subst}
+use Rattle.x25_station.proofs.Names.{◌∙◌, append-nil, PlainPacket, waits, LinkSettings, is_up, alone, PutTells, LayerSettings, Layer, LayerNotice, LayerOutcome}
+use Rattle.x25_station.proofs.Names.{Accepted, Declined, layer_outcome, LinkView, Putting, begin, rounds, backlog, Went, Refuses, went, calls, Entry, TwoLayers}
+use Rattle.x25_station.proofs.Names.{Move, requested, moves_in, moves, StationError, link_settings, layer_settings, station_asked, is_taken, view_given}
+use Rattle.x25_layer.specs.laws.{RoundLaw.{moves_all, pulls_of, AreChannels, CallsRun}, TwoLayers.{Requests}}
+use Rattle.x25_station.proofs.{EntryLemmas.{asked_entries, asked_notices}, GivingLemmas.{rounds_given}, KeepLemmas.{below}}
+use Rattle.x25_station.proofs.{Names.{not_taken, Step, Did, Refused, entries_of_outcome, with_given, gave}, PutLemmas.{accepts}, RequestLemmas.{has_room}}
 use Rattle.x25_station.specs.laws.GivenLaw.{AreTaken, GivenIsJoined, IsGivenJoined}
-use Rattle.x25_station.proofs.EntryLemmas.{asked_entries, asked_notices}
-use Rattle.x25_station.proofs.GivingLemmas.{rounds_given}
-use Rattle.x25_station.proofs.KeepLemmas.{below}
-use Rattle.x25_station.proofs.PutLemmas.{accepts}
-use Rattle.x25_station.proofs.RequestLemmas.{has_room}
+use Rattle.x25_layer.specs.declared.error.LayerError.TheVariants as layer_error
+use Rattle.x25_station.specs.declared.error.StationError.TheVariants as error
 
 -- ---- as the request of two layers
 

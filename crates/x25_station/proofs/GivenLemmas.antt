@@ -1,22 +1,11 @@
 -- What is given beside a packet the user of the other end is told, where that end reads the packet.
-use Rattle.std.proofs.Common.{ℕ, ◌≡◌, ◌≢◌, ◌∙◌, List, ◌++◌, Some, Result, Ok, Err, Bool, true, false, inl, refl, sym, ap, arith}
+use Rattle.x25_station.proofs.Names.{ℕ, ◌≡◌, ◌≢◌, ◌∙◌, List, ◌++◌, Some, Result, Ok, Err, Bool, true, false, inl, refl, sym, ap, arith, PlainPacket, IsInRange}
+use Rattle.x25_station.proofs.Names.{spelling_of, Marks, PacketError, ReadsWhatIsSpelled, TakesWhatIsSpelled, PlainGiven, may_give, write, written, beside_in}
+use Rattle.x25_given.specs.{Writing.{bare_block, call_block, fields, form_of, headed, written_read}, laws.ReadingLaw.{MayGo, WrittenIsInForm, WrittenIsRead}}
+use Rattle.x25_packet.specs.{Form.{PlainForm}, Grammar.{form_in}, Reading.{packet_of}, Spelling.{IsWithoutD}, laws.TakingLaw.{TakesWhatIsWritten}}
+use Rattle.x25_station.{proofs.Names.{AreOctets}, specs.Beside.{beside_kind, beside_or_none, unless_written}, specs.laws.GivenLaw.{GivenIsTold, GivenIsWritten}}
 use Rattle.x25_packet.specs.Packet as packet
-use Rattle.x25_packet.specs.Packet.{PlainPacket}
-use Rattle.x25_packet.specs.Reading.{packet_of}
-use Rattle.x25_packet.specs.Spelling.{IsInRange, IsWithoutD, spelling_of}
-use Rattle.x25_packet.specs.declared.marks.Marks.{Marks}
-use Rattle.x25_packet.specs.declared.error.PacketError.{PacketError}
-use Rattle.x25_packet.specs.laws.ReadingLaw.{ReadsWhatIsSpelled}
 use Rattle.x25_packet.specs.Form as wide
-use Rattle.x25_packet.specs.Form.{PlainForm}
-use Rattle.x25_packet.specs.Grammar.{form_in}
-use Rattle.x25_packet.specs.laws.TakingLaw.{TakesWhatIsSpelled, TakesWhatIsWritten}
-use Rattle.x25_given.specs.Given.{PlainGiven, may_give}
-use Rattle.x25_given.specs.Writing.{bare_block, call_block, fields, form_of, headed, write, written, written_read}
-use Rattle.x25_given.specs.laws.ReadingLaw.{MayGo, WrittenIsInForm, WrittenIsRead}
-use Rattle.x25_station.specs.Beside.{beside_in, beside_kind, beside_or_none, unless_written}
-use Rattle.x25_station.specs.laws.GivenLaw.{GivenIsTold, GivenIsWritten}
-use Rattle.x25_station.specs.laws.ReadLaw.{AreOctets}
 
 ok_same : (u v : PlainPacket) → (let r : Result PlainPacket PacketError = Ok u in r ≡ Ok v) → u ≡ v
 ok_same u v e = cc

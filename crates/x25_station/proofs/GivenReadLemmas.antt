@@ -1,36 +1,19 @@
 -- A packet that is read is read as it with what is given beside it too.
-use Rattle.std.proofs.Common.{◌≡◌, ℕ, ◌+◌, ◌*◌, ◌/◌, ◌%◌, ◌<◌, ◌≤◌, List, [], ◌∷◌, ◌++◌, length, Bool, true, false, nat_le, not, inl, sym, ap, ap₂, subst, ◌∙◌}
-use Rattle.std.proofs.Common.{arith, length-append}
-use Rattle.std.specs.List.{list_all}
+use Rattle.x25_station.proofs.Names.{◌≡◌, ℕ, ◌+◌, ◌*◌, ◌%◌, ◌<◌, ◌≤◌, List, [], ◌∷◌, ◌++◌, length, Bool, true, false, nat_le, not, inl, sym, ap, ap₂, subst}
+use Rattle.x25_station.proofs.Names.{◌∙◌, arith, length-append, list_all, and_parts, leb-true, is_digit, IsFacilityField, PlainPacket, call, accept, clear}
+use Rattle.x25_station.proofs.Names.{IsInRange, longest_user, spelling_of, ReadsWhatIsSpelled, read_in, TakesWhatIsSpelled, PlainGiven, may_give, write}
+use Rattle.x25_station.proofs.Names.{written, LayerSettings, LayerAnswer, layer_answers, named_by, answer_to, PlainBeside, beside_in, layer_settings}
+use Rattle.x25_station.proofs.Names.{StationEntry, bringing, entries_beside, layer_answer, entries_of_answer, confirmed_by, AreOctets}
+use Rattle.std.proofs.{Common.{◌/◌}, lemmas.List.Elements.{All-append, All-head, All-tail}, lemmas.List.Folds.{list_all-append}}
 use Rattle.std.specs.Prelude.{◌&&◌, is_some}
-use Rattle.std.proofs.lemmas.Bool.{and_parts, leb-true}
-use Rattle.std.proofs.lemmas.List.Elements.{All-append, All-head, All-tail}
-use Rattle.std.proofs.lemmas.List.Folds.{list_all-append}
 use Rattle.x25_bits.specs.Bits.{bit}
-use Rattle.x25_packet.specs.Digits.{packed, is_digit}
-use Rattle.x25_packet.specs.Facilities.{IsFacilityField}
-use Rattle.x25_packet.specs.Packet.{PlainPacket, call, accept, clear}
-use Rattle.x25_packet.specs.Spelling.{IsInRange, addresses, body_of, header_of, longest_user, spelling_of}
-use Rattle.x25_packet.specs.laws.ReadingLaw.{ReadsWhatIsSpelled}
-use Rattle.x25_packet.specs.Classes.{are_facilities, none_own, own_in}
-use Rattle.x25_packet.specs.Taking.{read_in}
-use Rattle.x25_packet.specs.laws.TakingLaw.{TakesWhatIsSpelled, TakesWhatIsWritten}
-use Rattle.x25_given.specs.Given.{PlainGiven, may_give}
-use Rattle.x25_given.specs.Writing.{write, written}
 use Rattle.x25_given.specs.laws.ReadingLaw.{WrittenIsInForm, WrittenIsRead}
-use Rattle.x25_layer.specs.Layer.{LayerSettings, LayerAnswer, layer_answers}
-use Rattle.x25_station.specs.Confirming.{named_by}
-use Rattle.x25_layer.specs.Receiving.{answer_to}
-use Rattle.x25_station.specs.Beside.{PlainBeside, beside_in}
-use Rattle.x25_station.specs.Config.{layer_settings}
-use Rattle.x25_station.specs.Entry.{StationEntry, bringing, entries_beside}
-use Rattle.x25_station.specs.Step.{layer_answer, entries_of_answer, confirmed_by}
-use Rattle.x25_station.specs.laws.GivenLaw.{GivesOctets, GivenIsHeard, GivenIsRead, IsReadInAll, told}
-use Rattle.x25_station.specs.laws.ReadLaw.{AreOctets, IsReadable}
+use Rattle.x25_packet.specs.{Classes.{are_facilities, none_own, own_in}, Digits.{packed}, Spelling.{addresses, body_of, header_of}}
+use Rattle.x25_packet.specs.laws.TakingLaw.{TakesWhatIsWritten}
+use Rattle.x25_station.proofs.{ClosingLemmas.{given_confirms_none}, ConfirmLemmas.{nothing_behind}}
 use Rattle.x25_station.proofs.FieldLemmas.{IsOctet, bit_low, field_octets, field_short, length_packed, octets_more, packed_octets, user_short}
-use Rattle.x25_station.proofs.ClosingLemmas.{given_confirms_none}
-use Rattle.x25_station.proofs.ConfirmLemmas.{nothing_behind}
 use Rattle.x25_station.proofs.GivenLemmas.{given_told, given_written}
+use Rattle.x25_station.specs.laws.{GivenLaw.{GivesOctets, GivenIsHeard, GivenIsRead, IsReadInAll, told}, ReadLaw.{IsReadable}}
 
 -- with more user data of a CALL at most
 wider : (most : ℕ) → most ≤ 128 → (v : PlainPacket) → IsInRange most v → IsInRange 128 v

@@ -1,65 +1,30 @@
 -- A call, an acceptance or a clearing with something given beside its packet.
-use Rattle.std.proofs.Common.{◌≡◌, ℕ, zero, suc, ◌<◌, ◌≤◌, List, [], ◌∷◌, ◌++◌, length, map, Option, Some, None, Result, Ok, Err, Bool, true, false, nat_lt}
-use Rattle.std.proofs.Common.{◌==◌, ◌&&◌, if◌then◌else◌, option_to_list, refl, ap, sym, subst, ◌∙◌, arith}
-use Rattle.std.proofs.Math.Nat.{le_trans}
-use Rattle.std.proofs.Math.Path.{fun_ext}
-use Rattle.std.proofs.lemmas.Bool.{ltb-true}
-use Rattle.std.proofs.lemmas.List.{map-append}
-use Rattle.x25_packet.specs.Packet.{PlainPacket}
-use Rattle.x25_packet.specs.Spelling as packet
+use Rattle.x25_station.proofs.Names.{◌≡◌, ℕ, zero, suc, ◌<◌, ◌≤◌, List, [], ◌∷◌, ◌++◌, length, map, Option, Some, None, Result, Ok, Err, Bool, true, false}
+use Rattle.x25_station.proofs.Names.{nat_lt, ◌==◌, ◌&&◌, if◌then◌else◌, option_to_list, refl, ap, sym, subst, ◌∙◌, arith, le_trans, fun_ext, ltb-true}
+use Rattle.x25_station.proofs.Names.{map-append, PlainPacket, waits, LinkSettings, LinkStation, Side, is_up, alone, put_refusal, put_step, ShownLink, LinkState}
+use Rattle.x25_station.proofs.Names.{FitsWhole, waits_of, WindowIsSmall, FewStand, PutTells, Proposal, in_brief, LayerError, LayerSettings, Layer, is_channel}
+use Rattle.x25_station.proofs.Names.{LayerRequest, Asks, Dials, LayerOutcome, Accepted, Declined, layer_outcome, layer_pulled, free_channel, outcome_in}
+use Rattle.x25_station.proofs.Names.{outcome_on, if_at_once, puts_at_once, LinkView, Putting, Answered, Went, Refuses, begin, with_pulled, pull_one, round}
+use Rattle.x25_station.proofs.Names.{rounds_of, rounds, backlog, went, calls, refusal_of, LayerGives, FitsLayer, Asked, name_of, shown, PlainGiven, may_give}
+use Rattle.x25_station.proofs.Names.{write, Manner, StationError, of_layer, Settings, link_settings, layer_settings, manner_of, StationEntry, of_channel, suits}
+use Rattle.x25_station.proofs.Names.{is_taken, all_given, view_given, not_taken, kept_of, Station, view_of, Step, Outcome, Did, Refused, entries_of_outcome}
+use Rattle.x25_station.proofs.Names.{with_given, gave, IsKept, KeptBy, GivenKeeps, FitsParts, AreMeant, FitsStation, Does, IsEmpty, IsBrief}
 use Rattle.x25_frame.specs.Spelling.{spelling_of}
-use Rattle.x25_link.specs.Outgoing.{waits}
-use Rattle.x25_link.specs.Station.{LinkSettings, LinkStation, Side, is_up}
-use Rattle.x25_link.specs.Link.{alone, put_refusal, put_step}
-use Rattle.x25_link.specs.code.FitsLink.{ShownLink, LinkState, FitsWhole, waits_of}
-use Rattle.x25_link.specs.code.Bounds.{WindowIsSmall, FewStand}
-use Rattle.x25_link.specs.laws.NoteLaw.{PutTells}
-use Rattle.x25_circuit.specs.Params.{Proposal, in_brief}
+use Rattle.x25_station.proofs.AskLemmas.{taken_link, IsNamed, calls_named, still_fits, Judges}
+use Rattle.x25_station.proofs.{AskedEntryLemmas.{asked_entry, dialled_entry, asked_channel, free_is_channel}, BriefLemmas.{asked_brief, dialled_brief}}
+use Rattle.x25_station.proofs.{DoesLemmas.{declines}, FrameLemmas.{count_of, put_lower, all_lower, said_few}, KeepLemmas.{put_few, room_of, all_few, below}}
+use Rattle.x25_station.proofs.LinkLemmas.{put_by_put, same_view}
+use Rattle.x25_station.proofs.{OutcomeLemmas.{leaves_some, still_meant}, PutLemmas.{accepted_append, all_up, accepts}, RequestLemmas.{has_room}}
+use Rattle.x25_station.{proofs.ResultLemmas.{ok_err, err_is}, proofs.TakeLemmas.{least_by_meaning, few_made}, specs.Station.{behind}}
+use Rattle.x25_station.specs.{Step.{gives_of, gives}, code.OverLink.{all_with, seen_with, GoesWith}, laws.GivenLaw.{AreTaken}}
+use Rattle.x25_packet.specs.Spelling as packet
 use Rattle.x25_circuit.specs.Calling as circuit
 use Rattle.x25_layer.specs.declared.layer.Layer as layer_code
-use Rattle.x25_layer.specs.declared.error.LayerError.{LayerError}
 use Rattle.x25_layer.specs.declared.error.LayerError.TheVariants as layer_error
-use Rattle.x25_layer.specs.Layer.{LayerSettings, Layer, is_channel}
-use Rattle.x25_layer.specs.Calls.{LayerRequest, Asks, Dials, LayerOutcome, Accepted, Declined, layer_outcome, layer_pulled, free_channel, outcome_in}
-use Rattle.x25_layer.specs.Calls.{outcome_on, if_at_once, puts_at_once}
-use Rattle.x25_layer.specs.laws.Rounds.{LinkView, Putting, Answered, Went, Refuses, begin, with_pulled, pull_one, round, rounds_of, rounds, backlog, went}
-use Rattle.x25_layer.specs.laws.Rounds.{calls, refusal_of}
 use Rattle.x25_station.specs.code.OverLink as over
-use Rattle.x25_station.specs.code.OverLink.{LayerGives, all_with, seen_with, GoesWith}
-use Rattle.x25_layer.specs.code.FitsLayer.{FitsLayer}
-use Rattle.x25_layer.specs.laws.Transcript.{Asked, name_of}
-use Rattle.x25_layer.specs.laws.TwoLayers.{shown}
-use Rattle.x25_given.specs.Given.{PlainGiven, may_give}
-use Rattle.x25_given.specs.Writing.{write}
-use Rattle.x25_station.specs.declared.config.Manner.{Manner}
 use Rattle.x25_station.specs.declared.station.Station as code
 use Rattle.x25_station.specs.declared.step.Step as code_step
-use Rattle.x25_station.specs.declared.error.StationError.{StationError}
-use Rattle.x25_station.specs.Error.{of_layer}
-use Rattle.x25_station.specs.Config.{Settings, link_settings, layer_settings, manner_of}
-use Rattle.x25_station.specs.Entry.{StationEntry, of_channel}
-use Rattle.x25_station.specs.Giving.{suits, is_taken, all_given, view_given, not_taken}
-use Rattle.x25_station.specs.Receiving.{kept_of}
-use Rattle.x25_station.specs.Station.{Station, behind, view_of}
-use Rattle.x25_station.specs.Step.{Step, Outcome, Did, Refused, entries_of_outcome, with_given, gave, gives_of, gives}
-use Rattle.x25_station.specs.laws.GivenLaw.{AreTaken}
-use Rattle.x25_station.specs.laws.KeepLaw.{IsKept, KeptBy, GivenKeeps}
-use Rattle.x25_station.specs.code.FitsParts.{FitsParts, AreMeant}
 use Rattle.x25_station.specs.code.FitsStation as station
-use Rattle.x25_station.specs.code.FitsStation.{FitsStation, Does, IsEmpty}
-use Rattle.x25_station.specs.code.Entries.{IsBrief}
-use Rattle.x25_station.proofs.BriefLemmas.{asked_brief, dialled_brief}
-use Rattle.x25_station.proofs.AskLemmas.{taken_link, IsNamed, calls_named, still_fits, Judges}
-use Rattle.x25_station.proofs.AskedEntryLemmas.{asked_entry, dialled_entry, asked_channel, free_is_channel}
-use Rattle.x25_station.proofs.DoesLemmas.{declines}
-use Rattle.x25_station.proofs.FrameLemmas.{count_of, put_lower, all_lower, said_few}
-use Rattle.x25_station.proofs.KeepLemmas.{put_few, room_of, all_few, below}
-use Rattle.x25_station.proofs.LinkLemmas.{put_by_put, same_view}
-use Rattle.x25_station.proofs.OutcomeLemmas.{leaves_some, still_meant}
-use Rattle.x25_station.proofs.PutLemmas.{accepted_append, all_up, accepts}
-use Rattle.x25_station.proofs.RequestLemmas.{has_room}
-use Rattle.x25_station.proofs.ResultLemmas.{ok_err, err_is}
-use Rattle.x25_station.proofs.TakeLemmas.{least_by_meaning, few_made}
 
 -- ---- the link after the packets
 

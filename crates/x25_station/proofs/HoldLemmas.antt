@@ -1,21 +1,14 @@
 -- What a station holds at most: as many messages wait in a circuit as its queue has.
-use Rattle.std.proofs.Common.{◌≡◌, ℕ, zero, suc, ◌+◌, ◌<◌, ◌≤◌, nat_le, List, [], ◌∷◌, ◌++◌, length, take, drop, Some, Bool, true, false, if◌then◌else◌, refl}
-use Rattle.std.proofs.Common.{subst, ap, arith}
-use Rattle.std.specs.List.{slice_get}
-use Rattle.std.proofs.lemmas.Bool.{and_parts, leb-true}
-use Rattle.std.proofs.lemmas.List.{length-append}
-use Rattle.x25_packet.specs.declared.marks.Marks.{Marks}
+use Rattle.x25_station.proofs.Names.{◌≡◌, ℕ, zero, suc, ◌+◌, ◌<◌, ◌≤◌, nat_le, List, [], ◌∷◌, ◌++◌, length, take, drop, Some, Bool, true, false, if◌then◌else◌}
+use Rattle.x25_station.proofs.Names.{refl, subst, ap, arith, and_parts, leb-true, Marks, Piece, no_part, joining, WindowIsSmall, is_channel, FitsStation}
+use Rattle.x25_station.proofs.Names.{Station, Settings, link_settings, layer_settings}
+use Rattle.std.{proofs.lemmas.List.{length-append}, specs.List.{slice_get}}
+use Rattle.x25_circuit.specs.{Message.{Message, More, Last, cut_from, cut_all, wholes, Partial}, code.FitsCircuit.{FitsCircuit}}
+use Rattle.x25_link.specs.code.Bounds.{FewStand as LinkStands}
 use Rattle.x25_packet.specs.Marks.{with_q}
 use Rattle.x25_circuit.specs.declared.circuit.Circuit as circuit_code
-use Rattle.x25_circuit.specs.Message.{Message, Piece, More, Last, cut_from, cut_all, wholes, Partial, no_part, joining}
 use Rattle.x25_circuit.specs.Circuit as circuit
-use Rattle.x25_circuit.specs.code.FitsCircuit.{FitsCircuit}
-use Rattle.x25_link.specs.code.Bounds.{FewStand as LinkStands, WindowIsSmall}
-use Rattle.x25_layer.specs.Layer.{is_channel}
 use Rattle.x25_station.specs.declared.station.Station as code
-use Rattle.x25_station.specs.code.FitsStation.{FitsStation}
-use Rattle.x25_station.specs.Station.{Station}
-use Rattle.x25_station.specs.Config.{Settings, link_settings, layer_settings}
 use Rattle.x25_station.specs.laws.HoldLaw as law
 
 wholes_append : (a b : List Piece) → wholes (a ++ b) ≡ wholes a + wholes b

@@ -1,41 +1,21 @@
 -- Each step of a station is a step of its link joined with moves of its layer.
-use Rattle.std.proofs.Common.{◌≡◌, ℕ, ◌<◌, ◌≤◌, List, [], ◌∷◌, ◌++◌, Option, Some, None, Result, Ok, Bool, true, false, ◌==◌, if◌then◌else◌, option_to_list}
-use Rattle.std.proofs.Common.{refl, sym, ap, subst, ◌∙◌, arith}
-use Rattle.std.proofs.lemmas.Bool.{eq-eqb}
-use Rattle.std.proofs.lemmas.List.{append-nil}
-use Rattle.x25_packet.specs.declared.error.PacketError.{PacketError}
-use Rattle.x25_packet.specs.Packet.{PlainPacket}
-use Rattle.x25_packet.specs.Taking.{read_in}
-use Rattle.x25_link.specs.declared.phase.Notes.{Notes}
-use Rattle.x25_link.specs.Outgoing.{waits}
-use Rattle.x25_link.specs.Station.{LinkStation, Side, is_up}
-use Rattle.x25_link.specs.Hearing.{LinkStep}
-use Rattle.x25_link.specs.Link.{alone, take_step, abandon_step}
-use Rattle.x25_link.specs.laws.NoteLaw.{IsQuiet, PutTells, TakeTells, TakeHandsUp}
+use Rattle.x25_station.proofs.Names.{◌≡◌, ℕ, ◌<◌, ◌≤◌, List, [], ◌∷◌, ◌++◌, Option, Some, None, Result, Ok, Bool, true, false, ◌==◌, if◌then◌else◌}
+use Rattle.x25_station.proofs.Names.{option_to_list, refl, sym, ap, subst, ◌∙◌, arith, eq-eqb, append-nil, PacketError, PlainPacket, read_in, Notes, waits}
+use Rattle.x25_station.proofs.Names.{LinkStation, Side, is_up, LinkStep, alone, take_step, abandon_step, PutTells, TakeTells, TakeHandsUp, LayerSettings, Layer}
+use Rattle.x25_station.proofs.Names.{LayerAnswer, LayerNotice, goes_up, layer_answers, LayerOutcome, Accepted, Declined, layer_outcome, named_by, answer_to}
+use Rattle.x25_station.proofs.Names.{LinkView, Putting, begin, rounds, Went, Refuses, went, calls, longest_user, Entry, TwoLayers, Move, requested, moves_in}
+use Rattle.x25_station.proofs.Names.{moves, StationError, may_ask, Settings, link_settings, layer_settings, beside_in, StationEntry, bringing, entries_noted}
+use Rattle.x25_station.proofs.Names.{station_asked, view_of, Step, Outcome, Did, Refused, with_puts, layer_at, entries_heard, entries_of_packet}
+use Rattle.x25_station.proofs.Names.{entries_of_outcome, layer_answer, confirmed_by, follows, did, requests_of, AreAccepted}
+use Rattle.x25_layer.specs.laws.{RoundLaw.{moves_all, pulls_of, AreChannels, IsRun, CallsRun, HearsRun, ComesUpAlone}, Rounds.{hears}}
+use Rattle.x25_layer.specs.laws.TwoLayers.{Requests, HandsUp, answered, handed_up}
+use Rattle.x25_link.specs.laws.NoteLaw.{IsQuiet}
+use Rattle.x25_station.proofs.{EntryLemmas.{told_entries, told_notices, behind_entries, behind_notices, asked_entries, asked_notices}, MayLemmas.{asked_did}}
+use Rattle.x25_station.proofs.{PutLemmas.{accepts, rounds_accepted, begin_accepted}, RequestLemmas.{has_room}}
+use Rattle.x25_station.specs.Entry.{layer_entries, layer_notices}
+use Rattle.x25_station.specs.laws.JoinLaw.{IsJoined, RequestIsJoined, ReceiveIsJoined, QuietIsJoined, DownIsJoined, ComesUp, UpIsJoined}
 use Rattle.x25_layer.specs.declared.error.LayerError.TheVariants as layer_error
-use Rattle.x25_layer.specs.Layer.{LayerSettings, Layer, LayerAnswer, LayerNotice, goes_up, layer_answers}
-use Rattle.x25_layer.specs.Calls.{LayerOutcome, Accepted, Declined, layer_outcome}
-use Rattle.x25_station.specs.Confirming.{named_by}
-use Rattle.x25_layer.specs.Receiving.{answer_to}
-use Rattle.x25_layer.specs.laws.Rounds.{LinkView, Putting, begin, rounds, Went, Refuses, went, calls, hears}
-use Rattle.x25_packet.specs.Spelling.{longest_user}
-use Rattle.x25_layer.specs.laws.Transcript.{Entry}
-use Rattle.x25_layer.specs.laws.TwoLayers.{TwoLayers, Move, Requests, HandsUp, requested, answered, handed_up, moves_in, moves}
-use Rattle.x25_layer.specs.laws.RoundLaw.{moves_all, pulls_of, AreChannels, IsRun, CallsRun, HearsRun, ComesUpAlone}
-use Rattle.x25_station.specs.declared.error.StationError.{StationError}
 use Rattle.x25_station.specs.declared.error.StationError.TheVariants as error
-use Rattle.x25_station.specs.Command.{may_ask}
-use Rattle.x25_station.specs.Config.{Settings, link_settings, layer_settings}
-use Rattle.x25_station.specs.Beside.{beside_in}
-use Rattle.x25_station.specs.Entry.{StationEntry, bringing, entries_noted, station_asked, layer_entries, layer_notices}
-use Rattle.x25_station.specs.Station.{view_of}
-use Rattle.x25_station.specs.Step.{Step, Outcome, Did, Refused, with_puts, layer_at, entries_heard, entries_of_packet, entries_of_outcome, layer_answer}
-use Rattle.x25_station.specs.Step.{confirmed_by, follows, did, requests_of}
-use Rattle.x25_station.specs.laws.JoinLaw.{AreAccepted, IsJoined, RequestIsJoined, ReceiveIsJoined, QuietIsJoined, DownIsJoined, ComesUp, UpIsJoined}
-use Rattle.x25_station.proofs.PutLemmas.{accepts, rounds_accepted, begin_accepted}
-use Rattle.x25_station.proofs.EntryLemmas.{told_entries, told_notices, behind_entries, behind_notices, asked_entries, asked_notices}
-use Rattle.x25_station.proofs.RequestLemmas.{has_room}
-use Rattle.x25_station.proofs.MayLemmas.{asked_did}
 
 -- a run of the layer's moves, and the link's acceptance of what it puts
 joined : (c : Settings) (w : TwoLayers) (moved : List Move) (first : TwoLayers) (t : Side) (back : List PlainPacket) (s : Putting) (entries : List StationEntry)

@@ -1,39 +1,22 @@
 -- Every step of a station leaves at most 256 packets waiting, and the layer at rest where the link isn't up.
-use Rattle.std.proofs.Common.{◌≡◌, ℕ, zero, suc, ◌+◌, ◌<◌, ◌≤◌, List, [], ◌∷◌, ◌++◌, length, max, Option, Some, None, Bool, true, false, not, nat_lt, ◌==◌}
-use Rattle.std.proofs.Common.{if◌then◌else◌, option_to_list, refl, sym, ap, subst, ◌∙◌, arith, length-append}
-use Rattle.std.proofs.lemmas.Bool.{eq-eqb}
-use Rattle.std.proofs.Math.Nat.{le_trans}
-use Rattle.x25_packet.specs.Packet.{PlainPacket}
-use Rattle.x25_packet.specs.Spelling.{spelling_of}
-use Rattle.x25_link.specs.declared.error.LinkError.{LinkError}
+use Rattle.x25_station.proofs.Names.{◌≡◌, ℕ, zero, suc, ◌+◌, ◌<◌, ◌≤◌, List, [], ◌∷◌, ◌++◌, length, Option, Some, None, Bool, true, false, not, nat_lt, ◌==◌}
+use Rattle.x25_station.proofs.Names.{if◌then◌else◌, option_to_list, refl, sym, ap, subst, ◌∙◌, arith, length-append, eq-eqb, le_trans, PlainPacket, spelling_of}
+use Rattle.x25_station.proofs.Names.{LinkError, Phase, Down, Waiting, Up, Closed, Reason, Retries, waits, added, LinkSettings, LinkStation, Side, is_up}
+use Rattle.x25_station.proofs.Names.{with_nothing, with_near, is_busy, ready, may_send, send_next, pumped, owes_ready, ended, LinkStep, quiet, leaves, alone}
+use Rattle.x25_station.proofs.Names.{put_refusal, put_step, take_step, timer_refusal, asks_again, timer_step, connect_refusal, connect_step, disconnect_refusal}
+use Rattle.x25_station.proofs.Names.{disconnect_step, abandon_step, probe_refusal, relink_refusal, relink_step, Tells, TakeTells, TakeHandsUp, PutTells}
+use Rattle.x25_station.proofs.Names.{LayerSettings, Layer, goes_up, LayerOutcome, Accepted, Declined, layer_outcome, LinkView, Putting, begin, rounds, Refuses}
+use Rattle.x25_station.proofs.Names.{went, Settings, link_settings, layer_settings, Requests, RequestsWith, Connects, Disconnects, Probes, Relinks, said_by}
+use Rattle.x25_station.proofs.Names.{may_ask, StationEntry, connect_asked, disconnect_asked, relink_asked, Station, put_on, all_put, view_of, Step, with_puts}
+use Rattle.x25_station.proofs.Names.{layer_at, layer_answer, follows, led_by, unless, abandons, entries_of_outcome, did, requests_of, AreAccepted, IsKept}
+use Rattle.std.proofs.Common.{max}
+use Rattle.x25_link.specs.{Link.{connects as link_connects, disconnects as link_disconnects, relinks as link_relinks}, Outgoing.{Outgoing, moved_on}}
+use Rattle.x25_link.specs.Station.{Lists, fresh}
+use Rattle.x25_link.specs.laws.NoteLaw.{IsQuiet, HandsUp, TakeContinues, TimerTells, TimerContinues, ConnectTells, DisconnectTells, AbandonTells, RelinkTells}
+use Rattle.x25_station.proofs.{MayLemmas.{where_holds}, Names.{KeptBy, RequestKeeps, GivenKeeps}, PutLemmas.{all_up, rounds_accepted, begin_accepted}}
+use Rattle.x25_station.{proofs.RequestLemmas.{has_room}, specs.laws.KeepLaw.{ConnectKeeps, TimerKeeps, CommandKeeps, ReceiveKeeps}}
 use Rattle.x25_link.specs.declared.error.LinkError.TheVariants as link_error
-use Rattle.x25_link.specs.declared.phase.Phase.{Phase}
-use Rattle.x25_link.specs.declared.phase.Phase.TheVariants.{Down, Waiting, Up, Closed}
-use Rattle.x25_link.specs.declared.phase.Reason.{Reason}
-use Rattle.x25_link.specs.declared.phase.Reason.TheVariants.{Retries}
-use Rattle.x25_link.specs.Outgoing.{Outgoing, waits, moved_on, added}
-use Rattle.x25_link.specs.Station.{LinkSettings, LinkStation, Lists, Side, is_up, fresh, with_nothing, with_near, is_busy, ready, may_send, send_next, pumped}
-use Rattle.x25_link.specs.Station.{owes_ready, ended}
-use Rattle.x25_link.specs.Hearing.{LinkStep, quiet, leaves}
-use Rattle.x25_link.specs.Link.{alone, put_refusal, put_step, take_step, timer_refusal, asks_again, timer_step, connect_refusal, connects as link_connects}
-use Rattle.x25_link.specs.Link.{connect_step, disconnect_refusal, disconnects as link_disconnects, disconnect_step, abandon_step, probe_refusal, relink_refusal}
-use Rattle.x25_link.specs.Link.{relinks as link_relinks, relink_step}
-use Rattle.x25_link.specs.laws.NoteLaw.{IsQuiet, Tells, HandsUp, TakeTells, TakeContinues, TakeHandsUp, TimerTells, TimerContinues, PutTells, ConnectTells}
-use Rattle.x25_link.specs.laws.NoteLaw.{DisconnectTells, AbandonTells, RelinkTells}
 use Rattle.x25_layer.specs.declared.error.LayerError.TheVariants as layer_error
-use Rattle.x25_layer.specs.Layer.{LayerSettings, Layer, goes_up}
-use Rattle.x25_layer.specs.Calls.{LayerOutcome, Accepted, Declined, layer_outcome}
-use Rattle.x25_layer.specs.laws.Rounds.{LinkView, Putting, begin, rounds, Refuses, went}
-use Rattle.x25_station.specs.Config.{Settings, link_settings, layer_settings}
-use Rattle.x25_station.specs.Command.{Requests, RequestsWith, Connects, Disconnects, Probes, Relinks, said_by, may_ask}
-use Rattle.x25_station.specs.Entry.{StationEntry, connect_asked, disconnect_asked, relink_asked}
-use Rattle.x25_station.specs.Station.{Station, put_on, all_put, view_of}
-use Rattle.x25_station.specs.Step.{Step, with_puts, layer_at, layer_answer, follows, led_by, unless, abandons, entries_of_outcome, did, requests_of}
-use Rattle.x25_station.specs.laws.JoinLaw.{AreAccepted}
-use Rattle.x25_station.specs.laws.KeepLaw.{IsKept, KeptBy, ConnectKeeps, TimerKeeps, RequestKeeps, GivenKeeps, CommandKeeps, ReceiveKeeps}
-use Rattle.x25_station.proofs.PutLemmas.{all_up, rounds_accepted, begin_accepted}
-use Rattle.x25_station.proofs.RequestLemmas.{has_room}
-use Rattle.x25_station.proofs.MayLemmas.{where_holds}
 
 -- ---- what waits in the link
 

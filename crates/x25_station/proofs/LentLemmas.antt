@@ -1,20 +1,12 @@
 -- Entries, with what their step lends.
-use Rattle.std.proofs.Common.{◌≡◌, ℕ, ◌+◌, List, [], ◌∷◌, map, ap, ap₂, arith, refl, sym, ◌∙◌}
-use Rattle.std.specs.List.{sum_by}
-use Rattle.std.proofs.lemmas.List.Sums.{sum_by-cons}
-use Rattle.x25_circuit.specs.Calling.{Request}
-use Rattle.x25_circuit.specs.Notice.{PlainNotice}
+use Rattle.x25_station.proofs.Names.{◌≡◌, ℕ, List, [], ◌∷◌, map, ap, ap₂, arith, refl, sym, ◌∙◌, Request, PlainNotice, Lent, StationEntry, of_channel}
+use Rattle.std.{proofs.lemmas.List.Sums.{sum_by-cons}, specs.List.{sum_by}}
+use Rattle.x25_station.{proofs.Names.{plain_entry, plain_name}, specs.code.Entries.{comes_beside}, specs.code.PlainEntry.{plain_asked, plain_told}}
+use Rattle.x25_station.specs.declared.entry.{Asked.{Asked}, Entry.{Entry}, Told.{Told}}
 use Rattle.x25_layer.specs.laws.Transcript as said
-use Rattle.x25_station.specs.declared.entry.Entry.{Entry}
 use Rattle.x25_station.specs.declared.entry.Entry.TheVariants as code
-use Rattle.x25_station.specs.declared.entry.Asked.{Asked}
 use Rattle.x25_station.specs.declared.entry.Asked.TheVariants as asked
-use Rattle.x25_station.specs.declared.entry.Told.{Told}
 use Rattle.x25_station.specs.declared.entry.Told.TheVariants as told
-use Rattle.x25_station.specs.declared.lent.Lent.{Lent}
-use Rattle.x25_station.specs.Entry.{StationEntry, of_channel}
-use Rattle.x25_station.specs.code.Entries.{comes_beside}
-use Rattle.x25_station.specs.code.PlainEntry.{plain_asked, plain_entry, plain_name, plain_told}
 
 -- a list that shows none has none
 pub none_listed : (lent : Lent) (list : List Entry) → map (plain_entry lent) list ≡ [] → list ≡ []

@@ -1,3 +1,4 @@
+pub mod Names
 pub mod LentLemmas
 pub mod PutLemmas
 pub mod EntryLemmas

@@ -1,18 +1,10 @@
 -- The link after packets were put one by one, as the packet layer sees it, is the link of the station's step.
-use Rattle.std.proofs.Common.{Result, Ok, OnOk, subst, ◌≡◌, ℕ, List, [], ◌∷◌, refl, sym, ap, ◌∙◌}
-use Rattle.std.proofs.Math.Path.{fun_ext}
-use Rattle.std.proofs.lemmas.List.{map-append}
-use Rattle.x25_packet.specs.Packet.{PlainPacket}
-use Rattle.x25_packet.specs.Spelling as packet
+use Rattle.x25_station.proofs.Names.{Result, Ok, subst, ◌≡◌, ℕ, List, [], ◌∷◌, refl, sym, ap, ◌∙◌, fun_ext, map-append, PlainPacket, waits, LinkSettings}
+use Rattle.x25_station.proofs.Names.{LinkStation, Side, is_up, alone, put_step, waits_of, LinkView, kept_of, put_on, all_put, view_of}
+use Rattle.std.proofs.Common.{OnOk}
 use Rattle.x25_frame.specs.Spelling.{spelling_of}
-use Rattle.x25_link.specs.Outgoing.{waits}
-use Rattle.x25_link.specs.Station.{LinkSettings, LinkStation, Side, is_up}
-use Rattle.x25_link.specs.Link.{alone, put_step}
-use Rattle.x25_link.specs.code.FitsLink.{waits_of}
-use Rattle.x25_layer.specs.laws.Rounds.{LinkView}
+use Rattle.x25_packet.specs.Spelling as packet
 use Rattle.x25_station.specs.code.OverLink as over
-use Rattle.x25_station.specs.Receiving.{kept_of}
-use Rattle.x25_station.specs.Station.{put_on, all_put, view_of}
 
 pub put_by_put : (c : LinkSettings) (packets : List PlainPacket) (t : Side) → over.after_all (kept_of c t) packets ≡ kept_of c (all_put c packets t)
 put_by_put c [] t = refl

@@ -1,22 +1,12 @@
 -- Pulls of data packets keep the names of all stretches, the packet sizes and windows of all calls, and how many messages
 -- are unconfirmed.
-use Rattle.std.proofs.Common.{◌≡◌, ℕ, zero, suc, List, [], ◌∷◌, ◌++◌, ◌%◌, Option, Some, None, Bool, true, false, ◌&&◌, ◌+◌, nat_lt, length, ◌==◌}
-use Rattle.std.proofs.Common.{if◌then◌else◌, drop, refl, ap, sym, ◌∙◌}
-use Rattle.std.proofs.lemmas.Bool.{eqb-true}
-use Rattle.std.proofs.lemmas.List.{append_assoc}
-use Rattle.x25_packet.specs.Packet.{PlainPacket}
-use Rattle.x25_circuit.specs.declared.state.State.{State}
-use Rattle.x25_circuit.specs.declared.state.State.TheVariants.{Open}
-use Rattle.x25_circuit.specs.declared.params.Params.{Params}
-use Rattle.x25_circuit.specs.Circuit.{CircuitSettings, Circuit, Talk, talking, outgoing, is_open_in, unconfirmed}
-use Rattle.x25_circuit.specs.Message.{Piece, asked_in}
-use Rattle.x25_circuit.specs.Calling.{Pulled, pulled, pull_in, pull_open, pulls_nothing, data_packet}
-use Rattle.x25_handshakes.specs.laws.Names.{Name}
-use Rattle.x25_layer.specs.Layer.{LayerSettings, Layer, is_channel, put_at}
-use Rattle.x25_layer.specs.Calls.{LayerPulled, layer_pulled}
-use Rattle.x25_layer.specs.code.FitsLayer.{is_open_at}
-use Rattle.x25_layer.specs.laws.Transcript.{name_of}
-use Rattle.x25_layer.specs.laws.Rounds.{LinkView, Putting, with_pulled, pull_one, round, rounds_of, rounds, backlog}
+use Rattle.x25_station.proofs.Names.{◌≡◌, ℕ, zero, suc, List, [], ◌∷◌, ◌++◌, ◌%◌, Option, Some, None, Bool, true, false, ◌&&◌, ◌+◌, nat_lt, length, ◌==◌}
+use Rattle.x25_station.proofs.Names.{if◌then◌else◌, drop, refl, ap, sym, ◌∙◌, eqb-true, append_assoc, PlainPacket, State, Open, Params, CircuitSettings}
+use Rattle.x25_station.proofs.Names.{Circuit, Talk, outgoing, is_open_in, unconfirmed, Piece, Pulled, pulled, pull_in, pull_open, Name, LayerSettings, Layer}
+use Rattle.x25_station.proofs.Names.{is_channel, put_at, layer_pulled, is_open_at, name_of, LinkView, Putting, with_pulled, pull_one, round, rounds_of, rounds}
+use Rattle.x25_station.proofs.Names.{backlog}
+use Rattle.x25_circuit.specs.{Calling.{pulls_nothing, data_packet}, Circuit.{talking}, Message.{asked_in}}
+use Rattle.x25_layer.specs.Calls.{LayerPulled}
 
 -- what a pull leaves as it is
 record Kept : Type 0 where

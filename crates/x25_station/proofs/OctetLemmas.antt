@@ -1,10 +1,8 @@
 -- How many octets a station holds at most: a sum of what its parts hold.
-use Rattle.std.proofs.Common.{◌≡◌, ℕ, suc, ◌+◌, ◌*◌, ◌≤◌, List, [], ◌∷◌, length, slice_get, Some, refl, sym, ap₂, subst, ◌∙◌, arith}
-use Rattle.std.specs.List.{sum_by}
-use Rattle.std.proofs.Math.Nat.{add-mul, add_comm, mul-suc, mul-zero}
-use Rattle.std.proofs.lemmas.List.Sums.{sum_by-cons}
-use Rattle.x25_circuit.specs.declared.circuit.Circuit as circuit_code
+use Rattle.x25_station.proofs.Names.{◌≡◌, ℕ, suc, ◌+◌, ◌*◌, ◌≤◌, List, [], ◌∷◌, length, Some, refl, sym, ap₂, subst, ◌∙◌, arith}
+use Rattle.std.{proofs.Common.{slice_get}, proofs.Math.Nat.{add-mul, add_comm, mul-suc, mul-zero}, proofs.lemmas.List.Sums.{sum_by-cons}, specs.List.{sum_by}}
 use Rattle.x25_station.specs.laws.OctetLaw.{circuit_octets, part_octets, octets_held}
+use Rattle.x25_circuit.specs.declared.circuit.Circuit as circuit_code
 use Rattle.x25_station.specs.laws.OctetLaw as law
 
 of_circuit : (u : circuit_code.Circuit) → circuit_octets u ≤ 589815 + part_octets u

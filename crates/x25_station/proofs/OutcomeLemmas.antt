@@ -1,27 +1,15 @@
 -- What a call answers, by what its link's call answers.
-use Rattle.std.proofs.Common.{◌≡◌, Bool, true, false, if◌then◌else◌, map, Option, Some, None, Result, Ok, Err, refl, ap, ◌∙◌}
+use Rattle.x25_station.proofs.Names.{◌≡◌, Bool, true, false, if◌then◌else◌, map, Option, Some, None, Result, Ok, Err, refl, ap, ◌∙◌, LinkError, Phase, Down, Up}
+use Rattle.x25_station.proofs.Names.{Closed, LinkStation, ShownLink, Manner, StationError, Settings, Station, Step, Outcome, Did, Refused, unless, IsKept}
 use Rattle.std.proofs.Math.Logic.{∥∥₁_map}
 use Rattle.x25_frame.specs.Spelling.{spelling_of}
-use Rattle.x25_link.specs.declared.error.LinkError.{LinkError}
+use Rattle.x25_station.proofs.{Names.{KeptBy, FitsParts, AreMeant, LeavesParts, Enters, RefusesOnly}, ResultLemmas.{ok_err, err_is}}
+use Rattle.x25_station.specs.{Error.{of_link}, code.FitsStation.{Sends, Refuses}}
 use Rattle.x25_link.specs.declared.error.LinkError.TheVariants as link_error
-use Rattle.x25_link.specs.declared.phase.Phase.{Phase}
-use Rattle.x25_link.specs.declared.phase.Phase.TheVariants.{Down, Up, Closed}
-use Rattle.x25_link.specs.Station.{LinkStation}
 use Rattle.x25_link.specs.Link as link
-use Rattle.x25_link.specs.code.FitsLink.{ShownLink}
 use Rattle.x25_layer.specs.declared.layer.Layer as layer_code
-use Rattle.x25_station.specs.declared.config.Manner.{Manner}
 use Rattle.x25_station.specs.declared.step.Step as code_step
-use Rattle.x25_station.specs.declared.error.StationError.{StationError}
 use Rattle.x25_station.specs.declared.error.StationError.TheVariants as error
-use Rattle.x25_station.specs.Error.{of_link}
-use Rattle.x25_station.specs.Config.{Settings}
-use Rattle.x25_station.specs.Station.{Station}
-use Rattle.x25_station.specs.Step.{Step, Outcome, Did, Refused, unless}
-use Rattle.x25_station.specs.laws.KeepLaw.{IsKept, KeptBy}
-use Rattle.x25_station.specs.code.FitsParts.{FitsParts, AreMeant}
-use Rattle.x25_station.specs.code.FitsStation.{LeavesParts, Sends, Enters, Refuses, RefusesOnly}
-use Rattle.x25_station.proofs.ResultLemmas.{ok_err, err_is}
 
 -- ---- an accepted call, which the link may refuse
 

@@ -1,34 +1,19 @@
 -- What a packet confirms is what its P(R) acknowledges.
-use Rattle.std.proofs.Common.{◌≡◌, ◌⊎◌, inl, inr, ℕ, zero, suc, ◌+◌, ◌-◌, ◌≤◌, List, [], ◌∷◌, ◌++◌, length, take, drop, Option, Some, None, Result, Ok, Err}
-use Rattle.std.proofs.Common.{Bool, true, false, ◌==◌, nat_le, if◌then◌else◌, refl, ap, ap₂, sym, subst, ◌∙◌, arith}
-use Rattle.std.proofs.lemmas.Bool.{eqb-true}
+use Rattle.x25_station.proofs.Names.{◌≡◌, ◌⊎◌, inl, inr, ℕ, zero, suc, ◌+◌, ◌-◌, ◌≤◌, List, [], ◌∷◌, ◌++◌, length, take, drop, Option, Some, None, Result, Ok}
+use Rattle.x25_station.proofs.Names.{Err, Bool, true, false, ◌==◌, nat_le, if◌then◌else◌, refl, ap, ap₂, sym, subst, ◌∙◌, arith, eqb-true, PacketError}
+use Rattle.x25_station.proofs.Names.{PlainPacket, call, accept, clear, clear_conf, user_data, rr, rnr, interrupt, interrupt_conf, reset, reset_conf, restart}
+use Rattle.x25_station.proofs.Names.{restart_conf, channel_in, longest_user, read_in, State, Open, CircuitSettings, Circuit, Talk, is_open, is_open_in, Piece}
+use Rattle.x25_station.proofs.Names.{piece_of, Answer, answers, undecoded, row_call, row_accept, row_clear, LayerSettings, Layer, LayerAnswer, LayerNotice}
+use Rattle.x25_station.proofs.Names.{on_channel, restarted, restart_done, layer_fault, is_channel, put_at, answers_on, drops, answers_ready, answers_restarting}
+use Rattle.x25_station.proofs.Names.{answers_in, undecoded_in, named_by, answer_to, undecoded_at, is_open_at, name_of, Name, PlainBeside, beside_in, confirmed}
+use Rattle.x25_station.proofs.Names.{goes_on, StationEntry, station_told, bringing, entries_beside, entries_behind, layer_answer, confirmed_by}
 use Rattle.std.proofs.lemmas.Bool.Decides.{nat_tests}
-use Rattle.x25_packet.specs.declared.error.PacketError.{PacketError}
-use Rattle.x25_packet.specs.Packet.{PlainPacket, call, accept, clear, clear_conf, user_data, rr, rnr, interrupt, interrupt_conf, reset, reset_conf, restart}
-use Rattle.x25_packet.specs.Packet.{restart_conf}
-use Rattle.x25_packet.specs.Reading.{channel_in}
-use Rattle.x25_packet.specs.Spelling.{longest_user}
-use Rattle.x25_packet.specs.Taking.{read_in}
-use Rattle.x25_window.specs.code.Modulo.{resolved}
-use Rattle.x25_circuit.specs.declared.state.State.{State}
-use Rattle.x25_circuit.specs.declared.state.State.TheVariants.{Open}
-use Rattle.x25_circuit.specs.Circuit.{CircuitSettings, Circuit, Talk, is_open, is_open_in, incoming as terms_in}
-use Rattle.x25_circuit.specs.Message.{Piece, piece_of, asked_in}
-use Rattle.x25_circuit.specs.Hearing.{Answer, answers, undecoded, row_call, row_accept, row_clear, row_clear_conf, row_reset, row_reset_conf, row_data}
-use Rattle.x25_circuit.specs.Hearing.{row_undecoded, request_in, unless, data_ground, number_ground, takes, hears_status, confirms}
-use Rattle.x25_layer.specs.Layer.{LayerSettings, Layer, LayerAnswer, LayerNotice, on_channel, restarted, restart_done, layer_fault, is_channel, put_at}
-use Rattle.x25_layer.specs.Layer.{answers_on, drops, answers_ready, answers_restarting, answers_in, undecoded_in}
-use Rattle.x25_station.specs.Confirming.{named_by}
-use Rattle.x25_layer.specs.Receiving.{answer_to, undecoded_at}
-use Rattle.x25_layer.specs.code.FitsLayer.{is_open_at}
-use Rattle.x25_layer.specs.laws.Transcript.{name_of}
-use Rattle.x25_handshakes.specs.laws.Names.{Name, same_name}
-use Rattle.x25_station.specs.Beside.{PlainBeside, beside_in, nothing, fields, diagnosed}
-use Rattle.x25_station.specs.Confirming.{confirmed, goes_on}
-use Rattle.x25_station.specs.Entry.{StationEntry, station_told, bringing, entries_beside, entries_behind}
-use Rattle.x25_station.specs.Step.{layer_answer, confirmed_by}
-use Rattle.x25_station.specs.laws.ConfirmLaw.{Passes, ConfirmedIsAcknowledged, IsConfirmed, AreTrueOf, ToldIsConfirmed}
+use Rattle.x25_circuit.specs.{Circuit.{incoming as terms_in}, Hearing.{hears_status, confirms}, Message.{asked_in}}
+use Rattle.x25_circuit.specs.Hearing.{row_clear_conf, row_reset, row_reset_conf, row_data, row_undecoded, request_in, unless, data_ground, number_ground, takes}
+use Rattle.x25_handshakes.specs.laws.Names.{same_name}
 use Rattle.x25_station.proofs.ConfirmLemmas.{and_both, same_name-is, ended, confirmed_are}
+use Rattle.x25_station.specs.{Beside.{nothing, fields, diagnosed}, laws.ConfirmLaw.{Passes, ConfirmedIsAcknowledged, IsConfirmed, AreTrueOf, ToldIsConfirmed}}
+use Rattle.x25_window.specs.code.Modulo.{resolved}
 
 true_false : true ≡ false → ⊥
 true_false is = cc

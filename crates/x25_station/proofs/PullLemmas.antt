@@ -1,37 +1,20 @@
 -- What a pull behind a step leaves, and what it sends.
-use Rattle.std.proofs.Common.{true, false, ◌≡◌, List, [], ◌∷◌, ◌++◌, map, ◌==◌, Result, Ok, Err, OnErr, IsErrOf, ℕ, refl, ap, sym, subst, ◌∙◌}
-use Rattle.std.specs.Prelude.{◌≢◌}
-use Rattle.std.proofs.Math.Path.{fun_ext}
-use Rattle.std.proofs.lemmas.List.{append-nil, append_assoc}
-use Rattle.x25_packet.specs.Packet.{PlainPacket}
-use Rattle.x25_packet.specs.Spelling as packet
+use Rattle.x25_station.proofs.Names.{true, false, ◌≡◌, List, [], ◌∷◌, ◌++◌, map, ◌==◌, Result, Ok, Err, OnErr, ℕ, refl, ap, sym, subst, ◌∙◌, fun_ext}
+use Rattle.x25_station.proofs.Names.{append-nil, append_assoc, PlainPacket, alone, put_step, ShownLink, LinkState, FitsWhole, waits_of, after_put_to, PullsAll}
+use Rattle.x25_station.proofs.Names.{layer_outcome, LinkView, Answered, Went, calls, after_all, LayerGives, LinkGives, FitsLayer, LayerError, Manner}
+use Rattle.x25_station.proofs.Names.{StationError, of_layer, Settings, link_settings, layer_settings, manner_of, StationEntry, Station, all_put, view_of}
+use Rattle.x25_station.proofs.Names.{waiting_after, Step, Outcome, Did, Refused, did, requests, entries_of_outcome, KeptBy, FitsParts, LeavesParts, RefusesOnly}
+use Rattle.std.{proofs.Common.{IsErrOf}, specs.Prelude.{◌≢◌}}
 use Rattle.x25_frame.specs.Spelling.{spelling_of}
-use Rattle.x25_link.specs.Link.{alone, put_step}
-use Rattle.x25_link.specs.code.FitsLink.{ShownLink, LinkState, FitsWhole, up_at, waits_of, after_put_to}
-use Rattle.x25_layer.specs.Calls.{PullsAll, layer_outcome}
-use Rattle.x25_layer.specs.laws.Rounds.{LinkView, Answered, Went, Refuses as LayerRefuses, calls}
+use Rattle.x25_layer.specs.laws.Rounds.{Refuses as LayerRefuses}
+use Rattle.x25_link.specs.code.FitsLink.{up_at}
+use Rattle.x25_station.proofs.{AskLemmas.{Layers, Links, taken_link, answered_by, goes_did, refused_did, calls_named}, LinkLemmas.{put_by_put, same_view}}
+use Rattle.x25_station.{proofs.Names.{kept_of}, proofs.ResultLemmas.{ok_err}, specs.Pulling.{pulled_of, pulled}, specs.code.FitsStation.{Refuses}}
+use Rattle.x25_packet.specs.Spelling as packet
 use Rattle.x25_station.specs.code.OverLink as over
-use Rattle.x25_station.specs.code.OverLink.{after_all, LayerGives, LinkGives}
-use Rattle.x25_layer.specs.code.FitsLayer.{FitsLayer}
 use Rattle.x25_layer.specs.declared.layer.Layer as layer_code
-use Rattle.x25_layer.specs.declared.error.LayerError.{LayerError}
 use Rattle.x25_layer.specs.declared.error.LayerError.TheVariants as layer_error
-use Rattle.x25_station.specs.declared.config.Manner.{Manner}
-use Rattle.x25_station.specs.declared.error.StationError.{StationError}
 use Rattle.x25_station.specs.declared.error.StationError.TheVariants as error
-use Rattle.x25_station.specs.Error.{of_layer}
-use Rattle.x25_station.specs.Config.{Settings, link_settings, layer_settings, manner_of}
-use Rattle.x25_station.specs.Entry.{StationEntry}
-use Rattle.x25_station.specs.Pulling.{pulled_of, pulled}
-use Rattle.x25_station.specs.Station.{Station, all_put, view_of, waiting_after}
-use Rattle.x25_station.specs.Step.{Step, Outcome, Did, Refused, did, requests, entries_of_outcome}
-use Rattle.x25_station.specs.laws.KeepLaw.{KeptBy}
-use Rattle.x25_station.specs.code.FitsParts.{FitsParts}
-use Rattle.x25_station.specs.code.FitsStation.{LeavesParts, Refuses, RefusesOnly}
-use Rattle.x25_station.specs.Receiving.{kept_of}
-use Rattle.x25_station.proofs.AskLemmas.{Layers, Links, taken_link, answered_by, goes_did, refused_did, calls_named}
-use Rattle.x25_station.proofs.LinkLemmas.{put_by_put, same_view}
-use Rattle.x25_station.proofs.ResultLemmas.{ok_err}
 
 -- ---- the link, which has frames of before
 

@@ -1,20 +1,9 @@
 -- What the layer puts in a step the link accepts.
-use Rattle.std.proofs.Common.{◌≡◌, ℕ, zero, suc, ◌<◌, List, [], ◌∷◌, ◌++◌, Option, Some, None, Bool, true, false, not, nat_lt, ◌==◌, if◌then◌else◌}
-use Rattle.std.proofs.Common.{option_to_list, refl, sym, ap, subst, ◌∙◌, arith}
-use Rattle.std.proofs.lemmas.Bool.{eqb-true, ltb-true}
-use Rattle.x25_packet.specs.Packet.{PlainPacket}
-use Rattle.x25_packet.specs.Spelling.{spelling_of}
+use Rattle.x25_station.proofs.Names.{◌≡◌, ℕ, zero, suc, ◌<◌, List, [], ◌∷◌, ◌++◌, Option, Some, None, Bool, true, false, not, nat_lt, ◌==◌, if◌then◌else◌}
+use Rattle.x25_station.proofs.Names.{option_to_list, refl, sym, ap, subst, ◌∙◌, arith, eqb-true, ltb-true, PlainPacket, spelling_of, waits, LinkSettings}
+use Rattle.x25_station.proofs.Names.{LinkStation, Side, is_up, alone, put_refusal, PutTells, LayerSettings, layer_pulled, Putting, with_pulled, pull_one, round}
+use Rattle.x25_station.proofs.{LinkLemmas.{near_alone}, Names.{rounds_of, rounds, backlog, put_on, all_put, view_of, waiting_after, AreAccepted}}
 use Rattle.x25_link.specs.declared.error.LinkError.TheVariants as error
-use Rattle.x25_link.specs.Outgoing.{waits}
-use Rattle.x25_link.specs.Station.{LinkSettings, LinkStation, Side, is_up}
-use Rattle.x25_link.specs.Link.{alone, put_refusal}
-use Rattle.x25_link.specs.laws.NoteLaw.{PutTells}
-use Rattle.x25_layer.specs.Layer.{LayerSettings}
-use Rattle.x25_layer.specs.Calls.{layer_pulled}
-use Rattle.x25_layer.specs.laws.Rounds.{Putting, with_pulled, pull_one, round, rounds_of, rounds, backlog}
-use Rattle.x25_station.specs.Station.{put_on, all_put, view_of, waiting_after}
-use Rattle.x25_station.specs.laws.JoinLaw.{AreAccepted}
-use Rattle.x25_station.proofs.LinkLemmas.{near_alone}
 
 -- ---- put after put
 

@@ -1,34 +1,21 @@
 -- Whatever happens to two layers, what they put fits, and so is read again.
-use Rattle.std.proofs.Common.{◌≡◌, ℕ, zero, suc, ◌<◌, ◌≤◌, List, [], ◌∷◌, ◌++◌, option_to_list, Option, Some, None, Bool, true, false, nat_le, ◌==◌}
-use Rattle.std.proofs.Common.{if◌then◌else◌, refl, arith}
-use Rattle.std.proofs.lemmas.Bool.{and_parts, leb-true}
-use Rattle.x25_bits.specs.declared.role.Role.{Role}
-use Rattle.x25_bits.specs.declared.role.Role.TheVariants.{Dte, Dce}
-use Rattle.x25_packet.specs.Packet.{PlainPacket, call, accept, clear, clear_conf, user_data, rr, rnr, interrupt, interrupt_conf, reset, reset_conf, restart}
-use Rattle.x25_packet.specs.Packet.{restart_conf}
-use Rattle.x25_packet.specs.laws.ReadingLaw.{ReadsWhatIsSpelled}
-use Rattle.x25_packet.specs.laws.TakingLaw.{TakesWhatIsSpelled}
-use Rattle.x25_station.specs.Command.{may_ask}
-use Rattle.x25_circuit.specs.declared.error.CircuitError.TheVariants as circuit_error
-use Rattle.x25_circuit.specs.Cause.{may_restart_for}
-use Rattle.x25_circuit.specs.Circuit.{Circuit, begun}
-use Rattle.x25_circuit.specs.Hearing.{answers, cause_at}
-use Rattle.x25_circuit.specs.Calling.{Outcome, Done, Refused, Calls, outcome, pulled}
-use Rattle.x25_layer.specs.Layer.{LayerSettings, Layer, LayerAnswer, is_channel, put_at, packet_on, restarting_from, answers_on, drops, answers_ready}
-use Rattle.x25_layer.specs.Layer.{answers_restarting, answers_in, layer_answers, goes_up, restart_cause}
-use Rattle.x25_layer.specs.declared.ranges.Ranges.{Ranges}
-use Rattle.x25_layer.specs.Ranges.{may_call}
-use Rattle.x25_layer.specs.Calls.{LayerRequest, Asks, Dials, Restarts, PullsAll, LayerOutcome, Accepted, Declined, highest_free, lowest_free, first_of}
-use Rattle.x25_layer.specs.Calls.{first_free, where_callable, free_channel, where_room, if_at_once, puts_at_once, outcome_on, dialled, restarted_for}
-use Rattle.x25_layer.specs.Calls.{outcome_ready, outcome_in, layer_outcome, layer_pulled}
-use Rattle.x25_layer.specs.declared.error.LayerError.TheVariants as error
-use Rattle.x25_layer.specs.laws.TwoLayers.{End, TwoLayers, Move, Requests, Pulls, HandsUp, GoesDown, EndMove, requested, pulled_in, handed_up, moves_in, moves}
-use Rattle.x25_layer.specs.laws.TwoLayers.{turned, settings_of, happens, run, started, start}
-use Rattle.x25_layer.specs.laws.PeerJoined.{PeerJoined, our_end, Happens, Ours, Theirs}
+use Rattle.x25_station.proofs.Names.{◌≡◌, ℕ, zero, suc, ◌<◌, ◌≤◌, List, [], ◌∷◌, ◌++◌, option_to_list, Option, Some, None, Bool, true, false, nat_le, ◌==◌}
+use Rattle.x25_station.proofs.Names.{if◌then◌else◌, refl, arith, and_parts, leb-true, Role, Dte, Dce, PlainPacket, call, accept, clear, clear_conf, user_data}
+use Rattle.x25_station.proofs.Names.{rr, rnr, interrupt, interrupt_conf, reset, reset_conf, restart, restart_conf, ReadsWhatIsSpelled, TakesWhatIsSpelled}
+use Rattle.x25_station.proofs.Names.{may_ask, may_restart_for, Circuit, answers, Done, Calls, outcome, pulled, LayerSettings, Layer, LayerAnswer, is_channel}
+use Rattle.x25_station.proofs.Names.{put_at, restarting_from, answers_on, drops, answers_ready, answers_restarting, answers_in, layer_answers, goes_up}
+use Rattle.x25_station.proofs.Names.{LayerRequest, Asks, Dials, Restarts, PullsAll, LayerOutcome, Accepted, Declined, free_channel, where_room, if_at_once}
+use Rattle.x25_station.proofs.Names.{puts_at_once, outcome_on, dialled, restarted_for, outcome_ready, outcome_in, layer_outcome, layer_pulled, TwoLayers, Move}
+use Rattle.x25_circuit.specs.{Calling.{Outcome, Refused}, Circuit.{begun}, Hearing.{cause_at}}
+use Rattle.x25_layer.specs.{Calls.{highest_free, lowest_free, first_of, first_free, where_callable}, Layer.{packet_on, restart_cause}, Ranges.{may_call}}
+use Rattle.x25_layer.specs.{declared.ranges.Ranges.{Ranges}, laws.PeerJoined.{PeerJoined, our_end, Happens, Ours, Theirs}, laws.TwoLayers.{start}}
+use Rattle.x25_layer.specs.laws.TwoLayers.{End, Requests, Pulls, HandsUp, GoesDown, EndMove, pulled_in, handed_up, turned, settings_of, happens, run, started}
+use Rattle.x25_station.proofs.CircuitLemmas.{Agreed, CircuitFits, MayGive, AnswerFits, answers_fit, OutcomeFits, outcome_fits, PulledFits, pulled_fits}
+use Rattle.x25_station.proofs.{FieldLemmas.{Fits, IsOn, moved_fits, moved_on, readable}, Names.{requested, moves_in, moves}}
 use Rattle.x25_station.specs.laws.ReadLaw.{BringsOctets, IsReachedByOctets, at_start, goes_on, PutsBesidePeersAreReadable, AreReadable, RequestsOctets}
 use Rattle.x25_station.specs.laws.ReadLaw.{MovesOctets, BringOctets, PutsAreReadable}
-use Rattle.x25_station.proofs.FieldLemmas.{Fits, IsOn, moved_fits, moved_on, readable}
-use Rattle.x25_station.proofs.CircuitLemmas.{Agreed, CircuitFits, MayGive, AnswerFits, answers_fit, OutcomeFits, outcome_fits, PulledFits, pulled_fits}
+use Rattle.x25_circuit.specs.declared.error.CircuitError.TheVariants as circuit_error
+use Rattle.x25_layer.specs.declared.error.LayerError.TheVariants as error
 
 -- each channel's circuit fits, and so does each packet
 abbrev ChannelsFit : Bool → (ℕ → Circuit) → Type 0

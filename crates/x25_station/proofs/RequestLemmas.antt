@@ -1,16 +1,11 @@
 -- A call that puts a packet at once is refused where 256 packets wait.
-use Rattle.std.proofs.Common.{◌≡◌, ℕ, List, ◌++◌, Option, Some, None, Bool, true, false, nat_lt, nat_le, if◌then◌else◌, length, refl, subst}
-use Rattle.x25_packet.specs.Packet.{PlainPacket}
-use Rattle.x25_packet.specs.declared.marks.Marks.{Marks}
-use Rattle.x25_circuit.specs.declared.state.State.{State}
-use Rattle.x25_circuit.specs.declared.state.State.TheVariants.{Free, Calling, Arriving, Collision, Open, Resetting, Clearing}
-use Rattle.x25_circuit.specs.Circuit.{CircuitSettings, Talk, Circuit, outgoing, waits}
-use Rattle.x25_circuit.specs.Message.{cut}
+use Rattle.x25_station.proofs.Names.{◌≡◌, ℕ, List, ◌++◌, Option, Some, None, Bool, true, false, nat_lt, nat_le, if◌then◌else◌, length, refl, subst, PlainPacket}
+use Rattle.x25_station.proofs.Names.{Marks, State, Free, Calling, Arriving, Collision, Open, Resetting, Clearing, CircuitSettings, Talk, Circuit, outgoing}
+use Rattle.x25_station.proofs.Names.{Done, Request, Sends, send_in, outcome, LayerSettings, Layer, is_channel, LayerRequest, Asks, Dials, Restarts, PullsAll}
+use Rattle.x25_station.proofs.Names.{LayerOutcome, Accepted, Declined, free_channel, puts_at_once, if_at_once, outcome_on, dialled, outcome_in, outcome_ready}
+use Rattle.x25_station.proofs.Names.{layer_outcome}
+use Rattle.x25_circuit.specs.{Calling.{Outcome, Refused, keeps_on, send_open}, Circuit.{waits}, Message.{cut}}
 use Rattle.x25_circuit.specs.declared.error.CircuitError.TheVariants as circuit
-use Rattle.x25_circuit.specs.Calling.{Outcome, Done, Refused, Request, Sends, keeps_on, send_open, send_in, outcome}
-use Rattle.x25_layer.specs.Layer.{LayerSettings, Layer, is_channel}
-use Rattle.x25_layer.specs.Calls.{LayerRequest, Asks, Dials, Restarts, PullsAll, LayerOutcome, Accepted, Declined, free_channel, puts_at_once, if_at_once}
-use Rattle.x25_layer.specs.Calls.{outcome_on, dialled, outcome_in, outcome_ready, layer_outcome}
 use Rattle.x25_layer.specs.declared.error.LayerError.TheVariants as error
 
 -- nothing is put at once

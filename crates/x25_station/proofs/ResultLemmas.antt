@@ -1,5 +1,5 @@
 -- Ok and Err: they differ, and Err keeps its error.
-use Rattle.std.proofs.Common.{◌≡◌, Result, Ok, Err}
+use Rattle.x25_station.proofs.Names.{◌≡◌, Result, Ok, Err}
 
 pub ok_err : {T E : Type 0} (x : T) (e : E) → Ok x ≡ Err e → ⊥
 ok_err x e is = cc

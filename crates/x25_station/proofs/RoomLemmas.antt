@@ -1,26 +1,13 @@
 -- A message is refused exactly where its channel has no room for one more.
-use Rattle.std.proofs.Common.{◌≡◌, ◌∙◌, ℕ, ◌-◌, ◌≤◌, ◌==◌, Bool, true, false, not, List, [], length, Option, nat_lt, if◌then◌else◌, refl, sym, ap, arith}
-use Rattle.std.proofs.Common.{le-leb}
-use Rattle.std.proofs.lemmas.Bool.Decides.{nat_tests}
-use Rattle.x25_packet.specs.Packet.{PlainPacket}
-use Rattle.x25_packet.specs.declared.marks.Marks.{Marks}
+use Rattle.x25_station.proofs.Names.{◌≡◌, ◌∙◌, ℕ, ◌-◌, ◌≤◌, ◌==◌, Bool, true, false, not, List, [], length, Option, nat_lt, if◌then◌else◌, refl, sym, ap, arith}
+use Rattle.x25_station.proofs.Names.{PlainPacket, Marks, State, Free, Calling, Arriving, Collision, Open, Resetting, Clearing, Circuit, CircuitSettings}
+use Rattle.x25_station.proofs.Names.{is_open_in, Done, Sends, outcome, send_in, LayerError, LayerSettings, is_channel, LayerOutcome, Accepted, Declined, Asks}
+use Rattle.x25_station.proofs.Names.{outcome_on, outcome_in, Answered, Went, Refuses, LinkView, went, Side, is_up, Settings, link_settings, layer_settings}
+use Rattle.std.proofs.{Common.{le-leb}, lemmas.Bool.Decides.{nat_tests}}
+use Rattle.x25_circuit.specs.{Calling.{Outcome as CircuitOutcome, Refused as CircuitRefuses}, Circuit.{waits, message_room}}
+use Rattle.x25_station.{proofs.Names.{StationEntry, Station, view_of, may_mark, did, requests, requests_of, where_asked}, specs.Station.Told.{room, is_refused}}
 use Rattle.x25_circuit.specs.declared.error.CircuitError.TheVariants as circuit_error
-use Rattle.x25_circuit.specs.declared.state.State.{State}
-use Rattle.x25_circuit.specs.declared.state.State.TheVariants.{Free, Calling, Arriving, Collision, Open, Resetting, Clearing}
-use Rattle.x25_circuit.specs.Circuit.{Circuit, CircuitSettings, is_open_in, waits, message_room}
-use Rattle.x25_circuit.specs.Calling.{Outcome as CircuitOutcome, Done, Refused as CircuitRefuses, Sends, outcome, send_in}
-use Rattle.x25_layer.specs.declared.error.LayerError.{LayerError}
 use Rattle.x25_layer.specs.declared.error.LayerError.TheVariants as error
-use Rattle.x25_layer.specs.Layer.{LayerSettings, is_channel}
-use Rattle.x25_layer.specs.Calls.{LayerOutcome, Accepted, Declined, Asks, outcome_on, outcome_in}
-use Rattle.x25_layer.specs.laws.Rounds.{Answered, Went, Refuses, LinkView, went}
-use Rattle.x25_link.specs.Station.{Side, is_up}
-use Rattle.x25_station.specs.Config.{Settings, link_settings, layer_settings}
-use Rattle.x25_station.specs.Entry.{StationEntry}
-use Rattle.x25_station.specs.Station.{Station, view_of}
-use Rattle.x25_station.specs.Station.Told.{room, is_refused}
-use Rattle.x25_station.specs.Command.{may_mark}
-use Rattle.x25_station.specs.Step.{did, requests, requests_of, where_asked}
 
 abbrev fails : CircuitOutcome → Bool
 fails (Done next packet) = false

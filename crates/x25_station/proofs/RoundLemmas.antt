@@ -1,22 +1,12 @@
 -- The rounds of pulls, packet by packet, over the link.
-use Rattle.std.proofs.Common.{◌≡◌, ◌⊎◌, inl, inr, ℕ, zero, suc, ◌+◌, ◌-◌, ◌<◌, ◌≤◌, List, [], ◌∷◌, ◌++◌, length, length-append, Option, Some, None, Bool, true}
-use Rattle.std.proofs.Common.{false, nat_lt, ◌==◌, if◌then◌else◌, option_to_list, refl, sym, ap, subst, ◌∙◌, arith}
-use Rattle.std.proofs.lemmas.Bool.{lt-ltb, ltb-true}
-use Rattle.std.proofs.lemmas.Option.{none-some}
-use Rattle.x25_packet.specs.Packet.{PlainPacket}
-use Rattle.x25_packet.specs.Spelling.{spelling_of}
-use Rattle.x25_link.specs.Station.{Lists}
-use Rattle.x25_link.specs.code.FitsLink.{ShownLink, LinkState, FitsWhole, waiting_of, lists_in, waits_of, after_put_to}
-use Rattle.x25_link.specs.laws.LinkLaws.{handed_down, put_adds, link_waits, link_close}
+use Rattle.x25_station.proofs.Names.{◌≡◌, ℕ, zero, suc, ◌+◌, ◌-◌, ◌<◌, ◌≤◌, List, [], ◌∷◌, ◌++◌, length, length-append, Option, Some, None, Bool, true, false}
+use Rattle.x25_station.proofs.Names.{nat_lt, ◌==◌, if◌then◌else◌, option_to_list, refl, sym, ap, subst, ◌∙◌, arith, lt-ltb, ltb-true, PlainPacket, spelling_of}
+use Rattle.x25_station.proofs.Names.{ShownLink, LinkState, FitsWhole, waiting_of, waits_of, after_put_to, link_waits, LayerSettings, layer_pulled, LinkView}
+use Rattle.x25_station.proofs.Names.{Putting, with_pulled, pull_one, round, rounds, FitsLayer, spelled, after_all}
+use Rattle.x25_layer.specs.{code.Answering.{GivesNext, GivesNone}, code.Pulling.{IsPut}, laws.RoundLaw.{RoundsGoOn, RoundsEnd}}
+use Rattle.x25_link.specs.{Station.{Lists}, code.FitsLink.{lists_in}, laws.LinkLaws.{handed_down, put_adds, link_close}}
+use Rattle.x25_station.specs.code.OverLink.{after_octets, seen_at}
 use Rattle.x25_layer.specs.declared.layer.Layer as layer_code
-use Rattle.x25_layer.specs.Layer.{LayerSettings, Layer}
-use Rattle.x25_layer.specs.Calls.{layer_pulled}
-use Rattle.x25_layer.specs.laws.Rounds.{LinkView, Putting, with_pulled, pull_one, round, rounds}
-use Rattle.x25_layer.specs.laws.RoundLaw.{RoundsGoOn, RoundsEnd}
-use Rattle.x25_layer.specs.code.FitsLayer.{FitsLayer}
-use Rattle.x25_layer.specs.code.Pulling.{IsPut}
-use Rattle.x25_layer.specs.code.Answering.{spelled, GivesNext, GivesNone}
-use Rattle.x25_station.specs.code.OverLink.{after_all, after_octets, seen_at}
 
 -- ---- what is put
 
@@ -138,7 +128,7 @@ ends_shut on end c x s v m channel left w shut =
 pub one_more : (c : LayerSettings) (x : LinkState) (s : Putting) (v v₂ : layer_code.Layer) (m m₂ : ShownLink) (channel next left left₂ : ℕ) → channel < next
     → left ≡ left₂ + 1 → (w : Within c x s v m channel left)
     → waits_of (after_all x (round (seen_at x) c channel w.from).put) < 8 → GivesNext c (round (seen_at x) c channel w.from).layer v₂ channel next
-    → ((y : LinkState) → FitsWhole m y → FitsWhole m₂ (after_octets y v₂.sheet)) → Within c x s v₂ m₂ next left₂
+    → ((y : LinkState) → FitsWhole m y → FitsWhole m₂ (after_put_to y v₂.sheet)) → Within c x s v₂ m₂ next left₂
 one_more c x s v v₂ m m₂ channel (suc h) left left₂ more fewer w room gives put =
     by (layer_pulled c t.layer (suc h)).packet refl gives.put
   where
@@ -173,7 +163,7 @@ one_more c x s v v₂ m m₂ channel (suc h) left left₂ more fewer w room give
           leads = w.leads;
           layer = subst (λ (u : Putting). FitsLayer c v₂ u.layer) (sym here) gives.layer;
           link = subst (λ (u : Putting). FitsWhole m₂ (after_all x u.put)) (sym here)
-              (subst (λ (z : LinkState). FitsWhole m₂ z) (packet_put y p v₂.sheet octets ∙ sym (after_more x t.put p)) (put y w.link));
+              (subst (λ (z : LinkState). FitsWhole m₂ z) (ap (after_put_to y) octets ∙ sym (after_more x t.put p)) (put y w.link));
           enough = subst (λ (u : Putting). (lists_in (after_all x u.put)).acked + 15 ≤ length (lists_in (after_all x u.put)).given + left₂) (sym here)
               (omega (arith, enough, given, acked, fewer));
         }

@@ -1,19 +1,9 @@
 -- What calls and acceptances say, and what is asked of a channel that isn't configured.
-use Rattle.std.proofs.Common.{◌≡◌, ℕ, ◌==◌, List, [], Option, Some, None, Bool, true, false, ◌||◌, if◌then◌else◌, refl, sym, ap, ◌∙◌}
-use Rattle.std.proofs.lemmas.Option.{same_Some}
-use Rattle.x25_circuit.specs.declared.params.Params.{Params}
-use Rattle.x25_circuit.specs.Params.{Proposal, in_brief}
-use Rattle.x25_circuit.specs.Calling.{Request, Accepts, outcome}
+use Rattle.x25_station.proofs.Names.{◌≡◌, ℕ, ◌==◌, List, [], Option, Some, None, Bool, true, false, ◌||◌, if◌then◌else◌, refl, sym, ap, ◌∙◌, same_Some, Params}
+use Rattle.x25_station.proofs.Names.{Proposal, in_brief, Request, Accepts, outcome, LayerSettings, is_channel, Asks, LayerOutcome, Declined, layer_outcome}
+use Rattle.x25_station.proofs.Names.{outcome_in, outcome_on, if_at_once, puts_at_once, LinkView, Refuses, went, alone, Settings, link_settings, layer_settings}
+use Rattle.x25_station.{proofs.Names.{StationEntry, Station, view_of, Outcome, did, entries_of_outcome, requests, requests_of}, specs.Command.{proposal_said}}
 use Rattle.x25_layer.specs.declared.error.LayerError.TheVariants as layer_error
-use Rattle.x25_layer.specs.Layer.{LayerSettings, is_channel}
-use Rattle.x25_layer.specs.Calls.{Asks, LayerOutcome, Declined, layer_outcome, outcome_in, outcome_on, if_at_once, puts_at_once}
-use Rattle.x25_layer.specs.laws.Rounds.{LinkView, Refuses, went}
-use Rattle.x25_link.specs.Link.{alone}
-use Rattle.x25_station.specs.Config.{Settings, link_settings, layer_settings}
-use Rattle.x25_station.specs.Command.{proposal_said}
-use Rattle.x25_station.specs.Entry.{StationEntry}
-use Rattle.x25_station.specs.Station.{Station, view_of}
-use Rattle.x25_station.specs.Step.{Outcome, did, entries_of_outcome, requests, requests_of}
 
 -- ---- what is said
 

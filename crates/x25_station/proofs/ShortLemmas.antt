@@ -1,28 +1,16 @@
 -- What a layer tells of octets: on configured channels alone, and with texts that are short.
-use Rattle.std.proofs.Common.{◌≡◌, ℕ, ◌<◌, ◌≤◌, List, [], ◌∷◌, All, Option, Some, None, Result, Ok, Err, Bool, true, false, if◌then◌else◌, length, refl, arith}
-use Rattle.x25_bits.specs.declared.role.Role.{Role}
-use Rattle.x25_bits.specs.declared.role.Role.TheVariants.{Dte, Dce}
-use Rattle.x25_packet.specs.declared.error.PacketError.{PacketError}
-use Rattle.x25_packet.specs.Packet.{PlainPacket, call, accept, clear, clear_conf, user_data, rr, rnr, interrupt, interrupt_conf, reset, reset_conf, restart}
-use Rattle.x25_packet.specs.Packet.{restart_conf}
-use Rattle.x25_packet.specs.Spelling.{IsInRange, longest_user}
-use Rattle.x25_packet.specs.Reading.{channel_in}
-use Rattle.x25_packet.specs.Taking.{read_in}
+use Rattle.x25_station.proofs.Names.{◌≡◌, ℕ, ◌<◌, ◌≤◌, List, [], ◌∷◌, Option, Some, None, Result, Ok, Err, Bool, true, false, if◌then◌else◌, length, refl}
+use Rattle.x25_station.proofs.Names.{arith, Role, Dte, Dce, PacketError, PlainPacket, call, accept, clear, clear_conf, user_data, rr, rnr, interrupt}
+use Rattle.x25_station.proofs.Names.{interrupt_conf, reset, reset_conf, restart, restart_conf, IsInRange, longest_user, channel_in, read_in, State, Free}
+use Rattle.x25_station.proofs.Names.{Calling, Collision, Open, Resetting, Clearing, Params, default_params, may_answer, said_in, CircuitSettings, Circuit, Talk}
+use Rattle.x25_station.proofs.Names.{piece_of, no_part, joining, CallRequest, PlainNotice, connected, Answer, answers, undecoded, row_call, row_accept}
+use Rattle.x25_station.proofs.Names.{row_clear, LayerSettings, Layer, LayerAnswer, is_channel, notices_on, answers_on, drops, answers_ready, answers_restarting}
+use Rattle.std.proofs.Common.{All}
+use Rattle.x25_circuit.specs.{Circuit.{incoming}, Hearing.{unless, data_ground, number_ground, takes, hears_status, confirms}, Message.{Message, completed}}
+use Rattle.x25_circuit.specs.Hearing.{collides, goes, clears_for, connects, row_clear_conf, row_reset, row_reset_conf, row_open, row_data, row_undecoded}
+use Rattle.x25_circuit.specs.Notice.{deliveries}
 use Rattle.x25_packet.specs.laws.TakingLaw.{TakesInRange}
-use Rattle.x25_circuit.specs.declared.state.State.{State}
-use Rattle.x25_circuit.specs.declared.state.State.TheVariants.{Free, Calling, Collision, Open, Resetting, Clearing}
-use Rattle.x25_circuit.specs.declared.params.Params.{Params}
-use Rattle.x25_circuit.specs.Params.{default_params, may_answer, said_in}
-use Rattle.x25_circuit.specs.Circuit.{CircuitSettings, Circuit, Talk, incoming}
-use Rattle.x25_circuit.specs.Message.{Message, piece_of, no_part, joining, completed}
-use Rattle.x25_circuit.specs.Notice.{CallRequest, PlainNotice, connected, deliveries}
-use Rattle.x25_circuit.specs.Hearing.{Answer, answers, undecoded, collides, goes, clears_for, connects, row_call, row_accept, row_clear, row_clear_conf}
-use Rattle.x25_circuit.specs.Hearing.{row_reset, row_reset_conf, row_open, row_data, row_undecoded, unless, data_ground, number_ground, takes, hears_status}
-use Rattle.x25_circuit.specs.Hearing.{confirms}
-use Rattle.x25_layer.specs.Layer.{LayerSettings, Layer, LayerAnswer, is_channel, notices_on, answers_on, drops, answers_ready, answers_restarting, answers_in}
-use Rattle.x25_layer.specs.Layer.{undecoded_in}
-use Rattle.x25_layer.specs.Receiving.{undecoded_at, answer_to}
-use Rattle.x25_station.specs.Receiving.{IsShort, AreTellable}
+use Rattle.x25_station.{proofs.Names.{answers_in, undecoded_in, undecoded_at, answer_to}, specs.Receiving.{IsShort, AreTellable}}
 
 abbrev AreShort : List PlainNotice → Type 0
 AreShort [] = Unit {0}

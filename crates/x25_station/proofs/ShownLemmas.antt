@@ -1,11 +1,7 @@
 -- What is shown of a request: an acceptance with the packet sizes and windows in force.
-use Rattle.std.proofs.Common.{◌≡◌, Bool, true, if◌then◌else◌, Option, Some, None, refl, ap, ◌∙◌}
+use Rattle.x25_station.proofs.Names.{◌≡◌, Bool, true, if◌then◌else◌, Option, Some, None, refl, ap, ◌∙◌, in_brief, Params, Circuit, shown}
 use Rattle.std.specs.Option.{unwrap_or}
-use Rattle.x25_circuit.specs.Params.{in_brief}
-use Rattle.x25_circuit.specs.declared.params.Params.{Params}
-use Rattle.x25_circuit.specs.Circuit.{Circuit}
 use Rattle.x25_circuit.specs.Calling as circuit
-use Rattle.x25_layer.specs.laws.TwoLayers.{shown}
 
 -- it looks at packet sizes and windows alone
 pub same_shown : (x y : Circuit) (request : circuit.Request) → x.params ≡ y.params → shown x request ≡ shown y request

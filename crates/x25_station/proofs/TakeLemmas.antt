@@ -1,25 +1,11 @@
 -- What holds of a link that has taken octets: where it came up or hands up it takes packets.
-use Rattle.std.proofs.Common.{◌≡◌, ℕ, ◌<◌, ◌≤◌, List, length, Option, Some, None, IfSome, map, Bool, true, refl, ap, sym, subst, ◌∙◌, arith}
-use Rattle.std.proofs.Math.Logic.{∥∥₁_elim}
-use Rattle.std.proofs.Props.{props}
-use Rattle.std.proofs.lemmas.List.{length-map}
-use Rattle.x25_bits.specs.declared.role.Role.{Role}
-use Rattle.x25_frame.specs.Frame.{PlainFrame}
+use Rattle.x25_station.proofs.Names.{◌≡◌, ℕ, ◌<◌, ◌≤◌, List, length, Option, Some, None, map, Bool, true, refl, ap, sym, subst, ◌∙◌, arith, Role, PlainFrame}
+use Rattle.x25_station.proofs.Names.{waits, LinkSettings, LinkStation, is_up, take_step, TakeTells, TakeHandsUp, ShownLink, FitsLink, waiting_of, link_waits}
+use Rattle.std.proofs.{Common.{IfSome}, Math.Logic.{∥∥₁_elim}, Props.{props}, lemmas.List.{length-map}}
 use Rattle.x25_frame.specs.Spelling.{spelling_of}
-use Rattle.x25_link.specs.Outgoing.{waits}
-use Rattle.x25_link.specs.Station.{LinkSettings, LinkStation, is_up, fresh}
-use Rattle.x25_link.specs.Hearing.{takes}
-use Rattle.x25_link.specs.Link.{take_step}
-use Rattle.x25_link.specs.laws.NoteLaw.{TakeTells, TakeHandsUp}
-use Rattle.x25_link.specs.code.FitsLink.{ShownLink, FitsLink, limit_of, up_of, waiting_of}
-use Rattle.x25_link.specs.laws.LinkLaws.{link_waits}
-use Rattle.x25_link.specs.code.Frames.{places_left}
+use Rattle.x25_link.specs.{Station.{fresh}, code.FitsLink.{limit_of, up_of}, code.Frames.{places_left}}
+use Rattle.x25_station.{proofs.Names.{Manner, Settings, link_settings, Station, FitsParts, AreMeant}, specs.Receiving.{CanPut}}
 use Rattle.x25_layer.specs.declared.layer.Layer as layer_code
-use Rattle.x25_station.specs.declared.config.Manner.{Manner}
-use Rattle.x25_station.specs.Config.{Settings, link_settings}
-use Rattle.x25_station.specs.Station.{Station}
-use Rattle.x25_station.specs.code.FitsParts.{FitsParts, AreMeant}
-use Rattle.x25_station.specs.Receiving.{CanPut}
 
 -- ---- the link takes packets
 

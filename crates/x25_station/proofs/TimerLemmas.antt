@@ -1,38 +1,23 @@
 -- A deadline that is held by what T1 becomes stands exactly while T1 runs, and T1 begins anew where it is due to.
-use Rattle.std.proofs.Common.{◌≡◌, ◌+◌, ◌≤◌, inl, inr, Bool, true, false, not, ◌||◌, if◌then◌else◌, List, [], ◌∷◌, Option, Some, None, refl, sym, ap, ◌∙◌}
-use Rattle.std.proofs.Common.{arith}
+use Rattle.x25_station.proofs.Names.{◌≡◌, ◌+◌, ◌≤◌, inl, inr, Bool, true, false, not, ◌||◌, if◌then◌else◌, List, [], ◌∷◌, Option, Some, None, refl, sym, ap}
+use Rattle.x25_station.proofs.Names.{◌∙◌, arith, true≢false, le-ltb, lt-ltb, or-true, LinkError, Phase, Up, Retries, LinkSettings, Side, with_near, LinkStep}
+use Rattle.x25_station.proofs.Names.{quiet, leaves, alone, connect_refusal, disconnect_refusal, asks_again, timer_refusal, timer_step, probe_refusal}
+use Rattle.x25_station.proofs.Names.{relink_refusal, Layer, Answered, Went, Refuses, calls, PlainGiven, Requests, RequestsWith, Connects, Disconnects, Probes}
+use Rattle.x25_station.proofs.Names.{Relinks, said_by, may_ask, Settings, link_settings, layer_settings, StationEntry, of_channel, restart_asked, connect_asked}
+use Rattle.x25_station.proofs.Names.{disconnect_asked, relink_asked, was_restarted, restart_confirmed, at_fault, was_confirmed, view_given, Station, view_of}
+use Rattle.x25_station.proofs.Names.{Step, Outcome, Did, Refused, layer_at, follows, unless, did, gave, requests_of, runs, tells_link, is_acknowledged, Timer}
 use Rattle.std.specs.Prelude.{nat_lt}
-use Rattle.std.proofs.lemmas.Bool.{true≢false, le-ltb, lt-ltb}
-use Rattle.std.proofs.Math.Bool.{or-true}
-use Rattle.x25_link.specs.declared.error.LinkError.{LinkError}
-use Rattle.x25_link.specs.declared.error.LinkError.TheVariants as link_error
-use Rattle.x25_link.specs.declared.phase.Phase.{Phase}
-use Rattle.x25_link.specs.declared.phase.Phase.TheVariants.{Up}
-use Rattle.x25_link.specs.declared.phase.Reason.TheVariants.{Retries}
-use Rattle.x25_link.specs.Station.{LinkSettings, Side, with_near}
-use Rattle.x25_link.specs.Hearing.{LinkStep, quiet, leaves}
-use Rattle.x25_link.specs.Link as link
-use Rattle.x25_link.specs.Link.{closed_by, alone, connect_refusal, disconnect_refusal, asks_again, timer_refusal, timer_step, probe_refusal, relink_refusal}
-use Rattle.x25_layer.specs.Layer.{Layer}
-use Rattle.x25_layer.specs.laws.Rounds.{Answered, Went, Refuses, calls}
-use Rattle.x25_given.specs.Given.{PlainGiven}
-use Rattle.x25_station.specs.declared.error.StationError.TheVariants as error
-use Rattle.x25_station.specs.Command.{Command, Requests, RequestsWith, Connects, Disconnects, Probes, Relinks, said_by, may_ask}
-use Rattle.x25_station.specs.Config.{Settings, link_settings, layer_settings}
-use Rattle.x25_station.specs.Entry.{StationEntry, of_channel, restart_asked, connect_asked, disconnect_asked, relink_asked, link_up, link_down, was_restarted}
-use Rattle.x25_station.specs.Entry.{restart_confirmed, at_fault, came_beside, was_diagnosed, was_confirmed}
-use Rattle.x25_station.specs.Giving as giving
-use Rattle.x25_station.specs.Giving.{view_given}
-use Rattle.x25_station.specs.Station.{Station, view_of}
-use Rattle.x25_station.specs.Step.{Step, Outcome, Did, Refused, layer_at, follows, unless, did, gave, connects, commands, fires, requests_of}
-use Rattle.x25_station.specs.laws.TimerLaw as law
-use Rattle.x25_station.specs.laws.TimerLaw.{StationEvent, Comes, Asks, Fires, Watched, heeds, after, watched_by, watched_from, IsFiring, TellsLink, IsDue}
-use Rattle.x25_station.specs.Timer.{runs, tells_link, is_acknowledged, timer_of, pulled_timer}
-use Rattle.x25_station.specs.Pulling.{pulled}
-use Rattle.x25_station.specs.declared.timer.Timer.{Timer}
-use Rattle.x25_station.specs.declared.timer.Timer.TheVariants.{Begins}
-use Rattle.x25_station.proofs.UnheardLemmas.{ready_lasts, ended_lasts, all_put_lasts, all_given_last}
+use Rattle.x25_link.specs.Link.{closed_by}
 use Rattle.x25_station.proofs.MayLemmas.{where_holds}
+use Rattle.x25_station.{proofs.UnheardLemmas.{ready_lasts, ended_lasts, all_put_lasts, all_given_last}, specs.Command.{Command}}
+use Rattle.x25_station.specs.{Entry.{link_up, link_down, came_beside, was_diagnosed}, Pulling.{pulled}, Step.{connects, commands, fires}}
+use Rattle.x25_station.specs.{Timer.{timer_of, pulled_timer}, declared.timer.Timer.TheVariants.{Begins}}
+use Rattle.x25_station.specs.laws.TimerLaw.{StationEvent, Comes, Asks, Fires, Watched, heeds, after, watched_by, watched_from, IsFiring, TellsLink, IsDue}
+use Rattle.x25_link.specs.declared.error.LinkError.TheVariants as link_error
+use Rattle.x25_link.specs.Link as link
+use Rattle.x25_station.specs.declared.error.StationError.TheVariants as error
+use Rattle.x25_station.specs.Giving as giving
+use Rattle.x25_station.specs.laws.TimerLaw as law
 
 -- where T1 ran before and nothing began it anew, the deadline stood
 heeded : (ran behind other stands : Bool) → stands ≡ ran → heeds (timer_of behind (not ran || other)) stands ≡ behind

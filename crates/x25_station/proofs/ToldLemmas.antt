@@ -1,7 +1,7 @@
 -- What a station tells of itself.
-use Rattle.std.proofs.Common.{◌∙◌, ◌≡◌, Bool, true, false, if◌then◌else◌, Option, Some, None, sym, ap}
-use Rattle.std.proofs.lemmas.Option.{none-some, same_Some}
-use Rattle.x25_handshakes.specs.laws.Names.{Name}
+use Rattle.x25_station.proofs.Names.{◌∙◌, ◌≡◌, Bool, true, false, if◌then◌else◌, Option, Some, None, sym, ap, none-some, same_Some, Name, plain_name}
+use Rattle.std.specs.Option.{unwrap_or}
+use Rattle.x25_layer.specs.{code.FitsLayer.{plain_stretch}, declared.stretch.Stretch.{Stretch}}
 
 -- a channel is open only where it is configured
 pub open_named : (configured opened : Bool) (name : Name) (o : Option Name) → (if configured then opened else false) ≡ true → o
@@ -22,8 +22,13 @@ closed_none is_open name is = sym (ap (λ (b : Bool). if b then Some name else N
 
 -- the name of a configured channel
 
-pub named : (configured : Bool) (n m : Name) → configured ≡ true → Some n ≡ (if configured then Some m else None) → n ≡ m
+named : (configured : Bool) (n m : Name) → configured ≡ true → Some n ≡ (if configured then Some m else None) → n ≡ m
 named configured n m is same = same_Some n m (same ∙ ap (λ (b : Bool). if b then Some m else None) is)
 
-pub not_unnamed : (configured : Bool) (m : Name) → configured ≡ true → None ≡ (if configured then Some m else None) → ⊥
+not_unnamed : (configured : Bool) (m : Name) → configured ≡ true → None ≡ (if configured then Some m else None) → ⊥
 not_unnamed configured m is same = none-some m (same ∙ ap (λ (b : Bool). if b then Some m else None) is)
+
+pub named_or : (o : Option Stretch) (none : Stretch) (configured : Bool) (m : Name) → configured ≡ true → plain_stretch o ≡ (if configured then Some m else None)
+    → plain_name (unwrap_or o none) ≡ m
+named_or (Some name) none configured m is same = named configured (plain_name name) m is same
+named_or None none configured m is same = absurd (not_unnamed configured m is same)

@@ -1,28 +1,15 @@
 -- What the link's step and what the layer does behind it are together is what the definition says of octets that come.
-use Rattle.std.proofs.Common.{◌≡◌, ℕ, List, [], ◌++◌, map, Option, Bool, true, false, ◌&&◌, if◌then◌else◌, refl, ap, ap₂, sym, subst, ◌∙◌}
+use Rattle.x25_station.proofs.Names.{◌≡◌, ℕ, List, [], ◌++◌, map, Option, Bool, true, false, ◌&&◌, if◌then◌else◌, refl, ap, ap₂, sym, subst, ◌∙◌, PlainFrame}
+use Rattle.x25_station.proofs.Names.{Notes, LinkStation, is_up, LinkStep, take_step, abandon_step, ShownLink, FitsLink, FitsWhole, FitsLayer, Putting, Manner}
+use Rattle.x25_station.proofs.Names.{Settings, link_settings, layer_settings, manner_of, StationEntry, entries_noted, Station, view_of, all_put, Step, layer_at}
 use Rattle.std.specs.Prelude.{nat_lt}
-use Rattle.x25_frame.specs.Frame.{PlainFrame}
 use Rattle.x25_frame.specs.Spelling.{spelling_of}
-use Rattle.x25_link.specs.declared.phase.Notes.{Notes}
-use Rattle.x25_link.specs.Station.{LinkStation, is_up}
-use Rattle.x25_link.specs.Hearing.{LinkStep, acknowledges}
-use Rattle.x25_link.specs.Link.{take_step, abandon_step}
-use Rattle.x25_link.specs.code.FitsLink.{ShownLink, FitsLink, FitsWhole}
+use Rattle.x25_layer.specs.code.FitsLayer.{is_full}
+use Rattle.x25_link.specs.Hearing.{acknowledges}
+use Rattle.x25_station.proofs.{AskLemmas.{taken_link}, DownLemmas.{downs, follows_down}}
+use Rattle.x25_station.proofs.{Names.{entries_heard, follows, abandons, IsKept, FitsParts, kept_of, is_acknowledged}, TimerLemmas.{follows_acked}}
+use Rattle.x25_station.specs.Step.{receives}
 use Rattle.x25_layer.specs.declared.layer.Layer as layer_code
-use Rattle.x25_layer.specs.code.FitsLayer.{FitsLayer, is_full}
-use Rattle.x25_layer.specs.laws.Rounds.{Putting}
-use Rattle.x25_station.specs.declared.config.Manner.{Manner}
-use Rattle.x25_station.specs.Config.{Settings, link_settings, layer_settings, manner_of}
-use Rattle.x25_station.specs.Entry.{StationEntry, entries_noted}
-use Rattle.x25_station.specs.Station.{Station, view_of, all_put}
-use Rattle.x25_station.specs.Step.{Step, layer_at, entries_heard, follows, abandons, receives}
-use Rattle.x25_station.specs.laws.KeepLaw.{IsKept}
-use Rattle.x25_station.specs.code.FitsParts.{FitsParts}
-use Rattle.x25_station.specs.Receiving.{kept_of}
-use Rattle.x25_station.specs.Timer.{is_acknowledged}
-use Rattle.x25_station.proofs.AskLemmas.{taken_link}
-use Rattle.x25_station.proofs.TimerLemmas.{follows_acked}
-use Rattle.x25_station.proofs.DownLemmas.{downs, follows_down}
 
 -- what the layer does behind this step, by what the step handed up and noted
 abbrev pub put_behind : Settings → Bool → Station → LinkStep → Option (List ℕ) → Notes → Putting

@@ -1,42 +1,22 @@
 -- What a station asks while nothing is heard: T1 goes on, and each firing and each poll takes a try.
-use Rattle.std.proofs.Common.{◌≡◌, ℕ, zero, suc, ◌+◌, ◌<◌, ◌≤◌, List, [], ◌∷◌, ◌++◌, max, Bool, true, false, ◌||◌, ◌&&◌, if◌then◌else◌, nat_lt, length, Option}
-use Rattle.std.proofs.Common.{Some, None, Result, Ok, Err, refl, sym, ap, subst, ◌∙◌, arith}
-use Rattle.std.proofs.lemmas.Bool.{true≢false, ltb-true, lt-ltb}
-use Rattle.std.proofs.Math.Bool.{or-true}
-use Rattle.std.proofs.lemmas.List.{length-append}
-use Rattle.x25_frame.specs.Frame.{PlainFrame, sabm, disc, ua}
-use Rattle.x25_frame.specs.Reading.{frame_of}
-use Rattle.x25_frame.specs.declared.error.FrameError.{FrameError}
-use Rattle.x25_packet.specs.Packet.{PlainPacket}
-use Rattle.x25_packet.specs.Spelling.{spelling_of}
-use Rattle.x25_link.specs.declared.error.LinkError.{LinkError}
-use Rattle.x25_link.specs.declared.phase.Phase.{Phase}
-use Rattle.x25_link.specs.declared.phase.Phase.TheVariants.{Down, Waiting, Up, Closed}
-use Rattle.x25_link.specs.declared.phase.Reason.{Reason}
-use Rattle.x25_link.specs.declared.phase.Reason.TheVariants.{Retries}
-use Rattle.x25_link.specs.Outgoing.{added}
-use Rattle.x25_link.specs.Station.{LinkSettings, LinkStation, Side, is_up, is_busy, with_near, with_nothing, sends, ready, may_send, send_next, pumped}
-use Rattle.x25_link.specs.Station.{owes_ready, ended}
-use Rattle.x25_link.specs.Hearing.{LinkStep, quiet, leaves, other}
-use Rattle.x25_link.specs.Link.{alone, closed_by, put_step, take_step, timer_runs, timer_refusal, timer_step, asks_again, connect_refusal, connect_step}
-use Rattle.x25_link.specs.Link.{disconnect_refusal, disconnect_step, probe_refusal, relink_refusal, relink_step, abandon_step}
-use Rattle.x25_link.specs.laws.SetUp.{TakeWaits, waiting_after, waiting_up}
+use Rattle.x25_station.proofs.Names.{◌≡◌, ℕ, zero, suc, ◌+◌, ◌<◌, ◌≤◌, List, [], ◌∷◌, ◌++◌, Bool, true, false, ◌||◌, ◌&&◌, if◌then◌else◌, nat_lt, length}
+use Rattle.x25_station.proofs.Names.{Option, Some, None, Result, Ok, Err, refl, sym, ap, subst, ◌∙◌, arith, true≢false, ltb-true, lt-ltb, or-true, PlainFrame}
+use Rattle.x25_station.proofs.Names.{frame_of, PlainPacket, spelling_of, LinkError, Phase, Down, Waiting, Up, Closed, Reason, Retries, added, LinkSettings}
+use Rattle.x25_station.proofs.Names.{LinkStation, Side, is_up, is_busy, with_near, with_nothing, sends, ready, may_send, send_next, pumped, owes_ready, ended}
+use Rattle.x25_station.proofs.Names.{LinkStep, quiet, leaves, other, alone, put_step, take_step, timer_runs, timer_refusal, timer_step, asks_again}
+use Rattle.x25_station.proofs.Names.{connect_refusal, connect_step, disconnect_refusal, disconnect_step, probe_refusal, relink_refusal, relink_step}
+use Rattle.x25_station.proofs.Names.{abandon_step, Answered, Went, Refuses, calls, PlainGiven, write, Requests, RequestsWith, Connects, Disconnects, Probes}
+use Rattle.x25_station.proofs.Names.{Relinks, said_by, may_ask, Settings, link_settings, layer_settings, StationEntry, connect_asked, disconnect_asked}
+use Rattle.x25_station.proofs.Names.{relink_asked, entries_down, all_given, view_given, is_taken, Station, put_on, all_put, view_of, Step, with_puts, follows}
+use Rattle.std.proofs.{Common.{max}, lemmas.List.{length-append}}
+use Rattle.x25_frame.specs.{Frame.{sabm, disc, ua}, declared.error.FrameError.{FrameError}}
 use Rattle.x25_layer.specs.code.FitsLayer.{is_full}
-use Rattle.x25_layer.specs.laws.Rounds.{Answered, Went, Refuses, calls}
-use Rattle.x25_given.specs.Given.{PlainGiven}
-use Rattle.x25_given.specs.Writing.{write}
-use Rattle.x25_station.specs.Command.{Requests, RequestsWith, Connects, Disconnects, Probes, Relinks, said_by, may_ask}
-use Rattle.x25_station.specs.Config.{Settings, link_settings, layer_settings}
-use Rattle.x25_station.specs.Entry.{StationEntry, connect_asked, disconnect_asked, relink_asked, entries_down, entries_up}
-use Rattle.x25_station.specs.Giving.{all_given, view_given, is_taken}
+use Rattle.x25_link.specs.{Link.{closed_by}, laws.SetUp.{TakeWaits, waiting_after, waiting_up}}
+use Rattle.x25_station.proofs.{DownLemmas.{downs, follows_down, timer_down, disconnect_down, relink_down}, MayLemmas.{where_holds}}
+use Rattle.x25_station.{proofs.Names.{led_by, unless, abandons, did, with_given, gave, requests_of, tells_link}, specs.Entry.{entries_up}}
+use Rattle.x25_station.specs.{Step.{receives}, laws.UnheardLaw.{MayAsk, TakesTries, AsksOn, UnheardAsksOn}}
 use Rattle.x25_station.specs.Station as station
-use Rattle.x25_station.specs.Station.{Station, put_on, all_put, view_of}
-use Rattle.x25_station.specs.Step.{Step, with_puts, follows, led_by, unless, abandons, did, receives, with_given, gave, requests_of}
-use Rattle.x25_station.specs.Timer.{tells_link}
 use Rattle.x25_station.specs.laws.TimerLaw as timer
-use Rattle.x25_station.specs.laws.UnheardLaw.{MayAsk, TakesTries, AsksOn, UnheardAsksOn}
-use Rattle.x25_station.proofs.DownLemmas.{downs, follows_down, timer_down, disconnect_down, relink_down}
-use Rattle.x25_station.proofs.MayLemmas.{where_holds}
 
 -- ---- what sending leaves as it is
 

@@ -1,21 +1,11 @@
 -- What leads on where the other end doesn't answer.
-use Rattle.std.proofs.Common.{◌≡◌, zero, suc, [], ◌∷◌, Bool, true, false, if◌then◌else◌, nat_lt, Option, Some, None, refl, sym, ap, ◌∙◌, arith}
-use Rattle.std.proofs.lemmas.Bool.{true≢false, lt-ltb, le-ltb}
-use Rattle.x25_link.specs.declared.error.LinkError.{LinkError}
-use Rattle.x25_link.specs.declared.error.LinkError.TheVariants as error
-use Rattle.x25_link.specs.declared.phase.Phase.{Phase}
-use Rattle.x25_link.specs.declared.phase.Phase.TheVariants.{Down, Waiting, Up}
-use Rattle.x25_link.specs.declared.phase.Reason.TheVariants.{Retries}
-use Rattle.x25_link.specs.Station.{LinkStation, Side, is_up, with_nothing}
-use Rattle.x25_link.specs.Hearing.{LinkStep}
-use Rattle.x25_link.specs.Link.{timer_runs, timer_step, relink_refusal, relink_step}
+use Rattle.x25_station.proofs.Names.{◌≡◌, zero, suc, [], ◌∷◌, Bool, true, false, if◌then◌else◌, nat_lt, Option, Some, None, refl, sym, ap, ◌∙◌, arith}
+use Rattle.x25_station.proofs.Names.{true≢false, lt-ltb, le-ltb, LinkError, Phase, Down, Waiting, Up, Retries, LinkStation, Side, is_up, with_nothing, LinkStep}
+use Rattle.x25_station.proofs.Names.{timer_runs, timer_step, relink_refusal, relink_step, Settings, link_settings, relink_asked, entries_down, Station, Step}
 use Rattle.x25_link.specs.laws.SetUp.{ConnectWaits, TimerWaits, RelinkIsTwoSteps}
-use Rattle.x25_station.specs.Config.{Settings, link_settings}
-use Rattle.x25_station.specs.Entry.{relink_asked, entries_down}
-use Rattle.x25_station.specs.Station.{Station}
-use Rattle.x25_station.specs.Step.{Step, Did, unless, follows, led_by, fires}
+use Rattle.x25_station.{proofs.DownLemmas.{relink_down, timer_down}, proofs.Names.{Did, unless, follows, led_by}, specs.Step.{fires}}
 use Rattle.x25_station.specs.laws.WayOutLaw.{RelinkLeadsOn, once, again, FiringLeadsOn}
-use Rattle.x25_station.proofs.DownLemmas.{relink_down, timer_down}
+use Rattle.x25_link.specs.declared.error.LinkError.TheVariants as error
 
 refused_none : (p : Phase) → is_up p ≡ true → relink_refusal p ≡ None
 refused_none Up e = refl

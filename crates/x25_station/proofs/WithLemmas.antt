@@ -1,32 +1,20 @@
 -- A call of the layer over the link with something given beside its packet, which it has.
-use Rattle.std.proofs.Common.{◌≡◌, ℕ, List, Option, Some, None, Result, Ok, Err, IsErrAnd, Bool, true, false, if◌then◌else◌, refl, ap, sym, subst}
-use Rattle.std.specs.Prelude.{IfSome, IsSome}
-use Rattle.x25_packet.specs.Packet.{PlainPacket, accept, clear}
-use Rattle.x25_packet.specs.Spelling.{spelling_of}
-use Rattle.x25_link.specs.code.FitsLink.{ShownLink, LinkState, FitsWhole}
-use Rattle.x25_circuit.specs.declared.state.State.{State}
-use Rattle.x25_circuit.specs.declared.state.State.TheVariants.{Free, Calling, Arriving, Open, Clearing}
-use Rattle.x25_circuit.specs.declared.error.CircuitError.{CircuitError}
+use Rattle.x25_station.proofs.Names.{◌≡◌, ℕ, List, Option, Some, None, Result, Ok, Err, Bool, true, false, if◌then◌else◌, refl, ap, sym, subst, PlainPacket}
+use Rattle.x25_station.proofs.Names.{accept, clear, spelling_of, ShownLink, LinkState, FitsWhole, State, Free, Calling, Arriving, Open, Clearing, may_clear_for}
+use Rattle.x25_station.proofs.Names.{Proposal, default_params, may_answer, CircuitSettings, Circuit, Done, Request, Calls, Accepts, Clears, outcome, call_in}
+use Rattle.x25_station.proofs.Names.{accept_in, clear_in, LayerError, LayerSettings, Layer, is_channel, LayerRequest, Asks, Dials, LayerOutcome, Accepted}
+use Rattle.x25_station.proofs.Names.{Declined, layer_outcome, outcome_in, outcome_on, where_room, if_at_once, puts_at_once, dialled, free_channel, Answered}
+use Rattle.x25_station.proofs.Names.{Went, Refuses, begin, rounds, went, FitsLayer, spelled, PlainGiven, suits, LayerGives}
+use Rattle.std.{proofs.Common.{IsErrAnd}, specs.Prelude.{IfSome, IsSome}}
+use Rattle.x25_circuit.specs.{Calling.{Outcome, Refused}, Params.{field_for}, declared.error.CircuitError.{CircuitError}}
+use Rattle.x25_layer.specs.{Calls.{asked_where}, code.Answering.{Gives, Answers}}
+use Rattle.x25_station.proofs.DriveLemmas.{IsTold, DrivesLayer, DrivesLink, told_in, layer_not, on_err, same_err, drove, drove_not}
+use Rattle.x25_station.specs.code.OverLink.{all_with, seen_with, GoesWith, DrivesWith, all_asked, seen_asked, DrivesAsked}
 use Rattle.x25_circuit.specs.declared.error.CircuitError.TheVariants as circuit_error
-use Rattle.x25_circuit.specs.Cause.{may_clear_for}
-use Rattle.x25_circuit.specs.Params.{Proposal, default_params, may_answer, field_for}
-use Rattle.x25_circuit.specs.Circuit.{CircuitSettings, Circuit}
 use Rattle.x25_circuit.specs.Calling as circuit
-use Rattle.x25_circuit.specs.Calling.{Outcome, Done, Refused, Request, Calls, Accepts, Clears, outcome, call_in, accept_in, clear_in}
-use Rattle.x25_layer.specs.declared.error.LayerError.{LayerError}
 use Rattle.x25_layer.specs.declared.error.LayerError.TheVariants as error
 use Rattle.x25_layer.specs.declared.layer.Layer as layer_code
 use Rattle.x25_layer.specs.declared.link_state.LinkState as code
-use Rattle.x25_layer.specs.Layer.{LayerSettings, Layer, is_channel}
-use Rattle.x25_layer.specs.Calls.{LayerRequest, Asks, Dials, LayerOutcome, Accepted, Declined, asked_where, layer_outcome, outcome_in, outcome_on, where_room}
-use Rattle.x25_layer.specs.Calls.{if_at_once, puts_at_once, dialled, free_channel}
-use Rattle.x25_layer.specs.laws.Rounds.{Answered, Went, Refuses, begin, rounds, went}
-use Rattle.x25_layer.specs.code.FitsLayer.{FitsLayer}
-use Rattle.x25_layer.specs.code.Answering.{Gives, Answers, spelled}
-use Rattle.x25_given.specs.Given.{PlainGiven}
-use Rattle.x25_station.specs.Giving.{suits}
-use Rattle.x25_station.specs.code.OverLink.{LayerGives, all_with, seen_with, GoesWith, DrivesWith, all_asked, seen_asked, DrivesAsked}
-use Rattle.x25_station.proofs.DriveLemmas.{IsTold, DrivesLayer, DrivesLink, told_in, layer_not, on_err, same_err, drove, drove_not}
 
 -- ---- all but a message has a packet
 

@@ -1,6 +1,6 @@
 -- What octets bring beside the packet that a station takes them for (profile): the fields of a call and of its clearing
 -- that have no place in that packet, and the code of a DIAGNOSTIC.
-use Rattle.std.specs.Prelude.{ℕ, ◌+◌, ◌≤◌, ◌==◌, nat_lt, Bool, true, false, List, [], ◌∷◌, length, if◌then◌else◌}
+use Rattle.std.specs.Prelude.{ℕ, ◌+◌, ◌≤◌, nat_lt, Bool, true, false, List, [], length, if◌then◌else◌}
 use Rattle.std.specs.Prelude.{Option, Some}
 use Rattle.std.specs.Prelude.{None, Result, Ok, Err}
 use Rattle.x25_packet.specs.Packet.{PlainPacket}
@@ -8,7 +8,9 @@ use Rattle.x25_packet.specs.Reading.{packet_of}
 use Rattle.x25_packet.specs.declared.error.PacketError.{PacketError}
 use Rattle.x25_packet.specs.Block.{PlainBlock, PlainFields}
 use Rattle.x25_packet.specs.Form.{PlainKind, PlainForm, call, accept, extended_clear, clear_conf, diagnostic}
-use Rattle.x25_packet.specs.Grammar.{form_in}
+use Rattle.x25_packet.specs.declared.form.Form.{Form}
+use Rattle.x25_packet.specs.Form.{plain}
+use Rattle.x25_packet.specs.Grammar.{Gives, form_in}
 use Rattle.x25_station.specs.declared.beside.Beside.{Beside}
 use Rattle.x25_station.specs.declared.beside.Beside.TheVariants as code
 
@@ -59,10 +61,9 @@ abbrev pub beside_in : Bool → List ℕ → PlainBeside
 beside_in false octets = nothing
 beside_in true octets = unless_written (packet_of 128 octets) (beside_or_none (form_in 128 octets))
 
--- octets of the type of a DIAGNOSTIC
-abbrev pub may_diagnose : List ℕ → Bool
-may_diagnose (first ∷ second ∷ kind ∷ body) = kind == 241
-may_diagnose _ = false
+-- octets are read to this in any form, with so much user data in a CALL or less
+abbrev pub IsReadShorter : Result Form PacketError → List ℕ → Type 0
+IsReadShorter form octets = (most : ℕ) × (most ≤ 128) × Gives plain form (form_in most octets)
 
 -- sections 7.1 and 6.16
 abbrev pub AreFew : PlainBeside → Type 0

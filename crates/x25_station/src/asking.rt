@@ -12,7 +12,6 @@ ghost use Rattle.x25_station.specs.Command.{answer_in_brief, command_of, may_lac
 ghost use Rattle.x25_station.specs.Entry.{of_channel};
 ghost use Rattle.x25_station.specs.code.Clock.{TellsTimer};
 ghost use Rattle.x25_station.specs.code.FitsStation.{FitsStation, Does, IsEmpty, RefusesOnly};
-ghost use Rattle.x25_circuit.specs.code.PartialMessage.{spares};
 ghost use Rattle.x25_station.specs.code.Entries.{IsBrief};
 ghost use Rattle.x25_station.specs.code.PlainEntry.{plain_asked};
 ghost use Rattle.x25_station.specs.Config.{Settings};
@@ -22,7 +21,7 @@ ghost use Rattle.x25_station.specs.Step.{asks, commands, requests};
 
 use crate::command::Cmd;
 use crate::driving::{ask, call, pull, restart, state};
-use crate::entering::name_on;
+use crate::entering::NO_NAME;
 use crate::entries::Entries;
 use crate::entry::{Asked, Entry};
 use crate::error::StationError;
@@ -40,9 +39,7 @@ use x25_packet::Marks;
 // What is asked of a channel, for an entry: an acceptance shows the packet sizes and windows in force.
 #[inline(always)]
 fn asked_of(lent: &mut Lent, layer: &Layer, channel: u16, request: &Request<'_>) -> Asked
-    requires { spares lent.old.message ≡ 1 }
-    ensures message { spares lent.new.message ≡ 1 }
-    ensures asked { (c : LayerSettings) (l : LayerState) → FitsLayer c layer.now l
+    ensures { (c : LayerSettings) (l : LayerState) → FitsLayer c layer.now l
         → is_channel c.channels channel ≡ true → IsBrief (plain_request request.now)
         → plain_asked lent.new result ≡ shown (l.circuits channel) (plain_request request.now) }
 {
@@ -97,7 +94,7 @@ pub(crate) fn enter_asked(layer: &Layer, entries: &mut Entries, channel: u16, re
         }) ∷ [] }
 {
     let asked = asked_of(&mut entries.lent, layer, channel, request);
-    let name = name_on(layer, channel);
+    let name = layer.name(channel).unwrap_or(NO_NAME);
     entries.list.push_reserved(Entry::Asked {
         channel,
         name,
@@ -130,7 +127,7 @@ impl Station {
         out.clear();
         let ran = self.link.timer_runs();
         let answer = self.carry_out(&command, out);
-        out.timer = self.timer_behind(ran, false, false, &out.entries);
+        out.timer = self.timer_behind(ran, false, false, out);
         answer
     }
 
@@ -373,9 +370,9 @@ impl Station {
     {
         steps_keep_bounds();
         holds_few();
-        // A copy is lent, so that the kind of the request itself stays known where this stands in its callers' place.
-        let asked = request;
-        if !may_ask(self.manner.wide, &asked, given) {
+        if !may_ask(self.manner.wide, &request, given) {
+            // A copy is lent, so that the request itself stays out of memory where this stands in its callers' place.
+            let asked = request;
             if let Some(error) = self.layer.refusal(state(&self.link), channel, &asked) {
                 return Err(StationError::of_layer(error));
             }
@@ -390,7 +387,7 @@ impl Station {
             given,
         ) {
             Ok(()) => {
-                enter_asked(&self.layer, &mut out.entries, channel, &asked);
+                enter_asked(&self.layer, &mut out.entries, channel, &request);
                 self.link.swap_frames(&mut out.frames);
                 Ok(())
             }

@@ -1,14 +1,14 @@
 //! What a packet brings beside what the station takes it for.
-ghost use Rattle.std.specs.Prelude.{◌≡◌, true};
-ghost use Rattle.x25_station.specs.Entry.{entries_beside};
-ghost use Rattle.x25_station.specs.Beside.{AreFew, beside_in, beside_kind, of_fields, plain_beside};
-ghost use Rattle.x25_station.specs.Beside.{may_diagnose, without_user};
+ghost use Rattle.std.specs.Prelude.{◌≡◌, IfSome, is_some};
+ghost use Rattle.x25_station.specs.Beside.{AreFew, IsReadShorter, beside_in, beside_kind, beside_or_none};
+ghost use Rattle.x25_station.specs.Beside.{of_fields, plain_beside};
 ghost use Rattle.x25_packet.specs.Block.{plain_fields};
 ghost use Rattle.x25_packet.specs.Form.{plain_kind};
+ghost use Rattle.x25_packet.specs.Grammar.{form_in};
 
-use x25_packet::codes::DIAGNOSTIC;
 use x25_packet::{
-    Block, FAST_SELECT_OCTETS, Fields, Kind, decode, decode_within, reading_is_the_grammar,
+    Block, FAST_SELECT_OCTETS, Fields, Form, Kind, PacketError, decode, decode_within,
+    reading_is_the_grammar,
 };
 
 /// What octets bring beside the packet that a station takes them for. Its octets are borrowed.
@@ -33,24 +33,18 @@ fn of_fields<'a>(fields: Option<Fields<'a>>) -> Beside<'a>
     }
 }
 
-/// The fields of a CALL, whose user data a station tells with it.
-fn without_user<'a>(fields: Option<Fields<'a>>) -> Option<Fields<'a>>
-    ensures { plain_fields result ≡ without_user (plain_fields fields.entry) }
-{
-    match fields {
-        Some(fields) => Some(Fields {
-            facilities: fields.facilities,
-            user: &[],
-        }),
-        None => None,
-    }
-}
-
 fn beside_kind<'a>(a: bool, kind: Kind<'a>) -> Beside<'a>
     ensures { plain_beside result ≡ beside_kind (plain_kind a kind.entry) }
 {
     match kind {
-        Kind::Call { body } => of_fields(without_user(Block::of(a, body).fields)),
+        Kind::Call { body } => match Block::of(a, body).fields {
+            // A station tells the user data with the call.
+            Some(Fields { facilities, .. }) => of_fields(Some(Fields {
+                facilities,
+                user: &[],
+            })),
+            None => Beside::Nothing,
+        },
         Kind::Accept { body } | Kind::ClearConf { body } | Kind::ExtendedClear { body, .. } => {
             of_fields(Block::of(a, body).fields)
         }
@@ -59,34 +53,40 @@ fn beside_kind<'a>(a: bool, kind: Kind<'a>) -> Beside<'a>
     }
 }
 
-/// Whether octets are of the type of a DIAGNOSTIC.
-fn may_diagnose(octets: &[u8]) -> bool
-    ensures { result ≡ may_diagnose octets.now }
+/// What octets bring in any form beside the packet that a station takes them for, by what it reads them to. A CALL that
+/// is too long for it has 128 octets of user data at most.
+fn beside_form<'a>(form: &Result<Form<'a>, PacketError>, octets: &'a [u8]) -> Beside<'a>
+    requires { IsReadShorter form.now octets.now }
+    ensures told { plain_beside result ≡ beside_or_none (form_in 128 octets.now) }
+    ensures few { AreFew (plain_beside result) }
 {
-    match octets {
-        [_, _, kind, ..] => *kind == DIAGNOSTIC,
-        _ => false,
+    reading_is_the_grammar();
+    if let Ok(form) = form {
+        return beside_kind(form.bit_8, form.kind);
+    }
+    match decode(FAST_SELECT_OCTETS, octets) {
+        Ok(form) => beside_kind(form.bit_8, form.kind),
+        Err(_) => Beside::Nothing,
     }
 }
 
-/// What octets bring beside the packet that a station takes them for, where it reads packets in all their forms, and
-/// its user is told: fields beside what is told on this channel, or a DIAGNOSTIC. No other octets are read again.
-///
-/// Nothing where they are a packet in the form that it writes, or none. A CALL may have 128 octets of user data here.
-pub(crate) fn beside_of<'a>(octets: &'a [u8], channel: Option<u16>) -> Beside<'a>
-    ensures told { entries_beside (plain_beside result) channel ≡ entries_beside (beside_in true octets.now) channel }
+/// What octets bring beside the packet that a station takes them for, by what they are read to in any form: nothing
+/// where it reads no other form than that which it writes, or where they are in that.
+pub(crate) fn beside_of<'a>(
+    form: &Option<Result<Form<'a>, PacketError>>,
+    octets: &'a [u8],
+) -> Beside<'a>
+    requires { IfSome form.now (λ read. IsReadShorter read octets.now) }
+    ensures told { plain_beside result ≡ beside_in (is_some form.now) octets.now }
     // At most 109 octets of facilities, and 128 of user data.
     ensures few { AreFew (plain_beside result) }
 {
-    if channel.is_none() && !may_diagnose(octets) {
-        reading_is_the_grammar();
+    let Some(form) = form else {
         return Beside::Nothing;
-    }
-    if decode_within(FAST_SELECT_OCTETS, octets).is_ok() {
-        return Beside::Nothing;
-    }
-    match decode(FAST_SELECT_OCTETS, octets) {
-        Ok(packet) => beside_kind(packet.bit_8, packet.kind),
-        Err(_) => Beside::Nothing,
+    };
+    match beside_form(form, octets) {
+        Beside::Nothing => Beside::Nothing,
+        _ if decode_within(FAST_SELECT_OCTETS, octets).is_ok() => Beside::Nothing,
+        beside => beside,
     }
 }

@@ -3,12 +3,13 @@ ghost use Rattle.std.specs.Prelude.{◌≡◌, ℕ, IfSome};
 ghost use Rattle.x25_layer.specs.Layer.{LayerSettings};
 ghost use Rattle.x25_layer.specs.Layer.{Layer as State};
 ghost use Rattle.x25_layer.specs.code.FitsLayer.{FitsLayer};
-ghost use Rattle.x25_station.specs.Confirming.{confirmed};
+ghost use Rattle.x25_station.specs.Confirming.{confirmed, named_by};
 ghost use Rattle.x25_station.specs.code.Confirming.{Stands, Tells};
 ghost use Rattle.x25_station.specs.code.Entries.{IsWhole};
 
 use crate::entry::Entry;
 use x25_layer::{Layer, Stretch};
+use x25_packet::channel;
 
 /// The stretch that is open on a channel, and how many of its messages are unconfirmed: one at least.
 #[derive(Clone, Copy)]
@@ -18,10 +19,11 @@ pub(crate) struct Unconfirmed {
     count: usize,
 }
 
-/// What is unconfirmed on a channel, where something is.
-pub(crate) fn unconfirmed_on(layer: &Layer, channel: u16) -> Option<Unconfirmed>
-    ensures { (c : LayerSettings) (l : State) → FitsLayer c layer.now l → Stands c l channel result }
+/// What is unconfirmed on the channel that a packet names, where something is: on channel 0 nothing ever is.
+pub(crate) fn unconfirmed_on(layer: &Layer, packet: &[u8]) -> Option<Unconfirmed>
+    ensures { (c : LayerSettings) (l : State) → FitsLayer c layer.now l → Stands c l (named_by packet.now) result }
 {
+    let channel = channel(packet).unwrap_or(0);
     let count = layer.unconfirmed(channel);
     if count == 0 || !layer.is_open(channel) {
         return None;

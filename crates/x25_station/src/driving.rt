@@ -13,7 +13,7 @@ ghost use Rattle.x25_layer.specs.Calls.{Asks, Dials, Restarts, PullsAll, free_ch
 ghost use Rattle.x25_layer.specs.laws.Rounds.{Putting, begin, rounds, comes_up};
 ghost use Rattle.x25_layer.specs.code.Answering.{spelled};
 ghost use Rattle.x25_layer.specs.code.FitsLayer.{FitsLayer};
-ghost use Rattle.x25_station.specs.code.OverLink.{after_all, after_octets, seen_at, Drives};
+ghost use Rattle.x25_station.specs.code.OverLink.{after_all, seen_at, Drives};
 ghost use Rattle.x25_station.specs.code.OverLink.{all_asked, seen_asked, DrivesAsked};
 ghost use Rattle.x25_given.specs.Given.{given_with, may_give, plain_given};
 ghost use Rattle.x25_given.specs.Writing.{write};
@@ -45,26 +45,6 @@ pub(crate) fn state(link: &Link) -> LinkState
     }
 }
 
-// Puts these octets into the link, which has a place for them, where there are any.
-#[inline(always)]
-fn put(link: &mut Link, octets: &[u8])
-    requires up { up_of link.old ≡ true }
-    requires free { (octets.now ≡ []) ⊎ (waiting_of link.old < 256) }
-    requires places { 0 < places_left link.old.frames }
-    requires longest { 4099 ≤ limit_of link.old }
-    requires long { length octets.now ≤ 4099 }
-    requires short { (length octets.now ≤ 260) ⊎ (waiting_of link.old < 8) }
-    ensures link { (x : State) → FitsWhole link.old x → FitsWhole link.new (after_octets x octets.now) }
-    ensures places { places_left link.old.frames ≤ places_left link.new.frames + 1 }
-    ensures up { up_of link.new ≡ up_of link.old }
-    ensures longest { limit_of link.new ≡ limit_of link.old }
-{
-    if octets.is_empty() {
-        return;
-    }
-    link.put(octets).unwrap();
-}
-
 // Puts the data packets of all channels, in rounds, while fewer than 8 packets wait in the link.
 #[inline(always)]
 fn pull_all(layer: &mut Layer, link: &mut Link)
@@ -82,7 +62,7 @@ fn pull_all(layer: &mut Layer, link: &mut Link)
     while left > 0 && link.waiting() < FEW {
         match layer.pull(channel) {
             Some(next) => {
-                put(link, layer.to_put());
+                link.put(layer.to_put()).unwrap();
                 left -= 1;
                 channel = next;
             }
@@ -111,7 +91,9 @@ pub(crate) fn drive(layer: &mut Layer, link: &mut Link)
         → FitsLayer c layer.old l → layer.old.sheet ≡ spelled packet → FitsWhole link.old x
         → FitsWhole link.new (after_all x (rounds (seen_at x) c (begin l packet)).put) }
 {
-    put(link, layer.to_put());
+    if !layer.to_put().is_empty() {
+        link.put(layer.to_put()).unwrap();
+    }
     pull_all(layer, link);
 }
 
@@ -171,7 +153,7 @@ pub(crate) fn come_up_alone(layer: &mut Layer, link: &mut Link)
 {
     calls_are_runs();
     layer.up();
-    put(link, layer.to_put());
+    link.put(layer.to_put()).unwrap();
 }
 
 /// What a user asks of the circuit of a channel, with what is given beside its packet.

@@ -1,14 +1,12 @@
 //! Entries of what the packet layer tells.
-ghost use Rattle.std.specs.Prelude.{◌≡◌, ◌+◌, ◌<◌, ◌++◌, [], ◌∷◌, length, map, Some, true};
+ghost use Rattle.std.specs.Prelude.{◌≡◌, ℕ, List, ◌<◌, ◌++◌, [], length, map};
 ghost use Rattle.std.specs.List.{sum_by};
-ghost use Rattle.x25_circuit.specs.code.PartialMessage.{spares};
-ghost use Rattle.x25_circuit.specs.code.Replies.{handed_over, plain_notice};
-ghost use Rattle.x25_layer.specs.Layer.{Layer as LayerState, LayerSettings, is_channel};
+ghost use Rattle.x25_circuit.specs.code.Replies.{plain_notice};
+ghost use Rattle.x25_layer.specs.Layer.{Layer as LayerState, LayerSettings};
 ghost use Rattle.x25_layer.specs.code.FitsLayer.{FitsLayer};
-ghost use Rattle.x25_layer.specs.laws.Transcript.{Told as WasTold, name_of};
-ghost use Rattle.x25_layer.specs.Report.{handed_over_in, plain_report};
-ghost use Rattle.x25_station.specs.Entry.{bringing, entries_beside, of_channel, station_told};
-ghost use Rattle.x25_station.specs.code.PlainEntry.{plain_entry, plain_name, plain_told};
+ghost use Rattle.x25_layer.specs.Report.{plain_report};
+ghost use Rattle.x25_station.specs.Entry.{bringing, entries_beside, station_told};
+ghost use Rattle.x25_station.specs.code.PlainEntry.{plain_entry, plain_told};
 ghost use Rattle.x25_station.specs.Receiving.{IsShort, AreTellable};
 ghost use Rattle.x25_station.specs.Beside.{AreFew, plain_beside};
 ghost use Rattle.x25_station.specs.code.Entries.{GrowsBy, HasPlaces, comes_beside};
@@ -23,50 +21,16 @@ use x25_layer::{Layer, Report, Stretch};
 use x25_packet::{called_digits, calling_digits, user_data};
 
 // The name of no stretch: there is none on a channel that isn't configured.
-const NO_NAME: Stretch = Stretch {
+pub(crate) const NO_NAME: Stretch = Stretch {
     restarts: 0,
     clears: 0,
     resets: 0,
 };
 
-/// The name of the stretch of a configured channel.
-#[inline(always)]
-pub(crate) fn name_on(layer: &Layer, channel: u16) -> Stretch
-    ensures { (c : LayerSettings) (l : LayerState) → FitsLayer c layer.now l
-        → is_channel c.channels channel ≡ true → plain_name result ≡ name_of l channel }
-{
-    layer.name(channel).unwrap_or(NO_NAME)
-}
-
-// Enters what was reported to the user of a configured channel, behind the other entries.
-fn tell(layer: &Layer, list: &mut Vec<Entry>, channel: u16, told: Told)
-    requires { HasPlaces 1 list.old }
-    ensures few { GrowsBy 1 list.old list.new }
-    ensures beside { (said : Said) → sum_by comes_beside (map (plain_entry said) list.new.items)
-        ≡ sum_by comes_beside (map (plain_entry said) list.old.items) }
-    ensures entered { (said : Said) (c : LayerSettings) (l : LayerState) → FitsLayer c layer.now l
-        → is_channel c.channels channel ≡ true →
-        map (plain_entry said) list.new.items ≡ map (plain_entry said) list.old.items
-        ++ of_channel (record {
-          channel = channel;
-          name = name_of l channel;
-          said = WasTold (plain_told said told);
-        }) ∷ [] }
-{
-    let name = name_on(layer, channel);
-    list.push_reserved(Entry::Told {
-        channel,
-        name,
-        told,
-    });
-}
-
 // What a notice tells the user of a channel, where its user data are at most 128 octets.
 fn told_of(lent: &mut Lent, notice: Notice<'_>) -> Told
-    requires { spares lent.old.message + handed_over (Some notice) ≡ 1 }
-    ensures message { spares lent.new.message ≡ 1 }
-    ensures told { IsShort (plain_notice notice.entry)
-        → plain_told lent.new result ≡ plain_notice notice.entry }
+    ensures { IsShort (plain_notice lent.old.message notice.entry)
+        → plain_told lent.new result ≡ plain_notice lent.old.message notice.entry }
 {
     match notice {
         Notice::Incoming { a, params, body } => {
@@ -80,10 +44,7 @@ fn told_of(lent: &mut Lent, notice: Notice<'_>) -> Told
         Notice::ClearDone => Told::ClearDone,
         Notice::WasReset { cause, diagnostic } => Told::WasReset { cause, diagnostic },
         Notice::ResetDone => Told::ResetDone,
-        Notice::Delivered { marks, user } => {
-            lent.message = Some(user);
-            Told::Delivered { marks }
-        }
+        Notice::Delivered { marks } => Told::Delivered { marks },
         Notice::Interrupted { user } => {
             lent.user.set(user);
             Told::Interrupted
@@ -96,15 +57,13 @@ fn told_of(lent: &mut Lent, notice: Notice<'_>) -> Told
 /// Enters what the layer reported, into a list that is empty: of a channel first that this end's own call was dropped,
 /// where it was.
 pub(crate) fn enter_told(layer: &Layer, lent: &mut Lent, told: Report<'_>, list: &mut Vec<Entry>)
-    requires message { spares lent.old.message + handed_over_in told ≡ 1 }
     requires room { HasPlaces 2 list.old }
     requires none { list.old.items ≡ [] }
-    ensures message { spares lent.new.message ≡ 1 }
     ensures few { GrowsBy 2 list.old list.new }
     ensures beside { (said : Said) → sum_by comes_beside (map (plain_entry said) list.new.items) ≡ 0 }
     ensures entered { (c : LayerSettings) (l : LayerState) → FitsLayer c layer.now l
-        → AreTellable c (plain_report told.entry) →
-        map (plain_entry lent.new) list.new.items ≡ station_told l (plain_report told.entry) }
+        → AreTellable c (plain_report lent.old.message told.entry) →
+        map (plain_entry lent.new) list.new.items ≡ station_told l (plain_report lent.old.message told.entry) }
 {
     match told {
         Report::Nothing => {}
@@ -113,12 +72,21 @@ pub(crate) fn enter_told(layer: &Layer, lent: &mut Lent, told: Report<'_>, list:
             collided,
             notice,
         } => {
+            let name = layer.name(channel).unwrap_or(NO_NAME);
             if collided {
-                tell(layer, list, channel, Told::Collided);
+                list.push_reserved(Entry::Told {
+                    channel,
+                    name,
+                    told: Told::Collided,
+                });
             }
             if let Some(notice) = notice {
                 let told = told_of(lent, notice);
-                tell(layer, list, channel, told);
+                list.push_reserved(Entry::Told {
+                    channel,
+                    name,
+                    told,
+                });
             }
         }
         Report::Restarted { cause, diagnostic } => {
@@ -132,7 +100,7 @@ pub(crate) fn enter_told(layer: &Layer, lent: &mut Lent, told: Report<'_>, list:
 /// The channel of what the layer reported, where that is of a packet that may bring more: of a call, of its acceptance
 /// or of its end.
 pub(crate) fn bringing(told: &Report<'_>) -> Option<u16>
-    ensures { result ≡ bringing (plain_report told.now) }
+    ensures { (message : List ℕ) → result ≡ bringing (plain_report message told.now) }
 {
     match told {
         Report::Channel {

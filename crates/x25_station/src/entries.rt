@@ -1,11 +1,8 @@
 ghost use Rattle.std.specs.Prelude.{◌≡◌, ◌<◌, ◌≤◌, ◌++◌, [], ◌∷◌, length, map, nat_le, vec_capacity, IfOk};
 ghost use Rattle.std.specs.List.{sum_by};
-ghost use Rattle.x25_circuit.specs.code.PartialMessage.{spares};
 ghost use Rattle.x25_station.specs.Entry.{came_beside};
-ghost use Rattle.x25_station.specs.Timer.{is_of_link, tells_link as tell_link};
 ghost use Rattle.x25_station.specs.code.Entries.{IsWhole, comes_beside};
 ghost use Rattle.x25_station.specs.code.PlainEntry.{plain_entry};
-ghost use Rattle.x25_station.specs.declared.lent.Lent.{Lent as Said};
 
 use crate::entry::Entry;
 use crate::lent::Lent;
@@ -21,7 +18,6 @@ pub struct Entries {
     pub(crate) lent: Lent,
     ghost few: { length (map (plain_entry lent) list.items) ≤ 3 },
     ghost places: { vec_capacity list ≡ 3 },
-    ghost message: { spares lent.message ≡ 1 },
 }
 
 impl Model for Entries {
@@ -76,13 +72,6 @@ impl Entries {
         &self.lent
     }
 
-    /// Whether the link came up or went down.
-    pub(crate) fn tells_link(&self) -> bool
-        ensures { result ≡ tell_link self.now.items }
-    {
-        tells_link(self.list.as_slice())
-    }
-
     /// Puts an entry behind the others that says all itself.
     pub(crate) fn push(&mut self, entry: Entry)
         requires place { length self.old.items < 3 }
@@ -103,28 +92,4 @@ impl Entries {
         self.lent.beside.set(user);
         self.list.push_reserved(Entry::Beside { channel });
     }
-
-    /// Takes all entries out. The memory of what they said serves other ones.
-    pub(crate) fn clear(&mut self)
-        ensures { self.new.items ≡ [] }
-    {
-        self.list.clear();
-    }
-}
-
-fn is_of_link(entry: &Entry) -> bool
-    ensures { (lent : Said) → result ≡ is_of_link (plain_entry lent entry.now) }
-{
-    matches!(entry, Entry::LinkUp | Entry::LinkDown(_))
-}
-
-fn tells_link(list: &[Entry]) -> bool
-    ensures { (lent : Said) → result ≡ tell_link (map (plain_entry lent) list.now) }
-{
-    for entry in list {
-        if is_of_link(entry) {
-            return true;
-        }
-    }
-    false
 }

@@ -1,10 +1,10 @@
 //! What may be asked of a call, with or without something that the user gives beside its packet.
-ghost use Rattle.std.specs.Prelude.{◌≡◌, ◌&&◌, ℕ, List};
+ghost use Rattle.std.specs.Prelude.{◌≡◌, ℕ, List};
 ghost use Rattle.x25_circuit.specs.Params.{Proposal as PlainProposal};
 ghost use Rattle.x25_circuit.specs.Request.{plain_request};
-ghost use Rattle.x25_given.specs.Given.{given_with, may_give, plain_given};
+ghost use Rattle.x25_given.specs.Given.{given_with};
 ghost use Rattle.x25_layer.specs.Calls.{Asks, Dials};
-ghost use Rattle.x25_station.specs.Giving.{may_ask_with, suits};
+ghost use Rattle.x25_station.specs.Giving.{may_ask_with};
 
 use crate::error::StationError;
 use x25_circuit::{CircuitError, Request};
@@ -21,23 +21,15 @@ pub(crate) const NOT_TAKEN: StationError = StationError::Layer(LayerError::Circu
 pub(crate) fn may_ask(wide: bool, request: &Request<'_>, given: Option<&Given<'_>>) -> bool
     ensures { (h : ℕ) → result ≡ may_ask_with wide (given_with given.entry) (Asks h (plain_request request.now)) }
 {
-    if let Some(given) = given {
-        return wide && may_give(given, request);
-    }
+    let Some(given) = given else {
+        return match request {
+            Request::Send { marks, .. } => !marks.d || wide,
+            _ => true,
+        };
+    };
     match request {
-        Request::Send { marks, .. } => !marks.d || wide,
-        _ => true,
-    }
-}
-
-// Whether this may be given beside what is asked.
-fn may_give(given: &Given<'_>, request: &Request<'_>) -> bool
-    ensures { (h : ℕ) → result ≡ (may_give (plain_given given.now)
-        && suits (plain_given given.now) (Asks h (plain_request request.now))) }
-{
-    match request {
-        Request::Accept { .. } => given.is_allowed(),
-        Request::Clear { .. } => given.is_allowed() && !given.d,
+        Request::Accept { .. } => wide && given.is_allowed(),
+        Request::Clear { .. } => wide && (given.is_allowed() && !given.d),
         _ => false,
     }
 }

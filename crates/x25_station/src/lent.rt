@@ -1,6 +1,4 @@
-ghost use Rattle.std.specs.Prelude.{◌≡◌, Some, take, IfOk};
-ghost use Rattle.x25_circuit.specs.code.PartialMessage.{spares};
-ghost use Rattle.x25_station.specs.code.PlainEntry.{message_in};
+ghost use Rattle.std.specs.Prelude.{◌≡◌, take};
 
 use crate::text::Text;
 use std::alloc::{AllocError, Global};
@@ -14,22 +12,19 @@ pub struct Lent {
     pub(crate) called: Text,
     pub(crate) calling: Text,
     pub(crate) user: Text,
-    /// Away while a circuit has it.
-    pub(crate) message: Option<Octets>,
+    pub(crate) message: Octets,
     pub(crate) facilities: Text,
     pub(crate) beside: Text,
 }
 
 impl Lent {
     /// Memory for all of it. Err: no memory.
-    pub(crate) fn new(alloc: Global) -> Result<Lent, AllocError>
-        ensures { IfOk result (λ lent. spares lent.message ≡ 1) }
-    {
+    pub(crate) fn new(alloc: Global) -> Result<Lent, AllocError> {
         Ok(Lent {
             called: Text::new(alloc)?,
             calling: Text::new(alloc)?,
             user: Text::new(alloc)?,
-            message: Some(Octets::new(alloc)?),
+            message: Octets::new(alloc)?,
             facilities: Text::new(alloc)?,
             beside: Text::new(alloc)?,
         })
@@ -37,13 +32,10 @@ impl Lent {
 
     /// Puts the first 65,535 of these octets in the place of the message.
     pub(crate) fn set_message(&mut self, octets: &[u8])
-        requires { spares self.old.message ≡ 1 }
-        ensures { self.new.message ≡ Some (take 65535 octets.now) }
+        ensures { self.new.message ≡ take 65535 octets.now }
     {
         let count = LONGEST_MESSAGE.min(octets.len());
-        let mut message = self.message.take().unwrap();
-        message.set(&octets[..count]);
-        self.message = Some(message);
+        self.message.set(&octets[..count], &[]);
     }
 
     /// The address that is called: its figures where the user asked for the call, and its digits where that came.
@@ -69,12 +61,9 @@ impl Lent {
 
     /// The octets of a message.
     pub fn message(&self) -> &[u8]
-        ensures { result.now ≡ message_in self.now.message }
+        ensures { result.now ≡ self.now.message }
     {
-        match &self.message {
-            Some(message) => message.as_slice(),
-            None => &[],
-        }
+        self.message.as_slice()
     }
 
     /// The facility field that came beside.

@@ -47,7 +47,7 @@ impl Station {
         out.clear();
         let ran = self.link.timer_runs();
         let answer = self.fire(out);
-        out.timer = self.timer_behind(ran, answer.is_ok(), false, &out.entries);
+        out.timer = self.timer_behind(ran, answer.is_ok(), false, out);
         answer
     }
 

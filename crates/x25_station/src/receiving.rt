@@ -1,14 +1,14 @@
 //! Octets that come: the step of the link, and what the packet layer does at it.
-ghost use Rattle.std.specs.Prelude.{◌≡◌, ◌<◌, ◌≤◌, ◌++◌, [], length, true, false, option_copied, Ok, IfSome};
+ghost use Rattle.std.specs.Prelude.{◌≡◌, ◌<◌, ◌≤◌, ◌++◌, [], length, true, false, option_copied, Ok, IfSome, is_some};
 ghost use Rattle.std.specs.List.{sum_by};
 ghost use Rattle.x25_link.specs.Station.{Side};
 ghost use Rattle.x25_link.specs.code.FitsLink.{FitsWhole, up_of};
 ghost use Rattle.x25_layer.specs.Layer.{Layer as LayerState};
 ghost use Rattle.x25_layer.specs.code.FitsLayer.{FitsLayer};
 ghost use Rattle.x25_layer.specs.Full.{IsNotFull};
+ghost use Rattle.x25_layer.specs.Receiving.{IsReadBy};
 ghost use Rattle.x25_layer.specs.laws.Rounds.{hears, comes_up};
 ghost use Rattle.x25_station.specs.Entry.{bringing, entries_up, entries_noted};
-ghost use Rattle.x25_station.specs.Confirming.{named_by};
 ghost use Rattle.x25_station.specs.code.Clock.{SaysAcknowledged, TellsTimer};
 ghost use Rattle.x25_station.specs.code.FitsStation.{FitsStation, Does, IsEmpty};
 ghost use Rattle.x25_station.specs.code.Entries.{comes_beside};
@@ -30,14 +30,7 @@ use crate::station::Station;
 use crate::step::Step;
 use x25_layer::Layer;
 use x25_link::{Link, Notes, holds_few, notes_what_changes};
-use x25_packet::{channel, taking_keeps_octets};
-
-// The channel that a packet names, and 0 where it names none.
-fn named(packet: &[u8]) -> u16
-    ensures { result ≡ named_by packet.now }
-{
-    channel(packet).unwrap_or(0)
-}
+use x25_packet::{Form, PacketError, taking_keeps_octets};
 
 // What the layer does at LinkUp.
 #[cold]
@@ -56,29 +49,28 @@ fn come_up(layer: &mut Layer, link: &mut Link, entries: &mut Entries)
 fn hear(
     layer: &mut Layer,
     link: &mut Link,
-    wide: bool,
+    form: &Option<Result<Form<'_>, PacketError>>,
     packet: &[u8],
     entries: &mut Entries,
 ) -> Option<u16>
+    requires form { IsReadBy layer.old packet.now form.now }
     requires put { CanPut link.old }
     requires left { IsNotFull layer.old }
     requires none { entries.old.items ≡ [] }
     ensures puts { PutsBehind layer.old link.old layer.new link.new
-        (λ view c l. (hears view c wide l packet.now).step) }
+        (λ view c l. (hears view c (is_some form.now) l packet.now).step) }
     ensures entries { (c : Settings) (l : LayerState) (t : Side) → FitsLayer (layer_settings c) layer.old l
         → FitsWhole link.old (kept_of (link_settings c) t) →
-        entries.new.items ≡ entries_of_answer (layer_answer (layer_settings c) wide l packet.now) }
+        entries.new.items ≡ entries_of_answer (layer_answer (layer_settings c) (is_some form.now) l packet.now) }
     ensures few { length entries.new.items ≤ 2 }
     ensures none { sum_by comes_beside entries.new.items ≡ 0 }
     ensures bringing { (c : Settings) (l : LayerState) (t : Side) → FitsLayer (layer_settings c) layer.old l
         → FitsWhole link.old (kept_of (link_settings c) t) →
-        result ≡ bringing (layer_answer (layer_settings c) wide l packet.now).notices }
+        result ≡ bringing (layer_answer (layer_settings c) (is_some form.now) l packet.now).notices }
 {
     taking_keeps_octets();
-    let mut spare = entries.lent.message.take();
-    let told = layer.packet(wide, packet, &mut spare);
+    let told = layer.packet(form, packet, &mut entries.lent.message);
     drive(layer, link);
-    entries.lent.message = spare;
     let channel = bringing(&told);
     enter_told(layer, &mut entries.lent, told, &mut entries.list);
     channel
@@ -95,11 +87,12 @@ fn hear_all(layer: &mut Layer, link: &mut Link, packet: &[u8], entries: &mut Ent
         → FitsWhole link.old (kept_of (link_settings c) t) →
         entries.new.items ≡ entries_of_packet (layer_settings c) true l packet.now }
 {
-    let before = unconfirmed_on(layer, named(packet));
-    let bringing = hear(layer, link, true, packet, entries);
+    let before = unconfirmed_on(layer, packet);
+    let form = Some(layer.form(packet));
+    let bringing = hear(layer, link, &form, packet, entries);
     match confirmed(before, layer) {
         Some(entry) => entries.push(entry),
-        None => enter_beside(beside_of(packet, bringing), bringing, entries),
+        None => enter_beside(beside_of(&form, packet), bringing, entries),
     }
 }
 
@@ -138,7 +131,7 @@ fn follow(
         hear_all(layer, link, packet, entries);
         return;
     }
-    hear(layer, link, wide, packet, entries);
+    hear(layer, link, &None, packet, entries);
 }
 
 impl Station {
@@ -151,8 +144,25 @@ impl Station {
     {
         out.clear();
         let ran = self.link.timer_runs();
-        let acknowledged = self.take(octets, out);
-        out.timer = self.timer_behind(ran, false, acknowledged, &out.entries);
+        if self.link.is_up() & self.layer.full() {
+            let acknowledged = self.abandon(octets, out);
+            out.timer = self.timer_behind(ran, false, acknowledged, out);
+            return;
+        }
+        steps_keep_bounds();
+        notes_what_changes();
+        holds_few();
+        let heard = self.link.take(octets);
+        follow(
+            &mut self.layer,
+            &mut self.link,
+            self.manner.wide,
+            heard.notes,
+            heard.packet,
+            &mut out.entries,
+        );
+        self.link.swap_frames(&mut out.frames);
+        out.timer = self.timer_behind(ran, false, heard.acknowledged, out);
     }
 
     // A count is at its most: the octets are dropped, and the link goes down.
@@ -169,32 +179,6 @@ impl Station {
         let heard = self.link.abandon();
         self.link.swap_frames(&mut out.frames);
         note_down(&mut self.layer, heard.notes.down, &mut out.entries);
-        heard.acknowledged
-    }
-
-    // Octets come, into a step that is empty. It says whether frames were acknowledged.
-    fn take(&mut self, octets: &[u8], out: &mut Step) -> bool
-        requires { IsEmpty out.old }
-        ensures does { Does self.old self.new out.new (Ok tt) (λ c s. Did (receives c s octets.now)) }
-        ensures acknowledged { SaysAcknowledged self.old octets.now result }
-    {
-        let is_full = self.link.is_up() & self.layer.full();
-        if is_full {
-            return self.abandon(octets, out);
-        }
-        steps_keep_bounds();
-        notes_what_changes();
-        holds_few();
-        let heard = self.link.take(octets);
-        follow(
-            &mut self.layer,
-            &mut self.link,
-            self.manner.wide,
-            heard.notes,
-            heard.packet,
-            &mut out.entries,
-        );
-        self.link.swap_frames(&mut out.frames);
         heard.acknowledged
     }
 }

@@ -7,6 +7,7 @@ ghost use Rattle.x25_station.specs.Timer.{standing};
 
 use crate::station::Station;
 use crate::step::Step;
+use crate::timer::Timer;
 
 impl Station {
     /// Takes a step back that was read, of this station or of another, and leaves it empty. Timer T1 goes on in it, or
@@ -16,6 +17,6 @@ impl Station {
         ensures timer { (c : Settings) (s : State) → FitsStation c self.now s → out.new.timer ≡ standing s }
     {
         out.clear();
-        out.timer = self.standing();
+        out.timer = Timer::GoesOn.pulled(true, self.link.timer_runs());
     }
 }

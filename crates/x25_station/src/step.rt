@@ -3,6 +3,7 @@ ghost use Rattle.x25_station.specs.code.FitsStation.{IsEmpty, RefusesForMemory};
 ghost use Rattle.x25_station.specs.Timer.{tells_link as tell_link};
 
 use crate::entries::Entries;
+use crate::entry::Entry;
 use crate::error::StationError;
 use crate::timer::Timer;
 use std::alloc::Global;
@@ -18,7 +19,7 @@ pub const MOST_ENTRIES: usize = 3;
 /// transcript, each in order, and what becomes of timer T1. The entry of an accepted command is the first.
 ///
 /// It has the memory of all that it is answered, from when it was made on: for 25 frames of 4,103 octets each, which a
-/// call exchanges with those of the link, and for entries, of which a message is exchanged with that of a circuit.
+/// call exchanges with those of the link, and for entries and what they say.
 #[derive(Drop)]
 pub struct Step {
     pub frames: Frames,
@@ -52,7 +53,12 @@ impl Step {
     pub fn tells_link(&self) -> bool
         ensures { result ≡ tell_link self.now.entries.items }
     {
-        self.entries.tells_link()
+        for entry in self.entries.as_slice() {
+            if let Entry::LinkUp | Entry::LinkDown(_) = entry {
+                return true;
+            }
+        }
+        false
     }
 
     /// Takes all out. The memory of frames and entries stays, and becomes that of other ones.
@@ -61,6 +67,6 @@ impl Step {
         ensures { IsEmpty self.new }
     {
         self.frames.clear();
-        self.entries.clear();
+        self.entries.list.clear();
     }
 }

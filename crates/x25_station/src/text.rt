@@ -50,7 +50,9 @@ impl Text {
         ensures { self.new ≡ digits.now }
     {
         self.octets.clear();
-        append_digits(&mut self.octets, digits);
+        for place in 0..digits.len() {
+            self.octets.push_reserved(digits.get(place));
+        }
     }
 
     /// Lends the octets.
@@ -59,17 +61,5 @@ impl Text {
         ensures short { length result.now ≤ 128 }
     {
         self.octets.as_slice()
-    }
-}
-
-// Puts digits where nothing is.
-fn append_digits(octets: &mut Vec<u8>, digits: &Halves)
-    requires none { octets.old.items ≡ [] }
-    requires room { length digits.now ≤ vec_capacity octets.old }
-    ensures digits { octets.new.items ≡ digits.now }
-    ensures room { vec_capacity octets.new ≡ vec_capacity octets.old }
-{
-    for place in 0..digits.len() {
-        octets.push_reserved(digits.get(place));
     }
 }

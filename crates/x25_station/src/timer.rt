@@ -4,12 +4,11 @@ ghost use Rattle.x25_station.specs.code.FitsStation.{FitsStation};
 ghost use Rattle.x25_station.specs.Config.{Settings};
 ghost use Rattle.x25_station.specs.Station.{Station as State};
 ghost use Rattle.x25_station.specs.Step.{Did, Step as PlainStep};
-ghost use Rattle.x25_station.specs.Timer as definition;
 ghost use Rattle.x25_station.specs.Timer.{is_acknowledged, pulled_timer, runs as runs_in};
-ghost use Rattle.x25_station.specs.Timer.{standing as standing_timer, timer_at};
+ghost use Rattle.x25_station.specs.Timer.{timer_at};
 
-use crate::entries::Entries;
 use crate::station::Station;
+use crate::step::Step;
 
 /// What becomes of timer T1 at a step, for one who has a clock: he stops it, sets it anew, or leaves it as it is.
 ///
@@ -25,19 +24,6 @@ pub enum Timer {
 }
 
 impl Timer {
-    // By whether it runs and whether it begins anew.
-    pub(crate) fn of(runs: bool, is_anew: bool) -> Timer
-        ensures { result ≡ definition.timer_of runs is_anew }
-    {
-        if !runs {
-            Timer::Off
-        } else if is_anew {
-            Timer::Begins
-        } else {
-            Timer::GoesOn
-        }
-    }
-
     /// What becomes of T1 at a step, of which this is what it does, and a pull behind it, before which it ran or not.
     pub(crate) fn pulled(self, ran: bool, runs: bool) -> Timer
         ensures { result ≡ pulled_timer self ran runs }
@@ -53,28 +39,26 @@ impl Timer {
 }
 
 impl Station {
-    /// Behind no step T1 is as it was.
-    pub(crate) fn standing(&self) -> Timer
-        ensures { (c : Settings) (s : State) → FitsStation c self.now s → result ≡ standing_timer s }
-    {
-        Timer::of(self.link.timer_runs(), false)
-    }
-
-    /// What became of T1 at a step with these entries, before which it ran or not, by whether it fired and whether the
-    /// link says that frames were acknowledged.
+    /// What became of T1 at a step, before which it ran or not, by whether it fired and whether the link says that
+    /// frames were acknowledged.
     pub(crate) fn timer_behind(
         &self,
         ran: bool,
         has_fired: bool,
         acknowledged: bool,
-        entries: &Entries,
+        out: &Step,
     ) -> Timer
         ensures { (c : Settings) (s : State) (step : PlainStep) → ran ≡ runs_in s → FitsStation c self.now step.near
-            → entries.now.items ≡ step.entries → acknowledged ≡ is_acknowledged s.link step.near.link
+            → out.now.entries.items ≡ step.entries → acknowledged ≡ is_acknowledged s.link step.near.link
             → result ≡ timer_at s has_fired (Did step) }
     {
-        let is_noted = entries.tells_link();
-        let is_anew = !ran | (has_fired | (is_noted | acknowledged));
-        Timer::of(self.link.timer_runs(), is_anew)
+        if !self.link.timer_runs() {
+            return Timer::Off;
+        }
+        if !ran | (has_fired | (out.tells_link() | acknowledged)) {
+            Timer::Begins
+        } else {
+            Timer::GoesOn
+        }
     }
 }

@@ -1,5 +1,5 @@
 -- What contracts see of the message of which some packets were taken.
-use Rattle.std.specs.Prelude.{ℕ, List, [], ◌∷◌, Option, Some, None, Bool}
+use Rattle.std.specs.Prelude.{ℕ, List, [], ◌∷◌, Bool, true, false}
 use Rattle.x25_packet.specs.declared.marks.Marks.{Marks}
 use Rattle.x25_circuit.specs.Message.{Message, Partial}
 
@@ -9,12 +9,7 @@ pub record ShownPartial : Type 0 where
   pub made : Bool
   pub longest : ℕ
 
--- the message of these octets, where there is one
-abbrev pub ended : Marks → Option (List ℕ) → List Message
-ended marks None = []
-ended marks (Some user) = record { marks = marks; user = user } ∷ []
-
--- how much spare memory this is, for a message each
-abbrev pub spares : Option (List ℕ) → ℕ
-spares None = 0
-spares (Some octets) = 1
+-- the message of these octets, where it is one
+abbrev pub ended : Marks → List ℕ → Bool → List Message
+ended marks user false = []
+ended marks user true = record { marks = marks; user = user } ∷ []

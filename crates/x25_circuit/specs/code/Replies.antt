@@ -1,7 +1,9 @@
 -- What a reply says, as values alone, and that it is the answer of the table.
-use Rattle.std.specs.Prelude.{◌≡◌, ℕ, ◌+◌, Bool, true, false, List, [], ◌∷◌, Option, Some, None}
+use Rattle.std.specs.Prelude.{◌≡◌, ℕ, Bool, true, false, List, [], ◌∷◌, Option, Some, None, Result, Ok, Err}
 use Rattle.x25_packet.specs.Views.{called_of, calling_of, user_of}
-use Rattle.x25_packet.specs.Packet.{PlainPacket}
+use Rattle.x25_packet.specs.declared.packet.Packet.{Packet}
+use Rattle.x25_packet.specs.declared.error.PacketError.{PacketError}
+use Rattle.x25_packet.specs.Packet.{PlainPacket, plain}
 use Rattle.x25_packet.specs.Spelling.{IsInRange}
 use Rattle.x25_circuit.specs.declared.circuit.Circuit as circuit
 use Rattle.x25_circuit.specs.declared.notice.Notice.{Notice}
@@ -16,40 +18,46 @@ use Rattle.x25_circuit.specs.code.FitsCircuit.{FitsCircuit, user_octets}
 use Rattle.x25_circuit.specs.Notice.{PlainNotice, incoming, connected, collided, cleared, clear_done, was_reset}
 use Rattle.x25_circuit.specs.Notice.{reset_done, delivered, interrupted, interrupt_done, fault}
 
-abbrev pub plain_notice : Notice → PlainNotice
-plain_notice (code.Incoming a params body) = incoming (record {
+-- a notice, where the octets of a message are these
+abbrev pub plain_notice : List ℕ → Notice → PlainNotice
+plain_notice message (code.Incoming a params body) = incoming (record {
   called = called_of a body.now;
   calling = calling_of a body.now;
   user = user_of a body.now;
   params = params;
 })
-plain_notice (code.Connected params) = connected params
-plain_notice (code.Cleared cause diagnostic) = cleared cause diagnostic
-plain_notice code.ClearDone = clear_done
-plain_notice (code.WasReset cause diagnostic) = was_reset cause diagnostic
-plain_notice code.ResetDone = reset_done
-plain_notice (code.Delivered marks user) = delivered (record { marks = marks; user = user })
-plain_notice (code.Interrupted user) = interrupted user.now
-plain_notice code.InterruptDone = interrupt_done
-plain_notice (code.Fault diagnostic) = fault diagnostic
+plain_notice message (code.Connected params) = connected params
+plain_notice message (code.Cleared cause diagnostic) = cleared cause diagnostic
+plain_notice message code.ClearDone = clear_done
+plain_notice message (code.WasReset cause diagnostic) = was_reset cause diagnostic
+plain_notice message code.ResetDone = reset_done
+plain_notice message (code.Delivered marks) = delivered (record { marks = marks; user = message })
+plain_notice message (code.Interrupted user) = interrupted user.now
+plain_notice message code.InterruptDone = interrupt_done
+plain_notice message (code.Fault diagnostic) = fault diagnostic
 
--- how many messages it hands over, with their memory
-abbrev pub handed_by : Notice → ℕ
-handed_by (code.Delivered marks user) = 1
-handed_by notice = 0
+-- whether it tells a message
+abbrev pub is_message : Notice → Bool
+is_message (code.Delivered marks) = true
+is_message notice = false
 
-abbrev pub handed_over : Option Notice → ℕ
-handed_over None = 0
-handed_over (Some notice) = handed_by notice
+abbrev pub tells_message : Option Notice → Bool
+tells_message None = false
+tells_message (Some notice) = is_message notice
 
-abbrev pub plain_notices : Option Notice → List PlainNotice
-plain_notices None = []
-plain_notices (Some notice) = plain_notice notice ∷ []
+abbrev pub plain_notices : List ℕ → Option Notice → List PlainNotice
+plain_notices message None = []
+plain_notices message (Some notice) = plain_notice message notice ∷ []
 
 -- a call of this end that was dropped is told first
-abbrev pub notices_of : Bool → Option Notice → List PlainNotice
-notices_of true notice = collided ∷ plain_notices notice
-notices_of false notice = plain_notices notice
+abbrev pub notices_of : List ℕ → Bool → Option Notice → List PlainNotice
+notices_of message true notice = collided ∷ plain_notices message notice
+notices_of message false notice = plain_notices message notice
+
+-- what octets were read as
+abbrev pub plain_read : Result Packet PacketError → Result PlainPacket PacketError
+plain_read (Ok packet) = Ok (plain packet)
+plain_read (Err e) = Err e
 
 -- what a request of the user sends, where it sends a packet
 abbrev pub plain_sent : Option Requested → Option PlainPacket
@@ -71,26 +79,30 @@ abbrev pub IsControl : Option PlainPacket → Type 0
 IsControl None = Unit {0}
 IsControl (Some packet) = user_octets packet ≡ []
 
--- the reply says these
-pub record Says (reply : Reply) (packet : Option PlainPacket) (told : List PlainNotice) : Type 0 where
+-- the reply says these, where the octets of a message are those before them
+pub record Says (message : List ℕ) (reply : Reply) (packet : Option PlainPacket) (told : List PlainNotice)
+    : Type 0 where
   pub owed : plain_owed reply.packet ≡ packet
-  pub notices : notices_of reply.collided reply.notice ≡ told
+  pub notices : notices_of message reply.collided reply.notice ≡ told
 
 -- ---- a packet that came
 
--- It is answered so, by a packet that can be spelled, and no message is handed over.
+-- It is answered so, by a packet that can be spelled, and no message is told.
 pub record RepliesBy (old new : circuit.Circuit) (reply : Reply)
     (said : CircuitSettings → Circuit → Answer) : Type 0 where
   pub next : (c : CircuitSettings) (x : Circuit) → FitsCircuit c old x → FitsCircuit c new (said c x).next
-  pub says : (c : CircuitSettings) (x : Circuit) → FitsCircuit c old x → Says reply (said c x).owed (said c x).notices
+  pub says : (c : CircuitSettings) (x : Circuit) → FitsCircuit c old x
+      → Says [] reply (said c x).owed (said c x).notices
   pub range : IsSendable (plain_owed reply.packet)
-  pub handed : handed_over reply.notice ≡ 0
+  pub told : tells_message reply.notice ≡ false
 
--- It is answered so, and the spare memory for one message is left, or else a message is handed over.
-pub record RepliesWith (old new : circuit.Circuit) (reply : Reply) (left : ℕ)
+-- It is answered so, where the octets of a message were these and are those behind them: where none is told they are as
+-- they were.
+pub record RepliesWith (old new : circuit.Circuit) (reply : Reply) (before after : List ℕ)
     (said : CircuitSettings → Circuit → Answer)
     : Type 0 where
   pub next : (c : CircuitSettings) (x : Circuit) → FitsCircuit c old x → FitsCircuit c new (said c x).next
-  pub says : (c : CircuitSettings) (x : Circuit) → FitsCircuit c old x → Says reply (said c x).owed (said c x).notices
+  pub says : (c : CircuitSettings) (x : Circuit) → FitsCircuit c old x
+      → Says after reply (said c x).owed (said c x).notices
   pub range : IsSendable (plain_owed reply.packet)
-  pub spare : left + handed_over reply.notice ≡ 1
+  pub kept : tells_message reply.notice ≡ false → after ≡ before

@@ -1,5 +1,5 @@
 -- What the calls of a layer leave of it, and leave to be put.
-use Rattle.std.specs.Prelude.{◌≡◌, ◌⊎◌, ℕ, ◌+◌, ◌<◌, ◌≤◌, List, [], length, Option, Some, None, Result, Err, Bool, true}
+use Rattle.std.specs.Prelude.{◌≡◌, ◌⊎◌, ℕ, ◌<◌, ◌≤◌, List, [], length, Option, Some, None, Result, Err, Bool, true}
 use Rattle.std.specs.Prelude.{false, IfSome, OnOk}
 use Rattle.std.specs.Prelude.{OnErr, IsErrOf, MatchOption, MatchResult}
 use Rattle.x25_packet.specs.Packet.{PlainPacket}
@@ -13,7 +13,7 @@ use Rattle.x25_layer.specs.declared.report.Report.TheVariants as tells
 use Rattle.x25_layer.specs.Layer.{LayerSettings, Layer, LayerAnswer}
 use Rattle.x25_layer.specs.Calls.{LayerRequest, LayerOutcome, Accepted, Declined, asks_memory, asked_where}
 use Rattle.x25_layer.specs.Calls.{layer_pulled}
-use Rattle.x25_layer.specs.Report.{plain_report, handed_over_in}
+use Rattle.x25_layer.specs.Report.{plain_report, has_message}
 use Rattle.x25_layer.specs.code.FitsLayer.{FitsLayer}
 use Rattle.x25_layer.specs.code.Pulling.{IsPut}
 
@@ -24,16 +24,16 @@ spelled (Some packet) = spelling_of packet
 
 -- ---- what came
 
--- What came is heard as the answer says, and the packet owed for it is to be put. The spare memory for one message is
--- left, or else a message is handed over.
-pub record Hears (old new : code.Layer) (t : Report) (left : ℕ) (answer : LayerSettings → Layer → LayerAnswer)
-    : Type 0 where
+-- What came is heard as the answer says, and the packet owed for it is to be put. The octets of a message were these
+-- and are those behind them: where none is told they are as they were.
+pub record Hears (old new : code.Layer) (t : Report) (before after : List ℕ)
+    (answer : LayerSettings → Layer → LayerAnswer) : Type 0 where
   pub layer : (c : LayerSettings) (l : Layer) → FitsLayer c old l → FitsLayer c new (answer c l).next
   pub put : (c : LayerSettings) (l : Layer) → FitsLayer c old l → new.sheet ≡ spelled (answer c l).owed
-  pub told : (c : LayerSettings) (l : Layer) → FitsLayer c old l → plain_report t ≡ (answer c l).notices
-  pub nothing : plain_report t ≡ [] → t ≡ tells.Nothing
+  pub told : (c : LayerSettings) (l : Layer) → FitsLayer c old l → plain_report after t ≡ (answer c l).notices
+  pub nothing : plain_report [] t ≡ [] → t ≡ tells.Nothing
   pub short : length new.sheet ≤ 260
-  pub spare : left + handed_over_in t ≡ 1
+  pub kept : has_message t ≡ false → after ≡ before
 
 -- ---- what a call of the user leaves and answers
 

@@ -1,6 +1,5 @@
 -- A step in the search for the next data packet.
 use Rattle.std.specs.Prelude.{◌≡◌, ℕ, ◌<◌, ◌≤◌, List, length, Option, Some, None, Bool, true, false}
-use Rattle.std.specs.Prelude.{IfSome, MatchOption}
 use Rattle.x25_packet.specs.Packet.{PlainPacket}
 use Rattle.x25_packet.specs.Spelling.{spelling_of}
 use Rattle.x25_circuit.specs.declared.circuit.Circuit as circuit_code
@@ -8,10 +7,7 @@ use Rattle.x25_circuit.specs.Circuit.{CircuitSettings, Circuit}
 use Rattle.x25_circuit.specs.Calling.{pulled}
 use Rattle.x25_circuit.specs.code.FitsCircuit.{FitsCircuit, clears_of, resets_of}
 use Rattle.x25_layer.specs.Layer.{LayerSettings, packet_on, put_at}
-use Rattle.x25_layer.specs.Full.{HaveCountsLeft}
 use Rattle.x25_layer.specs.code.FitsLayer.{FitsCircuits}
-use Rattle.x25_layer.specs.code.Idle.{IdleBeside}
-use Rattle.x25_layer.specs.declared.busy.Busy.{Busy}
 
 -- these octets, which are to be put, spell the packet, or it is known that there is none
 abbrev pub IsPut : Bool → List ℕ → Option PlainPacket → Type 0
@@ -44,17 +40,3 @@ pub record GoesNowhere (c : LayerSettings) (f : ℕ → Circuit) (vs : List circ
     : Type 0 where
   pub between : (k : ℕ) → behind < k → k ≤ length vs → next_packet c f k ≡ None
   pub circuits : FitsCircuits c vs f
-
--- The next data packet of the circuits behind a channel is to be put, where one of them may send one; and which
--- circuits may be busy behind it.
-pub record GoesOn (old new : List circuit_code.Circuit) (sheet : List ℕ) (behind : ℕ) (result : Option ℕ) (busy : Busy)
-    : Type 0 where
-  pub next : (c : LayerSettings) (f : ℕ → Circuit) → FitsCircuits c old f
-      → MatchOption result (GoesNowhere c f new behind) (λ channel. GoesTo c f new sheet behind channel)
-  pub higher : IfSome result (λ channel. behind < channel)
-  pub within : IfSome result (λ channel. channel ≤ length new)
-  pub long : IfSome result (λ _. length sheet ≤ 4099)
-  pub count : length new ≡ length old
-  pub left : HaveCountsLeft old → HaveCountsLeft new
-  pub places : busy.count ≡ length new
-  pub still : IdleBeside busy.words.items new

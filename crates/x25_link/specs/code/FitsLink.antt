@@ -24,7 +24,7 @@ abbrev pub up_of : ShownLink → Bool
 up_of v = is_up v.station.phase
 
 abbrev pub waiting_of : ShownLink → ℕ
-waiting_of v = length v.station.outgoing.queue
+waiting_of v = length v.station.outgoing.queue.items
 
 -- between calls nothing is left to be sent
 pub record FitsLink (c : LinkSettings) (v : ShownLink) (s : LinkStation) : Type 0 where

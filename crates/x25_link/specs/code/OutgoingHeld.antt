@@ -12,6 +12,6 @@ sending_of k o = record { given = take o.sent o.given; acked = o.acked; place = 
 -- what was sent and isn't acknowledged, and what waits
 pub record FitsOutgoing (k : ℕ) (b : OutgoingCode) (o : Outgoing) : Type 0 where
   pub sender : Fits b.sender (sending_of k o)
-  pub queue : b.queue ≡ drop o.sent o.given
+  pub queue : b.queue.items ≡ drop o.sent o.given
   pub sent : o.sent ≤ length o.given
-  pub few : length b.queue ≤ 256
+  pub few : length b.queue.items ≤ 256

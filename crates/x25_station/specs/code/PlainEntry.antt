@@ -23,16 +23,11 @@ use Rattle.x25_station.specs.Entry.{was_confirmed}
 abbrev pub plain_name : Stretch → Name
 plain_name s = record { restarts = s.restarts; clears = s.clears; resets = s.resets }
 
--- what is lent as a message; none while a circuit has its memory
-abbrev pub message_in : Option (List ℕ) → List ℕ
-message_in None = []
-message_in (Some octets) = octets
-
 abbrev pub plain_asked : Lent → Asked → Request
 plain_asked lent (asked.Call params) = Calls lent.called lent.calling lent.user (in_brief params)
 plain_asked lent (asked.Accept params) = Accepts (Some (in_brief params))
 plain_asked lent (asked.Clear cause diagnostic) = Clears cause diagnostic
-plain_asked lent (asked.Send marks) = Sends marks (message_in lent.message)
+plain_asked lent (asked.Send marks) = Sends marks lent.message
 plain_asked lent asked.Interrupt = Interrupts lent.user
 plain_asked lent (asked.Reset cause diagnostic) = Resets cause diagnostic
 plain_asked lent asked.Ready = SaysReady
@@ -47,7 +42,7 @@ plain_told lent (told.Cleared cause diagnostic) = cleared cause diagnostic
 plain_told lent told.ClearDone = clear_done
 plain_told lent (told.WasReset cause diagnostic) = was_reset cause diagnostic
 plain_told lent told.ResetDone = reset_done
-plain_told lent (told.Delivered marks) = delivered (record { marks = marks; user = message_in lent.message })
+plain_told lent (told.Delivered marks) = delivered (record { marks = marks; user = lent.message })
 plain_told lent told.Interrupted = interrupted lent.user
 plain_told lent told.InterruptDone = interrupt_done
 plain_told lent (told.Fault diagnostic) = fault diagnostic

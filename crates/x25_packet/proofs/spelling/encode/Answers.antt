@@ -1,17 +1,23 @@
-use Rattle.std.proofs.Common.{ℕ, ◌≡◌, ◌++◌, Result, Ok, Err, length, drop}
-use Rattle.std.specs.Prelude.{OnOk}
-use Rattle.x25_bits.specs.declared.no_memory.NoMemory.{NoMemory}
+use Rattle.std.proofs.Common.{arith, ◌≡◌, ◌++◌, ◌∙◌, List, ℕ, ap}
+use Rattle.std.proofs.lemmas.List.{append_assoc}
 use Rattle.x25_packet.specs.Packet.{plain}
-use Rattle.x25_packet.specs.Spelling.{IsInRange, IsWithoutD, spelling_of}
-use Rattle.x25_packet.specs.Reading.{packet_of}
+use Rattle.x25_packet.specs.Spelling.{body_of, header_of}
 use Rattle.x25_packet.proofs.NarrowLaws.{appended_again}
 use Rattle.x25_packet.proofs.spelling.encode.Goals as goal
 
 pub returns-clause-again : goal.returns-clause-again
-returns-clause-again c = λ most fits plain_packet. go most fits plain_packet c.append_packet.result c.append_packet.ensures.ok
-  where
-    go : (most : ℕ) → IsInRange most (plain c.args.packet.now) → IsWithoutD (plain c.args.packet.now) → (r : Result (Unit {0}) NoMemory)
-        → OnOk r (c.append_packet.new.octets.items ≡ c.args.octets.now.items ++ spelling_of (plain c.args.packet.now))
-        → OnOk r (packet_of most (drop (length c.args.octets.now.items) c.append_packet.new.octets.items) ≡ Ok (plain c.args.packet.now))
-    go most fits without (Ok done) e = appended_again most (plain c.args.packet.now) c.args.octets.now.items c.append_packet.new.octets.items fits without e
-    go most fits without (Err f) e = tt
+returns-clause-again c = λ most fits without.
+    let head : c.append_octets.new.octets.items ≡ c.args.octets.now.items ++ header_of (plain c.args.packet.now) =
+    grind (
+      arith,
+      c.append_octets.ensures.items,
+      c.reserve_exact.ensures.items,
+      c.format.ensures.value,
+      c.to_be_bytes.ensures,
+      c.named-channel.ensures.channel,
+      c.named-channel.ensures.kind,
+      c.named-channel.type_inv,
+    ) in
+    appended_again most (plain c.args.packet.now) c.args.octets.now.items c.append_body.new.octets.items fits without
+    (c.append_body.ensures.items ∙ ap (λ (o : List ℕ). o ++ body_of (plain c.args.packet.now)) head
+    ∙ append_assoc c.args.octets.now.items (header_of (plain c.args.packet.now)) (body_of (plain c.args.packet.now)))

@@ -7,7 +7,6 @@ use Rattle.x25_circuit.specs.Params.{in_brief}
 use Rattle.x25_circuit.specs.Request.{plain_request}
 use Rattle.x25_layer.specs.laws.TwoLayers.{shown}
 use Rattle.x25_station.specs.code.Entries.{IsBrief}
-use Rattle.x25_station.specs.code.PlainEntry.{message_in}
 use Rattle.x25_station.proofs.ShownLemmas.{in_force}
 use Rattle.x25_station.proofs.asking.asked_of.Goals as goal
 
@@ -16,8 +15,8 @@ call_is a b k d u v p q e f g h =
     ap (λ (x : List ℕ). Calls x k u (in_brief p)) e ∙ ap (λ (x : List ℕ). Calls b x u (in_brief p)) f
     ∙ ap (λ (x : List ℕ). Calls b d x (in_brief p)) g ∙ ap (λ (x : Params). Calls b d v (in_brief x)) h
 
-pub returns-in-Call-clause-asked : goal.returns-in-Call-clause-asked
-returns-in-Call-clause-asked c = λ c' l fits configured brief.
+pub returns-in-Call : goal.returns-in-Call
+returns-in-Call c = λ c' l fits configured brief.
     let now = subst (λ (r : Request). IsBrief (plain_request r)) c.in-Call.is brief in
     call_is _ _ _ _ _ _ _ _
     (c.set.ensures ∙ ap (λ (o : List ℕ). take 128 o) c.as_bytes.ensures.value ∙ take_all 128 c.in-Call.called.now now.0)
@@ -26,21 +25,20 @@ returns-in-Call-clause-asked c = λ c' l fits configured brief.
     c.params.ensures
     ∙ sym (ap (λ (r : Request). shown (l.circuits c.args.channel) (plain_request r)) c.in-Call.is)
 
-pub returns-in-Accept-clause-asked : goal.returns-in-Accept-clause-asked
-returns-in-Accept-clause-asked c = λ c' l fits configured brief.
+pub returns-in-Accept : goal.returns-in-Accept
+returns-in-Accept c = λ c' l fits configured brief.
     let x = l.circuits c.args.channel in
     ap (λ q. Accepts (Some (in_brief q))) (c.unwrap_or.ensures ∙ in_force _ _ x.params _ configured (c.params-in-Accept.ensures c' l fits))
     ∙ sym (ap (λ (r : Request). shown x (plain_request r)) c.in-Accept.is)
 
-pub returns-in-Send-clause-asked : goal.returns-in-Send-clause-asked
-returns-in-Send-clause-asked c = λ c' l fits configured brief.
+pub returns-in-Send : goal.returns-in-Send
+returns-in-Send c = λ c' l fits configured brief.
     let now = subst (λ (r : Request). IsBrief (plain_request r)) c.in-Send.is brief in
-    ap (λ x. Sends c.in-Send.marks (message_in x)) c.set_message.ensures
-    ∙ ap (λ (x : List ℕ). Sends c.in-Send.marks x) (take_all 65535 c.in-Send.user.now now)
+    ap (λ (x : List ℕ). Sends c.in-Send.marks x) (c.set_message.ensures ∙ take_all 65535 c.in-Send.user.now now)
     ∙ sym (ap (λ (r : Request). shown (l.circuits c.args.channel) (plain_request r)) c.in-Send.is)
 
-pub returns-in-Interrupt-clause-asked : goal.returns-in-Interrupt-clause-asked
-returns-in-Interrupt-clause-asked c = λ c' l fits configured brief.
+pub returns-in-Interrupt : goal.returns-in-Interrupt
+returns-in-Interrupt c = λ c' l fits configured brief.
     let now = subst (λ (r : Request). IsBrief (plain_request r)) c.in-Interrupt.is brief in
     ap (λ (x : List ℕ). Interrupts x) (c.set-in-Interrupt.ensures ∙ take_all 128 c.in-Interrupt.user.now now)
     ∙ sym (ap (λ (r : Request). shown (l.circuits c.args.channel) (plain_request r)) c.in-Interrupt.is)

@@ -1,20 +1,21 @@
 use Rattle.std.proofs.Common.{[], ◌∷◌, ◌++◌, List, map, ap, ap₂, ◌∙◌}
 use Rattle.x25_circuit.specs.Calling.{Request}
 use Rattle.x25_handshakes.specs.laws.Names.{Name}
-use Rattle.x25_layer.specs.laws.Transcript.{Asked}
+use Rattle.x25_layer.specs.laws.Transcript.{Asked, name_of}
 use Rattle.x25_station.specs.declared.entry.Entry.{Entry}
 use Rattle.x25_station.specs.declared.entry.Entry.TheVariants as code
 use Rattle.x25_station.specs.Entry.{of_channel}
 use Rattle.x25_station.specs.code.Entries.{ShownEntries}
-use Rattle.x25_station.specs.code.PlainEntry.{plain_entry}
+use Rattle.x25_station.specs.code.PlainEntry.{plain_entry, plain_name}
 use Rattle.x25_station.proofs.LentLemmas.{none_listed}
+use Rattle.x25_station.proofs.ToldLemmas.{named_or}
 use Rattle.x25_station.proofs.asking.enter_asked.Goals as goal
 
 pub returns : goal.returns
 returns c = λ c' l fits configured brief.
     let h = c.args.channel in
-    let entry = code.Asked h c.name_on-name.result c.asked_of-asked.result in
+    let entry = code.Asked h c.unwrap_or-name.result c.asked_of-asked.result in
     let none = none_listed c.entries.inside.lent c.entries.inside.list.items (ap (λ (e : ShownEntries). e.items) c.entries.view_is ∙ c.requires) in
     ap (λ (es : List Entry). map (plain_entry c.asked_of-asked.new.lent) es) (c.push_reserved.ensures.items ∙ ap (λ (es : List Entry). es ++ entry ∷ []) none)
-    ∙ ap₂ (λ (n : Name) (q : Request). of_channel (record { channel = h; name = n; said = Asked q }) ∷ []) (c.name_on-name.ensures c' l fits configured)
-    (c.asked_of-asked.ensures.asked c' l fits configured brief)
+    ∙ ap₂ (λ (n : Name) (q : Request). of_channel (record { channel = h; name = n; said = Asked q }) ∷ []) (ap plain_name c.unwrap_or-name.ensures ∙ named_or c.name.result _ _ (name_of l h) configured (c.name.ensures c' l fits))
+    (c.asked_of-asked.ensures c' l fits configured brief)

@@ -1,13 +1,12 @@
-use Rattle.std.proofs.Common.{◌∙◌, sym, subst, option_to_list}
-use Rattle.x25_link.specs.code.FitsLink.{LinkState, FitsWhole}
+use Rattle.std.proofs.Common.{◌∙◌, ap, sym, subst, option_to_list}
+use Rattle.x25_link.specs.code.FitsLink.{LinkState, FitsWhole, after_put_to}
 use Rattle.x25_layer.specs.Layer.{goes_up}
 use Rattle.x25_layer.specs.laws.Rounds.{Putting}
 use Rattle.x25_layer.specs.code.FitsLayer.{FitsLayer}
 use Rattle.x25_station.specs.Config.{link_settings, layer_settings}
 use Rattle.x25_station.specs.Receiving.{kept_of}
 use Rattle.x25_station.specs.Station.{all_put, view_of}
-use Rattle.x25_station.proofs.LinkLemmas.{put_by_put}
-use Rattle.x25_station.proofs.RoundLemmas.{all_spelled}
+use Rattle.x25_station.proofs.LinkLemmas.{on_ok, put_by_put}
 use Rattle.x25_station.proofs.driving.come_up_alone.Goals as goal
 
 pub returns : goal.returns
@@ -20,8 +19,8 @@ returns c = record {
       let lc = layer_settings c' in
       let lk = link_settings c' in
       let owed = (goes_up lc).owed in
-      subst (λ (p : Putting). FitsWhole c.put.new.link (kept_of lk (all_put lk p.put t))) (sym (c.calls_are_runs.ensures.up (view_of lk t.near) lc))
-      (subst (λ (y : LinkState). FitsWhole c.put.new.link y)
-      (all_spelled (kept_of lk t) owed c.to_put.result.now (c.to_put.ensures ∙ c.up.ensures.put lc l fits) ∙ put_by_put lk (option_to_list owed) t)
-      (c.put.ensures.link (kept_of lk t) link));
+      subst (λ (p : Putting). FitsWhole c.put.new.self (kept_of lk (all_put lk p.put t))) (sym (c.calls_are_runs.ensures.up (view_of lk t.near) lc))
+      (subst (λ (y : LinkState). FitsWhole c.put.new.self y)
+      (ap (after_put_to (kept_of lk t)) (c.to_put.ensures ∙ c.up.ensures.put lc l fits) ∙ put_by_put lk (option_to_list owed) t)
+      (on_ok c.put.result c.unwrap.result _ c.unwrap.ensures (c.put.ensures.state (kept_of lk t) link)));
 }

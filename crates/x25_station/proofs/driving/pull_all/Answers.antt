@@ -1,9 +1,10 @@
 use Rattle.std.proofs.Common.{◌≡◌, ◌∙◌, ℕ, ◌-◌, ◌+◌, ◌≤◌, List, sym, subst, arith}
-use Rattle.x25_link.specs.code.FitsLink.{FitsWhole}
+use Rattle.x25_link.specs.code.FitsLink.{FitsWhole, after_put_to}
 use Rattle.x25_link.specs.laws.LinkLaws.{acked_low}
 use Rattle.x25_layer.specs.laws.Rounds.{Putting}
 use Rattle.x25_layer.specs.code.FitsLayer.{FitsLayer}
-use Rattle.x25_station.specs.code.OverLink.{after_all, after_octets}
+use Rattle.x25_station.specs.code.OverLink.{after_all}
+use Rattle.x25_station.proofs.LinkLemmas.{on_ok}
 use Rattle.x25_station.proofs.RoundLemmas.{begins, next_round, ends_here, ends_shut, one_more, room_when, shut_when, shut_after}
 use Rattle.x25_station.proofs.driving.pull_all.Goals as goal
 
@@ -12,19 +13,20 @@ loop-left-preserved-in-Some c =
     let some = c.loop-left-test.true in
     let now = c.loop-left.invariant in
     record {
-      up = c.put.ensures.up ∙ now.up;
-      longest = (let a = c.put.ensures.longest in let b = now.longest in omega (arith, a, b));
+      up = c.put.ensures.up_stays ∙ now.up;
+      longest = (let a = c.put.ensures.longest_stays in let b = now.longest in omega (arith, a, b));
       few = (let few = now.few in omega (arith, few));
-      places = (let a = c.put.ensures.places in let b = now.places in omega (arith, a, b, some));
+      places = (let a = on_ok c.put.result c.unwrap.result _ c.unwrap.ensures c.put.ensures.places in let b = now.places in omega (arith, a, b, some));
       high = c.in-Some.ensures.within;
       within = λ s x p fits link.
           let w = now.within s x p fits link in
           let fewer : c.loop-left.left ≡ (c.loop-left.left - 1) + 1 = omega (arith, some) in
-          one_more s x p c.loop-left.layer c.pull.new.self c.loop-left.link c.put.new.link c.loop-left.channel c.in-Some.next c.loop-left.left
+          one_more s x p c.loop-left.layer c.pull.new.self c.loop-left.link c.put.new.self c.loop-left.channel c.in-Some.next c.loop-left.left
           (c.loop-left.left - 1) c.in-Some.ensures.higher fewer w
           (room_when c.loop-left.link _ c.waiting.result w.link c.waiting.ensures.value c.if-waiting-lt-FEW.true)
           (c.in-Some.ensures.next s _ w.layer)
-          (λ y f. subst (λ (octets : List ℕ). FitsWhole c.put.new.link (after_octets y octets)) c.to_put.ensures (c.put.ensures.link y f));
+          (λ y f. subst (λ (octets : List ℕ). FitsWhole c.put.new.self (after_put_to y octets)) c.to_put.ensures
+          (on_ok c.put.result c.unwrap.result _ c.unwrap.ensures (c.put.ensures.state y f)));
     }
 
 pub loop-left-preserved : goal.loop-left-preserved

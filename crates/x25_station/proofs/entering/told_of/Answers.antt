@@ -15,17 +15,17 @@ incoming_is a b k d u v params p q r =
     ∙ ap (λ (x : List ℕ). incoming (record { called = b; calling = x; user = u; params = params })) q
     ∙ ap (λ (x : List ℕ). incoming (record { called = b; calling = d; user = x; params = params })) r
 
-pub returns-in-Incoming-clause-told : goal.returns-in-Incoming-clause-told
-returns-in-Incoming-clause-told c = λ short.
-    let now = subst (λ (n : Notice). IsShort (plain_notice n)) c.in-Incoming.is short in
+pub returns-in-Incoming : goal.returns-in-Incoming
+returns-in-Incoming c = λ short.
+    let now = subst (λ (n : Notice). IsShort (plain_notice c.args.lent.now.message n)) c.in-Incoming.is short in
     let user = user_of c.in-Incoming.a c.in-Incoming.body.now in
     incoming_is _ _ _ _ _ _ c.in-Incoming.params (c.set_digits.ensures ∙ c.called_digits.ensures.digits)
     (c.set_digits-in-Incoming.ensures ∙ c.calling_digits.ensures.digits)
     (c.set.ensures ∙ ap (λ (octets : List ℕ). take 128 octets) c.user_data.ensures ∙ take_all 128 user now)
-    ∙ sym (ap plain_notice c.in-Incoming.is)
+    ∙ sym (ap (plain_notice c.args.lent.now.message) c.in-Incoming.is)
 
-pub returns-in-Interrupted-clause-told : goal.returns-in-Interrupted-clause-told
-returns-in-Interrupted-clause-told c = λ short.
-    let now = subst (λ (n : Notice). IsShort (plain_notice n)) c.in-Interrupted.is short in
+pub returns-in-Interrupted : goal.returns-in-Interrupted
+returns-in-Interrupted c = λ short.
+    let now = subst (λ (n : Notice). IsShort (plain_notice c.args.lent.now.message n)) c.in-Interrupted.is short in
     ap (λ (x : List ℕ). interrupted x) (c.set-in-Interrupted.ensures ∙ take_all 128 c.in-Interrupted.user.now now)
-    ∙ sym (ap plain_notice c.in-Interrupted.is)
+    ∙ sym (ap (plain_notice c.args.lent.now.message) c.in-Interrupted.is)

@@ -78,16 +78,18 @@ returns-clause-puts c = record {
       at_heard (λ (s : Putting). FitsLayer lc c.hear.new.layer s.layer) (view_of (link_settings c') t.near) lc c.args.wide l (option_copied c.args.packet)
       c.in-Some.packet.now c.args.notes.down c.args.notes.up c.if-notes.false
       (sym c.is_some.ensures ∙ c.if-is_some.false) (ap option_copied c.in-Some.is)
-      (c.hear.ensures.puts.layer c' l t (subst (λ y. FitsLayer lc y l)
-      (sym (c.note_down.ensures.same (is_none _ (sym c.is_some.ensures ∙ c.if-is_some.false)))) fits) link);
+      (subst (λ (b : Bool). FitsLayer lc c.hear.new.layer (hears (view_of (link_settings c') t.near) lc b l c.in-Some.packet.now).step.layer)
+      (sym c.if-wide.false) (c.hear.ensures.puts.layer c' l t (subst (λ y. FitsLayer lc y l)
+      (sym (c.note_down.ensures.same (is_none _ (sym c.is_some.ensures ∙ c.if-is_some.false)))) fits) link));
   link = λ c' l t fits link.
       let lc = layer_settings c' in
       let lk = link_settings c' in
       at_heard (λ (s : Putting). FitsWhole c.hear.new.link (kept_of lk (all_put lk s.put t))) (view_of lk t.near) lc c.args.wide l
       (option_copied c.args.packet) c.in-Some.packet.now c.args.notes.down c.args.notes.up c.if-notes.false
       (sym c.is_some.ensures ∙ c.if-is_some.false) (ap option_copied c.in-Some.is)
-      (c.hear.ensures.puts.link c' l t (subst (λ y. FitsLayer lc y l)
-      (sym (c.note_down.ensures.same (is_none _ (sym c.is_some.ensures ∙ c.if-is_some.false)))) fits) link);
+      (subst (λ (b : Bool). FitsWhole c.hear.new.link (kept_of lk (all_put lk (hears (view_of lk t.near) lc b l c.in-Some.packet.now).step.put t)))
+      (sym c.if-wide.false) (c.hear.ensures.puts.link c' l t (subst (λ y. FitsLayer lc y l)
+      (sym (c.note_down.ensures.same (is_none _ (sym c.is_some.ensures ∙ c.if-is_some.false)))) fits) link));
 }
 
 pub returns-clause-entries : goal.returns-clause-entries
@@ -97,7 +99,8 @@ returns-clause-entries c = λ c' l t fits link.
     let stays = subst (λ y. FitsLayer lc y l) (sym (c.note_down.ensures.same none)) fits in
     let octets = c.in-Some.packet.now in
     heard_entries lc c.args.wide l (option_copied c.args.packet) octets c.args.notes _ c.if-notes.false none (ap option_copied c.in-Some.is)
-    (c.hear.ensures.entries c' l t stays link ∙ sym (strict_entries lc c.args.wide l octets c.if-wide.false))
+    (c.hear.ensures.entries c' l t stays link ∙ sym (strict_entries lc l octets)
+    ∙ ap (λ (b : Bool). entries_of_packet lc b l octets) (sym c.if-wide.false))
 
 pub returns-in_default-clause-puts : goal.returns-in_default-clause-puts
 returns-in_default-clause-puts c = record {

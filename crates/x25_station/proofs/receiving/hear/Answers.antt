@@ -1,4 +1,4 @@
-use Rattle.std.proofs.Common.{◌<◌, ◌++◌, map, List, All, arith, ap, sym, subst, ◌∙◌}
+use Rattle.std.proofs.Common.{◌<◌, ◌++◌, map, List, All, is_some, arith, ap, sym, subst, ◌∙◌}
 use Rattle.std.proofs.lemmas.List.Elements.{All-from_get_or}
 use Rattle.x25_packet.specs.Taking.{read_in}
 use Rattle.x25_link.specs.code.FitsLink.{LinkState, FitsWhole}
@@ -23,13 +23,13 @@ returns-clause-puts c = record {
   layer = λ c' l t fits link.
       let lc = layer_settings c' in
       let lk = link_settings c' in
-      let a = layer_hears lc c.args.wide l c.args.packet.now in
+      let a = layer_hears lc (is_some c.args.form.now) l c.args.packet.now in
       subst (λ (view : LinkView). FitsLayer lc c.drive.new.layer (rounds view lc (begin a.next a.owed)).layer) (same_view lk t)
       (c.drive.ensures.layer lc a.next a.owed (kept_of lk t) (c.packet-told.ensures.layer lc l fits) (c.packet-told.ensures.put lc l fits) link);
   link = λ c' l t fits link.
       let lc = layer_settings c' in
       let lk = link_settings c' in
-      let a = layer_hears lc c.args.wide l c.args.packet.now in
+      let a = layer_hears lc (is_some c.args.form.now) l c.args.packet.now in
       subst (λ (view : LinkView). FitsWhole c.drive.new.link (kept_of lk (all_put lk (rounds view lc (begin a.next a.owed)).put t))) (same_view lk t)
       (subst (λ (y : LinkState). FitsWhole c.drive.new.link y) (put_by_put lk (rounds (seen_by lk t) lc (begin a.next a.owed)).put t)
       (c.drive.ensures.link lc a.next a.owed (kept_of lk t) (c.packet-told.ensures.layer lc l fits) (c.packet-told.ensures.put lc l fits) link));
@@ -37,18 +37,18 @@ returns-clause-puts c = record {
 
 pub returns-clause-bringing : goal.returns-clause-bringing
 returns-clause-bringing c = λ c' l t fits link.
-    c.bringing-channel.ensures ∙ ap (λ (ns : List LayerNotice). bringing ns) (c.packet-told.ensures.told (layer_settings c') l fits)
+    c.bringing-channel.ensures _ ∙ ap (λ (ns : List LayerNotice). bringing ns) (c.packet-told.ensures.told (layer_settings c') l fits)
 
 pub returns-clause-entries : goal.returns-clause-entries
 returns-clause-entries c = λ c' l t fits link.
     let lc = layer_settings c' in
     let view : LinkView = view_of (link_settings c') t.near in
     let octets = c.args.packet.now in
-    let a = answer_to lc l octets (read_in c.args.wide (longest_user lc.circuit.long_data) octets) in
+    let a = answer_to lc l octets (read_in (is_some c.args.form.now) (longest_user lc.circuit.long_data) octets) in
     let told = c.packet-told.ensures.told lc l fits in
-    let next = (hears view lc c.args.wide l octets).step.layer in
+    let next = (hears view lc (is_some c.args.form.now) l octets).step.layer in
     let bytes : All (λ octet. octet < 256) octets = All-from_get_or (λ octet. octet < 256) octets 0 (λ i low. omega (arith, c.type_inv.packet i)) in
-    let tellable = told_tellable c.taking_keeps_octets.ensures.range c.args.wide lc l octets bytes in
+    let tellable = told_tellable c.taking_keeps_octets.ensures.range (is_some c.args.form.now) lc l octets bytes in
     c.enter_told.ensures.entered lc next
     (subst (λ (v : LinkView). FitsLayer lc c.drive.new.layer (rounds v lc (begin a.next a.owed)).layer) (same_view (link_settings c') t)
     (c.drive.ensures.layer lc a.next a.owed (kept_of (link_settings c') t) (c.packet-told.ensures.layer lc l fits) (c.packet-told.ensures.put lc l fits) link))

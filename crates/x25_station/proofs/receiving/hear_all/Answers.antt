@@ -1,14 +1,14 @@
-use Rattle.std.proofs.Common.{true, ◌++◌, List, [], ◌∷◌, ap, subst, ◌∙◌, ℕ}
+use Rattle.std.proofs.Common.{true, ◌++◌, List, [], ◌∷◌, ap, subst, ◌∙◌}
 use Rattle.x25_layer.specs.Layer.{Layer as LayerState}
 use Rattle.x25_station.specs.Confirming.{named_by}
 use Rattle.x25_layer.specs.laws.Rounds.{begin, rounds}
-use Rattle.x25_station.specs.Beside.{beside_in}
+use Rattle.x25_station.specs.Beside.{PlainBeside, beside_in}
 use Rattle.x25_station.specs.Entry.{StationEntry, bringing, entries_beside}
 use Rattle.x25_station.specs.Step.{layer_answer}
 use Rattle.x25_station.specs.Confirming.{confirmed}
 use Rattle.x25_station.specs.Config.{link_settings, layer_settings}
 use Rattle.x25_station.specs.Station.{view_of}
-use Rattle.x25_station.specs.code.Confirming.{Stands, Tells}
+use Rattle.x25_station.specs.code.Confirming.{Tells}
 use Rattle.x25_station.specs.code.PlainEntry.{plain_entry}
 use Rattle.x25_station.proofs.ConfirmLemmas.{nothing_behind, heard_all}
 use Rattle.x25_station.proofs.receiving.hear_all.Goals as goal
@@ -19,10 +19,10 @@ returns-in-Some-clause-entries c = λ c' l t fits link.
     let octets = c.args.packet.now in
     let a = layer_answer lc true l octets in
     let next : LayerState = (rounds (view_of (link_settings c') t.near) lc (begin a.next a.owed)).layer in
-    let stands = subst (λ (h : ℕ). Stands lc l h c.unconfirmed_on-before.result) c.named.ensures (c.unconfirmed_on-before.ensures lc l fits) in
     let tells = subst (λ o. Tells next (named_by octets) (confirmed lc l next (named_by octets)) o) c.in-Some.is
-    (c.confirmed.ensures.tells lc (named_by octets) l next stands (c.hear-bringing.ensures.puts.layer c' l t fits link)) in
-    heard_all (view_of (link_settings c') t.near) lc l octets _ _ (plain_entry c.hear-bringing.new.entries.lent c.in-Some.entry ∷ []) (c.hear-bringing.ensures.entries c' l t fits link)
+    (c.confirmed.ensures.tells lc (named_by octets) l next (c.unconfirmed_on-before.ensures lc l fits) (c.hear-bringing.ensures.puts.layer c' l t fits link)) in
+    heard_all (view_of (link_settings c') t.near) lc l octets _ _ (plain_entry c.hear-bringing.new.entries.lent c.in-Some.entry ∷ [])
+    (c.hear-bringing.ensures.entries c' l t fits link)
     c.push.ensures
     (tells c.hear-bringing.new.entries.lent (entries_beside (beside_in true octets) (bringing a.notices)))
 
@@ -32,11 +32,11 @@ returns-in-None-clause-entries c = λ c' l t fits link.
     let octets = c.args.packet.now in
     let a = layer_answer lc true l octets in
     let next : LayerState = (rounds (view_of (link_settings c') t.near) lc (begin a.next a.owed)).layer in
-    let stands = subst (λ (h : ℕ). Stands lc l h c.unconfirmed_on-before.result) c.named.ensures (c.unconfirmed_on-before.ensures lc l fits) in
     let none = subst (λ o. Tells next (named_by octets) (confirmed lc l next (named_by octets)) o) c.in-None.is
-    (c.confirmed.ensures.tells lc (named_by octets) l next stands (c.hear-bringing.ensures.puts.layer c' l t fits link)) in
+    (c.confirmed.ensures.tells lc (named_by octets) l next (c.unconfirmed_on-before.ensures lc l fits) (c.hear-bringing.ensures.puts.layer c' l t fits link)) in
     heard_all (view_of (link_settings c') t.near) lc l octets _ _ (entries_beside (beside_in true octets) (bringing a.notices))
     (c.hear-bringing.ensures.entries c' l t fits link)
     (c.enter_beside.ensures.entered ∙ ap (λ (es : List StationEntry). c.hear-bringing.new.entries.items ++ es)
-    (c.beside_of.ensures.told ∙ ap (entries_beside (beside_in true octets)) (c.hear-bringing.ensures.bringing c' l t fits link)))
+    (ap (λ (b : PlainBeside). entries_beside b c.hear-bringing.result) c.beside_of.ensures.told
+    ∙ ap (entries_beside (beside_in true octets)) (c.hear-bringing.ensures.bringing c' l t fits link)))
     (nothing_behind next (named_by octets) (confirmed lc l next (named_by octets)) _ none)

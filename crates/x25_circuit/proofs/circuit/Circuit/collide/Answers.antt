@@ -13,7 +13,7 @@ returns-in-Dte c = record {
       (subst (λ (p : Params). FitsCircuit d c.enter.new.self (entered x Collision p true)) fits.params (c.enter.ensures.fits d x fits));
   says = search rules;
   range = search rules;
-  handed = search rules;
+  told = search rules;
 }
 
 pub returns-in-Dce : goal.returns-in-Dce
@@ -21,5 +21,5 @@ returns-in-Dce c = record {
   next = λ d x fits. rw (collides_at_dce d.role x _ (sym fits.role ∙ c.in-Dce.is)) (c.enter-in-Dce.ensures.fits d x fits);
   says = search rules;
   range = search rules;
-  handed = search rules;
+  told = search rules;
 }

@@ -12,7 +12,7 @@ returns-in_default c = record {
       rw (answer_out_of_range d x c.args.self.now.flow.params c.said.result.params c.args.facilities.now fits.params c.said.ensures c.in_default.ensures.none)
       (c.clear_for.ensures.says d x fits);
   range = search rules;
-  handed = search rules;
+  told = search rules;
 }
 
 pub returns : goal.returns
@@ -26,5 +26,5 @@ returns c = record {
       (ap (may_answer c.args.self.now.flow.params) c.in-Some.ensures.some ∙ c.in-Some.ensures.allowed))
       c.tells.ensures.says;
   range = search rules;
-  handed = search rules;
+  told = search rules;
 }

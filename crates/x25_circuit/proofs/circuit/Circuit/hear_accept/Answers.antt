@@ -9,13 +9,13 @@ returns-in-Calling c =
         next = λ d x fits. rw e (c.connect.ensures.next d x fits);
         says = λ d x fits. rw e (c.connect.ensures.says d x fits);
         range = c.connect.ensures.range;
-        handed = c.connect.ensures.handed;
+        told = c.connect.ensures.told;
       }
       | inr e ↦ record {
         next = λ d x fits. rw e (c.connect.ensures.next d x fits);
         says = λ d x fits. rw e (c.connect.ensures.says d x fits);
         range = c.connect.ensures.range;
-        handed = c.connect.ensures.handed;
+        told = c.connect.ensures.told;
       }
     ]
 
@@ -27,5 +27,5 @@ returns-in_default c =
       says = λ d x fits. rw (accept_strays d x _ _ c.in_default.not-Calling c.in_default.not-Collision c.in_default.not-Clearing)
           (c.unexpected.ensures.says d x fits);
       range = c.unexpected.ensures.range;
-      handed = c.unexpected.ensures.handed;
+      told = c.unexpected.ensures.told;
     }

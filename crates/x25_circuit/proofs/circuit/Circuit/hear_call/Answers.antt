@@ -17,7 +17,7 @@ returns-in-Free c = record {
       ∙ ap (λ (p : Params). said_in p (field_of c.args.a c.args.body.now)) c.usual.ensures) (c.enter.ensures.fits d x fits));
   says = search rules;
   range = search rules;
-  handed = search rules;
+  told = search rules;
 }
 
 pub returns-in_default : goal.returns-in_default
@@ -26,5 +26,5 @@ returns-in_default c =
       next = λ d x fits. rw (call_strays d x _ _ c.in_default.not-Free c.in_default.not-Calling c.in_default.not-Clearing) (c.unexpected.ensures.next d x fits);
       says = λ d x fits. rw (call_strays d x _ _ c.in_default.not-Free c.in_default.not-Calling c.in_default.not-Clearing) (c.unexpected.ensures.says d x fits);
       range = c.unexpected.ensures.range;
-      handed = c.unexpected.ensures.handed;
+      told = c.unexpected.ensures.told;
     }

@@ -7,7 +7,7 @@ returns-in-Clearing c = record {
   next = λ d x fits. rw c.in-Clearing.is (c.be_cleared.ensures.fits d x fits);
   says = search rules;
   range = search rules;
-  handed = search rules;
+  told = search rules;
 }
 
 pub returns-in-Free : goal.returns-in-Free
@@ -15,7 +15,7 @@ returns-in-Free c = record {
   next = λ d x fits. rw c.in-Free.is (c.be_cleared.ensures.fits d x fits);
   says = search rules;
   range = search rules;
-  handed = search rules;
+  told = search rules;
 }
 
 pub returns-in_default : goal.returns-in_default
@@ -24,5 +24,5 @@ returns-in_default c =
       next = λ d x fits. rw (clear_told x _ _ _ c.in_default.not-Clearing c.in_default.not-Free) (c.be_cleared.ensures.fits d x fits);
       says = λ d x fits. rw (clear_told x _ _ _ c.in_default.not-Clearing c.in_default.not-Free) c.both.ensures.says;
       range = c.both.ensures.range ((lit≤ tt, lit≤ tt));
-      handed = search rules;
+      told = search rules;
     }

@@ -7,7 +7,7 @@ returns-in-Clearing c = record {
   next = λ d x fits. rw c.in-Clearing.is (c.be_cleared.ensures.fits d x fits);
   says = search rules;
   range = search rules;
-  handed = search rules;
+  told = search rules;
 }
 
 pub returns-in_default : goal.returns-in_default
@@ -16,5 +16,5 @@ returns-in_default c =
       next = λ d x fits. rw (clear_conf_strays d x _ c.in_default.not-Clearing) (c.unexpected.ensures.next d x fits);
       says = λ d x fits. rw (clear_conf_strays d x _ c.in_default.not-Clearing) (c.unexpected.ensures.says d x fits);
       range = c.unexpected.ensures.range;
-      handed = c.unexpected.ensures.handed;
+      told = c.unexpected.ensures.told;
     }

@@ -4,7 +4,8 @@ use Rattle.std.proofs.lemmas.List.{length_push}
 use Rattle.x25_circuit.specs.Notice.{deliveries}
 use Rattle.x25_circuit.specs.Hearing.{status}
 use Rattle.x25_circuit.specs.Circuit.{incoming, outgoing}
-use Rattle.x25_circuit.proofs.TalkLemmas.{with_transfer, same_longest, same_transfer, taken_more, taken_fits, data_ground_is, number_refused, same_number}
+use Rattle.x25_circuit.proofs.TalkLemmas.{taken_size, with_transfer, same_longest, same_transfer, taken_more, taken_fits, data_ground_is, number_refused, same_number}
+use Rattle.x25_circuit.proofs.TableLemmas.{said_beside}
 use Rattle.x25_circuit.proofs.circuit.Circuit.hear_data.Goals as goal
 
 pub returns-then-not-ack : goal.returns-then-not-ack
@@ -12,9 +13,9 @@ returns-then-not-ack c = record {
   next = λ d x fits. rw (sym (c.ack.ensures.valid (outgoing x).size x.talk fits.talk) ∙ c.if-not-ack.true)
       (c.reset_for.ensures.next d x (same_transfer d c.args.self.now x _ _ fits (c.ack.ensures.unchanged c.if-not-ack.true)));
   says = λ d x fits. rw (sym (c.ack.ensures.valid (outgoing x).size x.talk fits.talk) ∙ c.if-not-ack.true)
-      (c.reset_for.ensures.says d x (same_transfer d c.args.self.now x _ _ fits (c.ack.ensures.unchanged c.if-not-ack.true)));
+      (said_beside _ _ _ _ c.reset_for.ensures.told (c.reset_for.ensures.says d x (same_transfer d c.args.self.now x _ _ fits (c.ack.ensures.unchanged c.if-not-ack.true))));
   range = search rules;
-  spare = search rules;
+  kept = search rules;
 }
 
 pub returns-then-ne : goal.returns-then-ne
@@ -28,9 +29,9 @@ returns-then-ne c = record {
       let acked = c.ack.ensures.fits (outgoing x).size x.talk fits.talk c.if-not-ack.false in
       let ground = number_refused d.longest (incoming x).size c.args.ps.number c.args.pr.number _ x.talk (piece_of c.args.marks c.args.m c.args.user.now)
       (sym (c.ack.ensures.valid (outgoing x).size x.talk fits.talk) ∙ c.if-not-ack.false) (c.wanted.ensures.state (length x.talk.taken) acked.taken) c.if-ne.ensures in
-      rw ground (c.reset_for-then-ne.ensures.says d _ (with_transfer d c.args.self.now x _ _ _ fits acked (same_longest _ _ c.ack.ensures.partial)));
+      rw ground (said_beside _ _ _ _ c.reset_for-then-ne.ensures.told (c.reset_for-then-ne.ensures.says d _ (with_transfer d c.args.self.now x _ _ _ fits acked (same_longest _ _ c.ack.ensures.partial))));
   range = search rules;
-  spare = search rules;
+  kept = search rules;
 }
 
 pub returns-in-Some : goal.returns-in-Some
@@ -38,21 +39,21 @@ returns-in-Some c = record {
   next = λ d x fits.
       let acked = c.ack.ensures.fits (outgoing x).size x.talk fits.talk c.if-not-ack.false in
       let ground = data_ground_is d.longest (incoming x).size _ _ c.args.ps.number c.args.pr.number _ x.talk c.args.marks c.args.m c.args.user.now _ _
-      (same_longest _ _ c.ack.ensures.partial ∙ fits.longest) (c.incoming-size.ensures.size d x fits) (sym (c.ack.ensures.valid (outgoing x).size x.talk fits.talk) ∙ c.if-not-ack.false)
+      (same_longest _ _ c.ack.ensures.partial ∙ fits.longest) (taken_size d c.args.self.now x _ fits c.terms-size.ensures.size) (sym (c.ack.ensures.valid (outgoing x).size x.talk fits.talk) ∙ c.if-not-ack.false)
       (c.wanted.ensures.state (length x.talk.taken) acked.taken) c.if-ne.ensures acked.part c.in-Some.ensures.value in
       rw ground (c.reset_for-in-Some.ensures.next d _ (with_transfer d c.args.self.now x _ _ _ fits acked (same_longest _ _ c.ack.ensures.partial)));
   says = λ d x fits.
       let acked = c.ack.ensures.fits (outgoing x).size x.talk fits.talk c.if-not-ack.false in
       let ground = data_ground_is d.longest (incoming x).size _ _ c.args.ps.number c.args.pr.number _ x.talk c.args.marks c.args.m c.args.user.now _ _
-      (same_longest _ _ c.ack.ensures.partial ∙ fits.longest) (c.incoming-size.ensures.size d x fits) (sym (c.ack.ensures.valid (outgoing x).size x.talk fits.talk) ∙ c.if-not-ack.false)
+      (same_longest _ _ c.ack.ensures.partial ∙ fits.longest) (taken_size d c.args.self.now x _ fits c.terms-size.ensures.size) (sym (c.ack.ensures.valid (outgoing x).size x.talk fits.talk) ∙ c.if-not-ack.false)
       (c.wanted.ensures.state (length x.talk.taken) acked.taken) c.if-ne.ensures acked.part c.in-Some.ensures.value in
-      rw ground (c.reset_for-in-Some.ensures.says d _ (with_transfer d c.args.self.now x _ _ _ fits acked (same_longest _ _ c.ack.ensures.partial)));
+      rw ground (said_beside _ _ _ _ c.reset_for-in-Some.ensures.told (c.reset_for-in-Some.ensures.says d _ (with_transfer d c.args.self.now x _ _ _ fits acked (same_longest _ _ c.ack.ensures.partial))));
   range = search rules;
-  spare = search rules;
+  kept = search rules;
 }
 
-pub returns-in-Some-join : goal.returns-in-Some-join
-returns-in-Some-join c = record {
+pub returns-then-join : goal.returns-then-join
+returns-then-join c = record {
   next = λ d x fits.
       let acked = c.ack.ensures.fits (outgoing x).size x.talk fits.talk c.if-not-ack.false in
       let taken = taken_more c.accept.new.self c.accept.result (length x.talk.taken)
@@ -60,12 +61,12 @@ returns-in-Some-join c = record {
       (same_number _ _ c.if-ne.ensures ∙ c.wanted.ensures.state (length x.talk.taken) acked.taken))
       (c.accept.ensures.step (length x.talk.taken) acked.taken) in
       let ground = data_ground_is d.longest (incoming x).size _ _ c.args.ps.number c.args.pr.number _ x.talk c.args.marks c.args.m c.args.user.now _ _
-      (same_longest _ _ c.ack.ensures.partial ∙ fits.longest) (c.incoming-size.ensures.size d x fits) (sym (c.ack.ensures.valid (outgoing x).size x.talk fits.talk) ∙ c.if-not-ack.false)
+      (same_longest _ _ c.ack.ensures.partial ∙ fits.longest) (taken_size d c.args.self.now x _ fits c.terms-size.ensures.size) (sym (c.ack.ensures.valid (outgoing x).size x.talk fits.talk) ∙ c.if-not-ack.false)
       (c.wanted.ensures.state (length x.talk.taken) acked.taken) c.if-ne.ensures acked.part c.in_default.ensures.value in
       rw ground
       (with_transfer d c.args.self.now x _ _ _ fits
       (taken_fits (outgoing x).size c.ack.new.self _ c.accept.new.self _ (piece_of c.args.marks c.args.m c.args.user.now) acked taken
-      c.in-Some-join.ensures.part c.in-Some-join.ensures.short) (c.in-Some-join.ensures.longest ∙ same_longest _ _ c.ack.ensures.partial));
+      c.if-join.ensures.part c.if-join.ensures.short) (c.if-join.ensures.longest ∙ same_longest _ _ c.ack.ensures.partial));
   says = λ d x fits.
       let acked = c.ack.ensures.fits (outgoing x).size x.talk fits.talk c.if-not-ack.false in
       let taken = taken_more c.accept.new.self c.accept.result (length x.talk.taken)
@@ -74,21 +75,21 @@ returns-in-Some-join c = record {
       (c.accept.ensures.step (length x.talk.taken) acked.taken) in
       let piece = piece_of c.args.marks c.args.m c.args.user.now in
       let now = with_transfer d c.args.self.now x _ _ _ fits
-      (taken_fits (outgoing x).size c.ack.new.self _ c.accept.new.self _ piece acked taken c.in-Some-join.ensures.part c.in-Some-join.ensures.short)
-      (c.in-Some-join.ensures.longest ∙ same_longest _ _ c.ack.ensures.partial) in
+      (taken_fits (outgoing x).size c.ack.new.self _ c.accept.new.self _ piece acked taken c.if-join.ensures.part c.if-join.ensures.short)
+      (c.if-join.ensures.longest ∙ same_longest _ _ c.ack.ensures.partial) in
       let ground = data_ground_is d.longest (incoming x).size _ _ c.args.ps.number c.args.pr.number _ x.talk c.args.marks c.args.m c.args.user.now _ _
-      (same_longest _ _ c.ack.ensures.partial ∙ fits.longest) (c.incoming-size.ensures.size d x fits) (sym (c.ack.ensures.valid (outgoing x).size x.talk fits.talk) ∙ c.if-not-ack.false)
+      (same_longest _ _ c.ack.ensures.partial ∙ fits.longest) (taken_size d c.args.self.now x _ fits c.terms-size.ensures.size) (sym (c.ack.ensures.valid (outgoing x).size x.talk fits.talk) ∙ c.if-not-ack.false)
       (c.wanted.ensures.state (length x.talk.taken) acked.taken) c.if-ne.ensures acked.part c.in_default.ensures.value in
       rw ground (record {
-        owed = c.both.ensures.says.owed ∙ ap Some (c.status.ensures.value d _ now ∙ ap (λ (n : ℕ). status x.talk.own_ready n) (length_push x.talk.taken piece));
-        notices = c.both.ensures.says.notices ∙ ap deliveries (c.in-Some-join.ensures.message ∙ ap (λ (j : Partial). completed j piece) acked.part);
+        owed = ap Some (c.status.ensures.value d _ now ∙ ap (λ (n : ℕ). status x.talk.own_ready n) (length_push x.talk.taken piece));
+        notices = ap deliveries (c.if-join.ensures.message ∙ ap (λ (j : Partial). completed j piece) acked.part);
       });
   range = search rules;
-  spare = search rules;
+  kept = search rules;
 }
 
-pub returns-in-None : goal.returns-in-None
-returns-in-None c = record {
+pub returns : goal.returns
+returns c = record {
   next = λ d x fits.
       let acked = c.ack.ensures.fits (outgoing x).size x.talk fits.talk c.if-not-ack.false in
       let taken = taken_more c.accept.new.self c.accept.result (length x.talk.taken)
@@ -96,12 +97,12 @@ returns-in-None c = record {
       (same_number _ _ c.if-ne.ensures ∙ c.wanted.ensures.state (length x.talk.taken) acked.taken))
       (c.accept.ensures.step (length x.talk.taken) acked.taken) in
       let ground = data_ground_is d.longest (incoming x).size _ _ c.args.ps.number c.args.pr.number _ x.talk c.args.marks c.args.m c.args.user.now _ _
-      (same_longest _ _ c.ack.ensures.partial ∙ fits.longest) (c.incoming-size.ensures.size d x fits) (sym (c.ack.ensures.valid (outgoing x).size x.talk fits.talk) ∙ c.if-not-ack.false)
+      (same_longest _ _ c.ack.ensures.partial ∙ fits.longest) (taken_size d c.args.self.now x _ fits c.terms-size.ensures.size) (sym (c.ack.ensures.valid (outgoing x).size x.talk fits.talk) ∙ c.if-not-ack.false)
       (c.wanted.ensures.state (length x.talk.taken) acked.taken) c.if-ne.ensures acked.part c.in_default.ensures.value in
       rw ground
       (with_transfer d c.args.self.now x _ _ _ fits
       (taken_fits (outgoing x).size c.ack.new.self _ c.accept.new.self _ (piece_of c.args.marks c.args.m c.args.user.now) acked taken
-      c.in-None.ensures.part c.in-None.ensures.short) (c.in-None.ensures.longest ∙ same_longest _ _ c.ack.ensures.partial));
+      c.if-join.ensures.part c.if-join.ensures.short) (c.if-join.ensures.longest ∙ same_longest _ _ c.ack.ensures.partial));
   says = λ d x fits.
       let acked = c.ack.ensures.fits (outgoing x).size x.talk fits.talk c.if-not-ack.false in
       let taken = taken_more c.accept.new.self c.accept.result (length x.talk.taken)
@@ -110,16 +111,16 @@ returns-in-None c = record {
       (c.accept.ensures.step (length x.talk.taken) acked.taken) in
       let piece = piece_of c.args.marks c.args.m c.args.user.now in
       let now = with_transfer d c.args.self.now x _ _ _ fits
-      (taken_fits (outgoing x).size c.ack.new.self _ c.accept.new.self _ piece acked taken c.in-None.ensures.part c.in-None.ensures.short)
-      (c.in-None.ensures.longest ∙ same_longest _ _ c.ack.ensures.partial) in
+      (taken_fits (outgoing x).size c.ack.new.self _ c.accept.new.self _ piece acked taken c.if-join.ensures.part c.if-join.ensures.short)
+      (c.if-join.ensures.longest ∙ same_longest _ _ c.ack.ensures.partial) in
       let ground = data_ground_is d.longest (incoming x).size _ _ c.args.ps.number c.args.pr.number _ x.talk c.args.marks c.args.m c.args.user.now _ _
-      (same_longest _ _ c.ack.ensures.partial ∙ fits.longest) (c.incoming-size.ensures.size d x fits) (sym (c.ack.ensures.valid (outgoing x).size x.talk fits.talk) ∙ c.if-not-ack.false)
+      (same_longest _ _ c.ack.ensures.partial ∙ fits.longest) (taken_size d c.args.self.now x _ fits c.terms-size.ensures.size) (sym (c.ack.ensures.valid (outgoing x).size x.talk fits.talk) ∙ c.if-not-ack.false)
       (c.wanted.ensures.state (length x.talk.taken) acked.taken) c.if-ne.ensures acked.part c.in_default.ensures.value in
-      rw ground (record {
+      rw ground (said_beside _ _ _ _ c.owes.ensures.told (record {
         owed = c.owes.ensures.says.owed ∙ ap Some
-            (c.status-in-None.ensures.value d _ now ∙ ap (λ (n : ℕ). status x.talk.own_ready n) (length_push x.talk.taken piece));
-        notices = c.owes.ensures.says.notices ∙ ap deliveries (c.in-None.ensures.message ∙ ap (λ (j : Partial). completed j piece) acked.part);
-      });
+            (c.status-2.ensures.value d _ now ∙ ap (λ (n : ℕ). status x.talk.own_ready n) (length_push x.talk.taken piece));
+        notices = c.owes.ensures.says.notices ∙ ap deliveries (c.if-join.ensures.message ∙ ap (λ (j : Partial). completed j piece) acked.part);
+      }));
   range = search rules;
-  spare = search rules;
+  kept = search rules;
 }

@@ -6,5 +6,5 @@ returns-then-not-self c = record {
   next = λ d x fits. rw c.if-not-self.true (c.reset_for.ensures.next d x fits);
   says = λ d x fits. rw c.if-not-self.true (c.reset_for.ensures.says d x fits);
   range = search rules;
-  handed = search rules;
+  told = search rules;
 }

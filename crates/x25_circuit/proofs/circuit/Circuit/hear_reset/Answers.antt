@@ -7,7 +7,7 @@ returns-in-Open c = record {
   next = λ d x fits. rw c.in-Open.is (c.be_reset.ensures.fits d x fits);
   says = search rules;
   range = search rules;
-  handed = search rules;
+  told = search rules;
 }
 
 pub returns-in-Resetting : goal.returns-in-Resetting
@@ -15,7 +15,7 @@ returns-in-Resetting c = record {
   next = λ d x fits. rw c.in-Resetting.is (c.end_reset.ensures.next d x fits);
   says = search rules;
   range = search rules;
-  handed = search rules;
+  told = search rules;
 }
 
 pub returns-in_default : goal.returns-in_default
@@ -26,5 +26,5 @@ returns-in_default c =
       says = λ d x fits. rw (reset_strays d x _ _ _ c.in_default.not-Open c.in_default.not-Resetting c.in_default.not-Clearing)
           (c.unexpected.ensures.says d x fits);
       range = c.unexpected.ensures.range;
-      handed = c.unexpected.ensures.handed;
+      told = c.unexpected.ensures.told;
     }

@@ -10,7 +10,7 @@ returns-then-not-ack c = record {
   says = λ d x fits. rw (sym (c.ack.ensures.valid (outgoing x).size x.talk fits.talk) ∙ c.if-not-ack.true)
       (c.reset_for.ensures.says d x (same_transfer d c.args.self.now x _ _ fits (c.ack.ensures.unchanged c.if-not-ack.true)));
   range = search rules;
-  handed = search rules;
+  told = search rules;
 }
 
 pub returns : goal.returns
@@ -22,5 +22,5 @@ returns c = record {
       (same_longest _ _ c.ack.ensures.partial));
   says = λ d x fits. rw (sym (c.ack.ensures.valid (outgoing x).size x.talk fits.talk) ∙ c.if-not-ack.false) c.nothing.ensures.says;
   range = search rules;
-  handed = search rules;
+  told = search rules;
 }

@@ -1,4 +1,4 @@
-use Rattle.std.proofs.Common.{rules, subst, sym}
+use Rattle.std.proofs.Common.{rules, [], subst, sym}
 use Rattle.x25_circuit.specs.declared.state.State.{State}
 use Rattle.x25_circuit.specs.Hearing.{row_undecoded}
 use Rattle.x25_circuit.specs.code.FitsCircuit.{FitsCircuit}
@@ -12,7 +12,7 @@ returns-in-Open c = record {
       (rw c.in-Open.is (c.reset_for.ensures.next d x fits));
   says = λ d x fits. rw (← fits.state, c.in-Open.is, sym c.diagnostic.ensures) (c.reset_for.ensures.says d x fits);
   range = search rules;
-  handed = search rules;
+  told = search rules;
 }
 
 pub returns-in_default : goal.returns-in_default
@@ -22,12 +22,12 @@ returns-in_default c =
           (rw (undecoded_clears d x _ _ c.in_default.not-Open c.in_default.not-Resetting c.in_default.not-Clearing)
           (c.clear_for.ensures.next d x fits));
       says = λ d x fits. subst
-          (λ (s : State). Says c.clear_for.result (row_undecoded d x s c.args.error).owed (row_undecoded d x s c.args.error).notices) fits.state
+          (λ (s : State). Says [] c.clear_for.result (row_undecoded d x s c.args.error).owed (row_undecoded d x s c.args.error).notices) fits.state
           (rw (
             undecoded_clears d x _ _ c.in_default.not-Open c.in_default.not-Resetting c.in_default.not-Clearing,
             sym c.cause_of.ensures,
             sym c.diagnostic-in_default.ensures,
           ) (c.clear_for.ensures.says d x fits));
       range = c.clear_for.ensures.range;
-      handed = c.clear_for.ensures.handed;
+      told = c.clear_for.ensures.told;
     }

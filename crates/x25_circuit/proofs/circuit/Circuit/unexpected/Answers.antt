@@ -7,5 +7,5 @@ returns c = record {
   says = λ d x fits.
       rw (sym fits.role, sym c.diagnostic_in.ensures) (let says = c.clear_for.ensures.says d x fits in rw (sym fits.role) at says);
   range = search rules;
-  handed = search rules;
+  told = search rules;
 }

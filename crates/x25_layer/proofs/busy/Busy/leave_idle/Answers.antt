@@ -1,6 +1,6 @@
 use Rattle.std.proofs.Common.{length-set, sym, refl, w64, ◌∙◌}
 use Rattle.std.specs.Int.{bit_not}
-use Rattle.x25_layer.proofs.BusyLemmas.{without_within, without_unused, without_other, without_this, word_low}
+use Rattle.x25_layer.proofs.BusyLemmas.{without_within, without_unused, without_other, without_this, word_low, idle_is}
 use Rattle.x25_layer.proofs.busy.Busy.leave_idle.Goals as goal
 
 pub invariant_of-self-clause-within : goal.invariant_of-self-clause-within
@@ -21,6 +21,6 @@ returns-clause-others c = λ k differs out. sym (without_other c.args.self.now.c
     k differs) ∙ out
 
 pub returns-clause-this : goal.returns-clause-this
-returns-clause-this c = λ out. c.is_idle.ensures (without_this c.args.self.now.count c.args.self.now.words.items c.args.channel c.from.result
+returns-clause-this c = λ out. idle_is c.args.circuit.now c.is_idle.result c.is_idle.ensures.value c.is_idle.ensures.none (without_this c.args.self.now.count c.args.self.now.words.items c.args.channel c.from.result
     c.index_mut.result.now c.args.self.now.places c.requires.within c.from.ensures c.index_mut.ensures.value c.is_idle.result c.bit.result c.bit.ensures
     c.requires.listed out)

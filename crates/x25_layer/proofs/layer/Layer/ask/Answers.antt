@@ -1,5 +1,4 @@
-use Rattle.std.proofs.Common.{rules, ◌≡◌, ◌∙◌, sym, ap, subst, true, false}
-use Rattle.x25_circuit.specs.Calling.{outcome}
+use Rattle.std.proofs.Common.{◌≡◌, ◌∙◌, sym, ap, subst, true, false}
 use Rattle.x25_circuit.specs.Request.{plain_request}
 use Rattle.x25_layer.specs.Calls.{Asks, LayerOutcome, puts_at_once}
 use Rattle.x25_layer.specs.Ranges.{is_number, is_channel}

@@ -8,6 +8,7 @@ use Rattle.x25_layer.specs.code.Idle.{IsOutside, IsIdle}
 use Rattle.x25_layer.specs.Full.{HasCountsLeft}
 use Rattle.x25_layer.proofs.CallLemmas.{found_at, asks_ok, asks_err, asks_some, memory_is, err_is, layer_kept}
 use Rattle.x25_layer.proofs.FitLemmas.{all_changed, counts_left}
+use Rattle.x25_layer.proofs.BusyLemmas.{true_false}
 use Rattle.x25_layer.proofs.HearLemmas.{read_there, place_of}
 use Rattle.x25_layer.proofs.layer.Layer.ask_circuit.Goals as goal
 
@@ -53,12 +54,12 @@ invariant_of-self-clause-circuits_left c = λ is.
 
 pub invariant_of-self-clause-still : goal.invariant_of-self-clause-still
 invariant_of-self-clause-still c =
-    all_changed (λ (k : ℕ) (v : circuit_code.Circuit). IsOutside c.insert.new.self.words.items (suc k) → IsIdle v) c.args.self.now.circuits.items
+    all_changed (λ (k : ℕ) (v : circuit_code.Circuit). IsOutside c.note.new.self.words.items (suc k) → IsIdle v) c.args.self.now.circuits.items
     (c.from-place.result - 1) c.ask.new.self
-    (λ k v at out. c.args.self.now.still k v at (c.insert.ensures.others (suc k) out))
-    (λ out. absurd (c.insert.ensures.this
-    (subst (λ (h : ℕ). IsOutside c.insert.new.self.words.items h) (place_of _ c.args.channel c.from-place.result c.requires c.from-place.ensures) out)))
+    (λ k v at out. c.args.self.now.still k v at (c.note.ensures.others (suc k) out))
+    (λ out. absurd (true_false (c.note.ensures.this
+    (subst (λ (h : ℕ). IsOutside c.note.new.self.words.items h) (place_of _ c.args.channel c.from-place.result c.requires c.from-place.ensures) out))))
 
 pub invariant_of-self-clause-places : goal.invariant_of-self-clause-places
-invariant_of-self-clause-places c = c.insert.ensures.places ∙ c.args.self.now.places
+invariant_of-self-clause-places c = c.note.ensures.places ∙ c.args.self.now.places
     ∙ sym (length-set c.args.self.now.circuits.items (c.from-place.result - 1) c.ask.new.self)

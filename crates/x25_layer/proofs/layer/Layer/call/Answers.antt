@@ -1,4 +1,4 @@
-use Rattle.std.proofs.Common.{rules, ◌≡◌, ℕ, ◌∙◌, inr, Ok, Err, sym, subst, true, false}
+use Rattle.std.proofs.Common.{rules, ◌≡◌, ℕ, ◌∙◌, inr, Ok, Err, sym, subst, false}
 use Rattle.std.proofs.lemmas.Result.{err_from_is_err_and}
 use Rattle.x25_layer.specs.Calls.{Dials, LayerOutcome}
 use Rattle.x25_layer.specs.code.Answering.{Gives}

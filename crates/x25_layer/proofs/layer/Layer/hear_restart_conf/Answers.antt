@@ -4,8 +4,8 @@ use Rattle.x25_layer.specs.Layer.{answers_in}
 use Rattle.x25_layer.specs.code.FitsLayer.{FitsLayer}
 use Rattle.x25_layer.proofs.layer.Layer.hear_restart_conf.Goals as goal
 
-pub returns-then-self : goal.returns-then-self
-returns-then-self c = record {
+pub returns-then-self-clause-hears : goal.returns-then-self-clause-hears
+returns-then-self-clause-hears c = record {
   layer = λ s l fits.
       subst (λ (b : Bool). FitsLayer s c.restart_is_done.new.self (answers_in s b l.restarts l.circuits restart_conf).next)
       (sym (sym fits.restarting ∙ c.if-self.true))
@@ -14,11 +14,11 @@ returns-then-self c = record {
   told = search rules;
   nothing = search rules;
   short = search rules;
-  spare = search rules;
+  kept = search rules;
 }
 
-pub returns : goal.returns
-returns c = record {
+pub returns-clause-hears : goal.returns-clause-hears
+returns-clause-hears c = record {
   layer = λ s l fits.
       subst (λ (b : Bool). FitsLayer s c.send_restart.new.self (answers_in s b l.restarts l.circuits restart_conf).next)
       (sym (sym fits.restarting ∙ c.if-self.false))
@@ -27,5 +27,5 @@ returns c = record {
   told = search rules;
   nothing = search rules;
   short = subst (λ (octets : List ℕ). length octets ≤ 260) (sym c.send_restart.ensures.put) (omega arith);
-  spare = search rules;
+  kept = search rules;
 }

@@ -1,4 +1,4 @@
-use Rattle.std.proofs.Common.{rules, ℕ, ◌≡◌, ◌<◌, ◌∙◌, All, Bool, IfOk, refl, sym, ap, arith}
+use Rattle.std.proofs.Common.{rules, ℕ, ◌≡◌, ◌<◌, ◌∙◌, All, Bool, IfOk, is_some, refl, sym, ap, arith}
 use Rattle.std.proofs.lemmas.List.Elements.{All-from_get_or}
 use Rattle.x25_packet.specs.Packet.{plain}
 use Rattle.x25_packet.specs.Spelling.{HasChannel, longest_user}
@@ -6,7 +6,8 @@ use Rattle.x25_packet.specs.Taking.{read_in}
 use Rattle.x25_layer.specs.Layer.{LayerSettings, Layer, LayerAnswer}
 use Rattle.x25_layer.specs.code.FitsLayer.{FitsLayer}
 use Rattle.x25_layer.specs.code.Answering.{spelled}
-use Rattle.x25_layer.specs.Receiving.{answer_to, layer_hears, plain_read, hears_on}
+use Rattle.x25_circuit.specs.code.Replies.{plain_read}
+use Rattle.x25_layer.specs.Receiving.{answer_to, layer_hears, hears_on}
 use Rattle.x25_layer.proofs.CallLemmas.{layer_same}
 use Rattle.x25_layer.proofs.HearLemmas.{fits_as, hears_none, hears_read, heard_from}
 use Rattle.x25_layer.proofs.layer.Layer.packet.Goals as goal
@@ -17,7 +18,7 @@ use Rattle.x25_layer.proofs.layer.Layer.packet.Goals.{in_default-read-via-in-Ok+
 pub returns-in_default : goal.returns-in_default
 returns-in_default c =
     let none = λ (s : LayerSettings) (l : Layer). sym
-    (hears_none c.args.wide (longest_user s.circuit.long_data) s l c.args.octets.now (sym c.channel.ensures ∙ c.in_default.is)) in
+    (hears_none (is_some c.args.form.now) (longest_user s.circuit.long_data) s l c.args.octets.now (sym c.channel.ensures ∙ c.in_default.is)) in
     record {
       layer = λ s l fits. fits_as s _ l _ (ap (λ (a : LayerAnswer). a.next) (none s l))
           (layer_same s c.args.self.now _ l (record { role = refl; long_data = refl; ranges = refl; restarting = refl; restarts = refl }) refl fits);
@@ -25,7 +26,7 @@ returns-in_default c =
       told = λ s l fits. ap (λ (a : LayerAnswer). a.notices) (none s l);
       nothing = search rules;
       short = search rules;
-      spare = search rules;
+      kept = search rules;
     }
 
 -- ---- a packet of a channel, or octets that spell none
@@ -47,14 +48,14 @@ hear_on-requires-clause-kind c = elim c.in_default-read.branch [
 ]
 
 same : (c : goal.After-hear_on) (s : LayerSettings) (l : Layer) → FitsLayer s c.args.self.now l
-    → hears_on s l l.restarting c.in-Some.channel (plain_read c.read-read.result) ≡ layer_hears s c.args.wide l c.args.octets.now
+    → hears_on s l l.restarting c.in-Some.channel (plain_read c.read-read.result) ≡ layer_hears s (is_some c.args.form.now) l c.args.octets.now
 same c s l fits =
-    sym (hears_read c.taking_keeps_octets.ensures.channel c.args.wide c.longest_user.result s l c.args.octets.now c.in-Some.channel c.read-read.result
-    (bytes c) c.read-read.ensures (of c) (sym c.channel.ensures ∙ c.in-Some.is))
-    ∙ ap (λ (most : ℕ). answer_to s l c.args.octets.now (read_in c.args.wide most c.args.octets.now)) c.longest_user.ensures.value
-    ∙ ap (λ (b : Bool). answer_to s l c.args.octets.now (read_in c.args.wide (longest_user b) c.args.octets.now)) fits.long_data
+    sym (hears_read c.taking_keeps_octets.ensures.channel (is_some c.args.form.now) c.longest_user.result s l c.args.octets.now c.in-Some.channel
+    c.read-read.result (bytes c) c.read-read.ensures (of c) (sym c.channel.ensures ∙ c.in-Some.is))
+    ∙ ap (λ (most : ℕ). answer_to s l c.args.octets.now (read_in (is_some c.args.form.now) most c.args.octets.now)) c.longest_user.ensures.value
+    ∙ ap (λ (b : Bool). answer_to s l c.args.octets.now (read_in (is_some c.args.form.now) (longest_user b) c.args.octets.now)) fits.long_data
 
 pub returns-in_default-read : goal.returns-in_default-read
 returns-in_default-read c = heard_from c.args.self.now _ c.hear_on.new.self c.hear_on.result
-    _ _ _ (λ s l fits. layer_same s c.args.self.now _ l (record { role = refl; long_data = refl; ranges = refl; restarting = refl; restarts = refl }) refl
+    _ _ _ _ (λ s l fits. layer_same s c.args.self.now _ l (record { role = refl; long_data = refl; ranges = refl; restarting = refl; restarts = refl }) refl
     fits) (λ s l fits. same c s l fits) c.hear_on.ensures

@@ -3,7 +3,7 @@ use Rattle.x25_bits.specs.declared.role.Role.{Role}
 use Rattle.x25_circuit.specs.Cause.{may_restart_for}
 use Rattle.x25_layer.specs.Calls.{Restarts, LayerOutcome}
 use Rattle.x25_layer.specs.code.Answering.{Gives}
-use Rattle.x25_layer.proofs.CallLemmas.{refuses, restart_goes, restart_full}
+use Rattle.x25_layer.proofs.CallLemmas.{refuses, restart_goes}
 use Rattle.x25_layer.proofs.layer.Layer.restart.Goals as goal
 
 pub returns-in-Some : goal.returns-in-Some

@@ -1,4 +1,4 @@
-use Rattle.std.proofs.Common.{◌≡◌, ◌≤◌, ◌∙◌, ap, length, refl, sym, subst, ℕ, List, Option, Some}
+use Rattle.std.proofs.Common.{◌≤◌, ◌∙◌, ap, length, refl, sym, subst, ℕ, List, Option, Some}
 use Rattle.x25_packet.specs.Packet.{plain, accept, call, interrupt}
 use Rattle.x25_circuit.specs.declared.requested.Requested.{Requested}
 use Rattle.x25_circuit.specs.code.Replies.{IsSendable, plain_sent}

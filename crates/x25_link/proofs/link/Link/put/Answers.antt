@@ -1,4 +1,4 @@
-use Rattle.std.proofs.Common.{ℕ, List, ◌<◌, ◌++◌, length, map, arith, sym, ap, subst, ◌∙◌}
+use Rattle.std.proofs.Common.{ℕ, List, ◌<◌, ◌++◌, length, map, arith, sym, ap, subst, ◌∙◌, refl}
 use Rattle.x25_frame.specs.Spelling.{spelling_of}
 use Rattle.x25_link.specs.Link.{put_step}
 use Rattle.x25_link.specs.code.FitsLink.{ShownLink, FitsWhole}
@@ -14,8 +14,8 @@ returns-clause-state c = λ x whole.
     let inside = subst (λ (v : ShownLink). FitsWhole v x) (sym c.self.view_is) whole in
     let near = inside.link.near in
     let side = put_fits d _ _ _ _ s c.args.packet.now _ _ near (sym c.if-not-is_up.ensures) (c.wanted-nr.ensures.state _ near.taken)
-    inside.link.settled inside.link.calm (c.put.ensures.sent d.window s.outgoing near.outgoing) (c.put.ensures.step d.window s.outgoing near.outgoing)
-    (c.put.ensures.made d.window s.outgoing near.outgoing) in
+    inside.link.settled inside.link.calm (λ _. refl) (λ shuts. c.if-not-put.ensures.step d.window s.outgoing near.outgoing shuts refl)
+    (λ shuts. c.if-not-put.ensures.made d.window s.outgoing near.outgoing shuts refl) in
     let sound = near.outgoing.sender.sound in
     record {
       link = record {
@@ -26,11 +26,10 @@ returns-clause-state c = λ x whole.
       kept = side.out ∙ ap (λ (frames : List (List ℕ)). frames ++ map (spelling_of d.role) (put_step d c.args.packet.now s).side.out) inside.kept;
     }
 
-pub returns-then-left_for-eq0-clause-long : goal.returns-then-left_for-eq0-clause-long
-returns-then-left_for-eq0-clause-long c = λ up few places.
+pub returns-then-not-put-clause-long : goal.returns-then-not-put-clause-long
+returns-then-not-put-clause-long c = λ up few places.
     let o = c.self.inside.station.outgoing in
-    let wait = subst (λ (v : ShownLink). length v.station.outgoing.queue < 8) (sym c.self.view_is) few in
-    let some = some_left o.places.short o.places.long (length c.args.packet.now) o.sender.window o.sender.items o.queue o.sent o.window wait o.short o.long
+    let wait = subst (λ (v : ShownLink). length v.station.outgoing.queue.items < 8) (sym c.self.view_is) few in
+    let some = some_left o.places.short o.places.long (length c.args.packet.now) o.sender.window o.sender.items o.queue.items o.sent o.window wait o.short o.long
     o.long_ones in
-    let left = subst (λ (n : ℕ). 0 < n) (sym c.left_for.ensures) some in
-    absurd (omega (arith, left, c.if-left_for-eq0.true))
+    absurd (omega (arith, some, (c.if-not-put.ensures.refused refl).2))

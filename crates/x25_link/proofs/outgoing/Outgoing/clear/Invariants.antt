@@ -5,5 +5,5 @@ use Rattle.x25_link.proofs.outgoing.Outgoing.clear.Given as goal
 abbrev pub invariant-loop-packet : goal.invariant-loop-packet
 invariant-loop-packet l = record {
   sender : l.self.sender ≡ l.initial.self.sender;
-  left : length l.self.queue + l._packet ≤ length l.initial.self.queue;
+  left : length l.self.queue.items + l._packet ≤ length l.initial.self.queue.items;
 }

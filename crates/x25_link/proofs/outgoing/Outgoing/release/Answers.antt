@@ -21,12 +21,12 @@ loop-packet-preserved c =
 pub give-requires-clause-short : goal.give-requires-clause-short
 give-requires-clause-short c =
     let loop = c.loop-packet.self in
-    (goes _ _ _ _ _ loop.sender.items _ _ (first_of loop.sender.items _ c.release-packet.ensures.item) (longs_few loop.queue) loop.short loop.long).0
+    (goes _ _ _ _ _ loop.sender.items _ _ (first_of loop.sender.items _ c.release-packet.ensures.item) (longs_few loop.queue.items) loop.short loop.long).0
 
 pub give-requires-clause-long : goal.give-requires-clause-long
 give-requires-clause-long c =
     let loop = c.loop-packet.self in
-    (goes _ _ _ _ _ loop.sender.items _ _ (first_of loop.sender.items _ c.release-packet.ensures.item) (longs_few loop.queue) loop.short loop.long).1
+    (goes _ _ _ _ _ loop.sender.items _ _ (first_of loop.sender.items _ c.release-packet.ensures.item) (longs_few loop.queue.items) loop.short loop.long).1
 
 pub invariant_of-self-clause-short : goal.invariant_of-self-clause-short
 invariant_of-self-clause-short c =

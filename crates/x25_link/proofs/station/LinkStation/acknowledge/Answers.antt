@@ -1,4 +1,5 @@
-use Rattle.std.proofs.Common.{sym, ◌∙◌, arith}
+use Rattle.std.proofs.Common.{ℕ, List, sym, ap, ◌∙◌, arith}
+use Rattle.circular_buffer.specs.Buffer.{Buffer}
 use Rattle.std.proofs.lemmas.Bool.{lt-leb}
 use Rattle.x25_link.specs.code.OutgoingHeld.{sending_of}
 use Rattle.x25_link.proofs.OutgoingLemmas.{sent_length}
@@ -22,7 +23,7 @@ returns-clause-step c = λ d before made t fits.
     let number = c.in-Ok.ensures.resolves (sending_of d.window o) outgoing.sender in
     risen d _ _ before made t c.in-Ok.count _ fits (omega arith) number (record {
       sender = c.release.ensures.sender (sending_of d.window o) outgoing.sender;
-      queue = c.release.ensures.queue ∙ outgoing.queue;
+      queue = ap (λ (b : Buffer (List ℕ)). b.items) c.release.ensures.queue ∙ outgoing.queue;
       sent = outgoing.sent;
       few = rw (c.release.ensures.queue) (outgoing.few);
     })

@@ -1,6 +1,6 @@
-use Rattle.std.proofs.Common.{arith}
+use Rattle.std.proofs.Common.{append-nil, arith, ◌∙◌}
 use Rattle.std.proofs.lemmas.List.{take_min}
 use Rattle.x25_station.proofs.lent.Lent.set_message.Goals as goal
 
 pub returns : goal.returns
-returns c = grind (arith, take_min 65535 c.args.octets.now, c.set.ensures, c.min-count.ensures)
+returns c = c.set.ensures ∙ append-nil _ ∙ grind (arith, take_min 65535 c.args.octets.now, c.min-count.ensures)

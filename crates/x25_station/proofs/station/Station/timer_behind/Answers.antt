@@ -1,15 +1,21 @@
-use Rattle.std.proofs.Common.{◌∙◌, ap}
-use Rattle.std.specs.Prelude.{not, ◌||◌}
+use Rattle.std.proofs.Common.{◌∙◌, true, false, ap, sym}
 use Rattle.x25_station.specs.Config.{link_settings}
-use Rattle.x25_station.specs.Timer.{tells_link, runs, timer_of}
+use Rattle.x25_station.specs.Timer.{is_anew, runs, timer_of}
+use Rattle.x25_station.proofs.ClockLemmas.{anew_by}
 use Rattle.x25_station.proofs.station.Station.timer_behind.Goals as goal
 
-pub returns : goal.returns
-returns c = λ k s step ran fits entries acked.
-    let fired = c.args.has_fired in
-    c.of.ensures
-    ∙ ap (λ b. timer_of b (not c.args.ran || (fired || (c.tells_link-is_noted.result || c.args.acknowledged))))
-    (c.timer_runs.ensures (link_settings k) step.near.link fits.link)
-    ∙ ap (λ b. timer_of (runs step.near) (not b || (fired || (c.tells_link-is_noted.result || c.args.acknowledged)))) ran
-    ∙ ap (λ b. timer_of (runs step.near) (not (runs s) || (fired || (b || c.args.acknowledged)))) (c.tells_link-is_noted.ensures ∙ ap tells_link entries)
-    ∙ ap (λ b. timer_of (runs step.near) (not (runs s) || (fired || (tells_link step.entries || b)))) acked
+pub returns-then-not-timer_runs : goal.returns-then-not-timer_runs
+returns-then-not-timer_runs c = λ k s step ran fits entries acked.
+    ap (λ b. timer_of b (is_anew s c.args.has_fired step)) (sym c.if-not-timer_runs.true ∙ c.timer_runs.ensures (link_settings k) step.near.link fits.link)
+
+pub returns-then-ran-has_fired : goal.returns-then-ran-has_fired
+returns-then-ran-has_fired c = λ k s step ran fits entries acked.
+    ap (λ b. timer_of b true) (sym c.if-not-timer_runs.false ∙ c.timer_runs.ensures (link_settings k) step.near.link fits.link)
+    ∙ ap (timer_of (runs step.near)) (sym c.if-ran-has_fired.true
+    ∙ anew_by c.args.has_fired s step c.args.ran c.tells_link.result c.args.acknowledged c.args.out.now.entries.items ran entries c.tells_link.ensures acked)
+
+pub returns-else-ran-has_fired : goal.returns-else-ran-has_fired
+returns-else-ran-has_fired c = λ k s step ran fits entries acked.
+    ap (λ b. timer_of b false) (sym c.if-not-timer_runs.false ∙ c.timer_runs.ensures (link_settings k) step.near.link fits.link)
+    ∙ ap (timer_of (runs step.near)) (sym c.if-ran-has_fired.false
+    ∙ anew_by c.args.has_fired s step c.args.ran c.tells_link.result c.args.acknowledged c.args.out.now.entries.items ran entries c.tells_link.ensures acked)

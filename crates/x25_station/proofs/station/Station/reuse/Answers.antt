@@ -1,0 +1,9 @@
+use Rattle.std.proofs.Common.{◌∙◌, ap, false}
+use Rattle.x25_station.specs.Config.{link_settings}
+use Rattle.x25_station.specs.Timer.{timer_of}
+use Rattle.x25_station.proofs.ClockLemmas.{goes_on}
+use Rattle.x25_station.proofs.station.Station.reuse.Goals as goal
+
+pub returns-clause-timer : goal.returns-clause-timer
+returns-clause-timer c = λ k s fits.
+    c.pulled-out.ensures ∙ goes_on c.timer_runs.result ∙ ap (λ b. timer_of b false) (c.timer_runs.ensures (link_settings k) s.link fits.link)
