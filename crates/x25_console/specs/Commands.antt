@@ -7,7 +7,7 @@ use Rattle.x25_station.specs.Command.{Command, Requests, RequestsWith, Connects,
 use Rattle.x25_station.specs.Command.{answer_in_brief}
 use Rattle.x25_given.specs.Given.{PlainGiven}
 use Rattle.x25_script.specs.ScriptLine.{PlainCommand, call, accept, clear, send, interrupt, reset, ready, not_ready}
-use Rattle.x25_script.specs.ScriptLine.{restart, pull, connect, disconnect, probe, relink, with_given}
+use Rattle.x25_script.specs.ScriptLine.{restart, pull, connect, disconnect, probe, relink, with_given, part_user}
 
 -- What is asked of a call; of others it isn't read. A call without packet sizes and windows proposes the default, and
 -- an acceptance without them accepts what was proposed. A cause or a diagnostic that isn't given is 0.
@@ -43,18 +43,11 @@ command_asked disconnect = Disconnects
 command_asked probe = Probes
 command_asked relink = Relinks
 
--- the user data of a command that gives nothing beside it, none where it has no such field
-abbrev pub part_user : PlainCommand → List ℕ
-part_user (call called calling user params) = user
-part_user (send channel q d user) = user
-part_user (interrupt channel user) = user
-part_user asked = []
-
 -- facilities, user data beside what is asked of a call, and the user data in it
-abbrev pub given_in : List ℕ → List ℕ → PlainCommand → List ℕ
-given_in facilities user asked = facilities ++ (user ++ part_user asked)
+abbrev pub given_in : List ℕ → List ℕ → List ℕ → List ℕ
+given_in facilities beside user = facilities ++ (beside ++ user)
 
 -- the octets of a command
 abbrev pub user_in : PlainCommand → List ℕ
-user_in (with_given facilities user d asked) = given_in facilities user asked
+user_in (with_given facilities user d asked) = given_in facilities user (part_user asked)
 user_in asked = part_user asked

@@ -1,12 +1,12 @@
 //! Commands of a script, as a station takes them.
-ghost use Rattle.std.specs.Prelude.{◌≡◌, ◌≤◌, ◌++◌, IfOk, OnOk, OnErr, length, max, option_map, take};
-ghost use Rattle.x25_script.specs.ScriptLine.{plain_command, plain_part};
+ghost use Rattle.std.specs.Prelude.{◌≡◌, ◌≤◌, IfOk, OnOk, OnErr, length, max, option_map, take};
+ghost use Rattle.x25_script.specs.ScriptLine.{part_user, plain_alone, plain_command};
 ghost use Rattle.x25_given.specs.Given.{given_with, plain_given};
-ghost use Rattle.x25_station.specs.Command.{command_of, requesting};
-ghost use Rattle.x25_console.specs.Commands.{command_asked, given_asked, given_in, part_asked, part_user, user_in};
+ghost use Rattle.x25_station.specs.Command.{command_of};
+ghost use Rattle.x25_console.specs.Commands.{command_asked, given_asked, given_in, user_in};
 
 use std::alloc::AllocError;
-use x25_script::{CallPart, Command, HexDigits};
+use x25_script::{Beside, Command, HexDigits};
 use x25_station::{Cmd, Given};
 
 /// Makes a list that has fewer octets so long. Err: no memory; the list is as it was then.
@@ -39,84 +39,59 @@ pub fn read_octets(digits: &HexDigits, octets: &mut Vec<u8>) -> Result<usize, Al
     ensures memory { length octets.new.items ≤ max (length octets.old.items) (length digits.now) }
     ensures unchanged { OnErr result (octets.new.items ≡ octets.old.items) }
 {
+    if digits.is_empty() {
+        return Ok(0);
+    }
     let count = digits.len();
     reserve(octets, count)?;
     write_front(digits, octets.as_mut_slice());
     Ok(count)
 }
 
-/// How many octets of user data there are in what is asked of a call.
-fn part_count(call: &CallPart) -> usize
-    ensures { result ≡ length (part_user (plain_part call.now)) }
-{
-    match call {
-        CallPart::Call { user, .. } => user.len(),
-        _ => 0,
-    }
-}
-
-/// Writes these octets; `octets` has room for just these.
-fn write_part(call: &CallPart, octets: &mut [u8])
-    requires { length octets.old ≡ length (part_user (plain_part call.now)) }
-    ensures { octets.new ≡ part_user (plain_part call.now) }
-{
-    match call {
-        CallPart::Call { user, .. } => user.write_to(octets),
-        _ => {}
-    }
-}
-
 /// Writes facilities, user data beside what is asked of a call, and the user data in it; `octets` has room for just
 /// these.
-fn write_parts(facilities: &HexDigits, user: &HexDigits, call: &CallPart, octets: &mut [u8])
-    requires { length octets.old ≡ length (given_in facilities.now user.now (plain_part call.now)) }
-    ensures { octets.new ≡ given_in facilities.now user.now (plain_part call.now) }
+fn write_parts(beside: &Beside, user: &HexDigits, octets: &mut [u8])
+    requires { length octets.old ≡ length (given_in beside.now.facilities beside.now.user user.now) }
+    ensures { octets.new ≡ given_in beside.now.facilities beside.now.user user.now }
 {
-    let (front, rest) = octets.split_at_mut(facilities.len());
-    facilities.write_to(front);
-    let (middle, last) = rest.split_at_mut(user.len());
-    user.write_to(middle);
-    write_part(call, last);
+    let (front, rest) = octets.split_at_mut(beside.facilities.len());
+    beside.facilities.write_to(front);
+    let (middle, last) = rest.split_at_mut(beside.user.len());
+    beside.user.write_to(middle);
+    user.write_to(last);
 }
 
 /// Puts these octets, so many, in the place of as many others, from the first on.
-fn write_given(
-    facilities: &HexDigits,
-    user: &HexDigits,
-    call: &CallPart,
-    count: usize,
-    octets: &mut [u8],
-)
-    requires count { count ≡ length (given_in facilities.now user.now (plain_part call.now)) }
+fn write_given(beside: &Beside, user: &HexDigits, count: usize, octets: &mut [u8])
+    requires count { count ≡ length (given_in beside.now.facilities beside.now.user user.now) }
     requires room { count ≤ length octets.old }
-    ensures front { take count octets.new ≡ given_in facilities.now user.now (plain_part call.now) }
+    ensures front { take count octets.new ≡ given_in beside.now.facilities beside.now.user user.now }
     ensures size { length octets.new ≡ length octets.old }
 {
-    write_parts(facilities, user, call, &mut octets[..count]);
+    write_parts(beside, user, &mut octets[..count]);
 }
 
 /// These octets, at the front of the list, and how many they are. Err: no memory; the list is as it was then.
 fn read_given(
-    facilities: &HexDigits,
-    user: &HexDigits,
-    call: &CallPart,
+    beside: &Beside,
+    user: HexDigits<'_>,
     octets: &mut Vec<u8>,
 ) -> Result<usize, AllocError>
     ensures read { IfOk result
-        (λ count. take count octets.new.items ≡ given_in facilities.now user.now (plain_part call.now)) }
+        (λ count. take count octets.new.items ≡ given_in beside.now.facilities beside.now.user user.entry) }
     ensures few { IfOk result (λ count. count ≤ length octets.new.items) }
     ensures memory { length octets.new.items ≤ max (length octets.old.items)
-        (length (given_in facilities.now user.now (plain_part call.now))) }
+        (length (given_in beside.now.facilities beside.now.user user.entry)) }
     ensures unchanged { OnErr result (octets.new.items ≡ octets.old.items) }
 {
-    let Some(both) = user.len().checked_add(part_count(call)) else {
+    let Some(both) = beside.user.len().checked_add(user.len()) else {
         return Err(AllocError);
     };
-    let Some(count) = facilities.len().checked_add(both) else {
+    let Some(count) = beside.facilities.len().checked_add(both) else {
         return Err(AllocError);
     };
     reserve(octets, count)?;
-    write_given(facilities, user, call, count, octets.as_mut_slice());
+    write_given(beside, &user, count, octets.as_mut_slice());
     Ok(count)
 }
 
@@ -130,51 +105,10 @@ pub fn read_user(command: &Command, octets: &mut Vec<u8>) -> Result<usize, Alloc
         (length (user_in (plain_command command.now))) }
     ensures unchanged { OnErr result (octets.new.items ≡ octets.old.items) }
 {
-    match command {
-        Command::Call { user, .. } | Command::Send { user, .. } | Command::Interrupt { user, .. } =>
-            read_octets(user, octets),
-        Command::With {
-            facilities,
-            user,
-            call,
-            ..
-        } => read_given(facilities, user, call, octets),
-        _ => Ok(0),
-    }
-}
-
-/// What is asked of a call, with its octets of user data and what is given beside it.
-fn call_command<'a>(call: &CallPart<'a>, user: &'a [u8], given: Option<&'a Given<'a>>) -> Cmd<'a>
-    requires { user.now ≡ part_user (plain_part call.now) }
-    ensures { command_of result ≡ requesting (given_with given.entry) (part_asked (plain_part call.now)) }
-{
-    match call {
-        CallPart::Call {
-            called,
-            calling,
-            params,
-            ..
-        } => Cmd::Call {
-            called,
-            calling,
-            user,
-            params: *params,
-            given,
-        },
-        CallPart::Accept { channel, params } => Cmd::Accept {
-            channel: *channel,
-            params: *params,
-            given,
-        },
-        CallPart::Clear {
-            channel,
-            given: said,
-        } => Cmd::Clear {
-            channel: *channel,
-            cause: said.cause.unwrap_or(0),
-            diagnostic: said.diagnostic.unwrap_or(0),
-            given,
-        },
+    let user = command.user();
+    match command.beside() {
+        Some(beside) => read_given(beside, user, octets),
+        None => read_octets(&user, octets),
     }
 }
 
@@ -184,38 +118,27 @@ pub fn given_beside<'a>(command: &Command, octets: &'a [u8]) -> Option<Given<'a>
     requires { octets.now ≡ user_in (plain_command command.now) }
     ensures { option_map plain_given result ≡ given_asked (plain_command command.now) }
 {
-    let Command::With {
-        facilities,
-        user,
-        d,
-        ..
-    } = command
-    else {
-        return None;
-    };
-    let (facilities, rest) = octets.split_at(facilities.len());
-    let (user, _) = rest.split_at(user.len());
+    let beside = command.beside()?;
+    let (facilities, rest) = octets.split_at(beside.facilities.len());
+    let (user, _) = rest.split_at(beside.user.len());
     Some(Given {
         facilities,
         user,
-        d: *d,
+        d: beside.d,
     })
 }
 
-/// What is asked of a call, of its octets and with what is given beside it.
-fn asked_with<'a>(
-    facilities: &HexDigits,
-    user: &HexDigits,
-    call: &CallPart<'a>,
-    octets: &'a [u8],
-    given: Option<&'a Given<'a>>,
-) -> Cmd<'a>
-    requires { octets.now ≡ given_in facilities.now user.now (plain_part call.now) }
-    ensures { command_of result ≡ requesting (given_with given.entry) (part_asked (plain_part call.now)) }
+/// The user data of a command, of its octets of facilities and user data.
+fn own_user<'a>(command: &Command, octets: &'a [u8]) -> &'a [u8]
+    requires { octets.now ≡ user_in (plain_command command.now) }
+    ensures { result.now ≡ part_user (plain_alone command.now) }
 {
-    let (_, rest) = octets.split_at(facilities.len());
-    let (_, data) = rest.split_at(user.len());
-    call_command(call, data, given)
+    let Some(beside) = command.beside() else {
+        return octets;
+    };
+    let (_, rest) = octets.split_at(beside.facilities.len());
+    let (_, own) = rest.split_at(beside.user.len());
+    own
 }
 
 /// The command with its octets of facilities and user data, and with what it gives.
@@ -238,30 +161,29 @@ pub fn station_command<'a>(
         } => Cmd::Call {
             called,
             calling,
-            user,
+            user: own_user(command, user),
             params: *params,
-            given: None,
+            given,
         },
-        Command::Accept { channel, params } => Cmd::Accept {
+        Command::Accept {
+            channel,
+            params,
+            ..
+        } => Cmd::Accept {
             channel: *channel,
             params: *params,
-            given: None,
+            given,
         },
         Command::Clear {
             channel,
             given: said,
+            ..
         } => Cmd::Clear {
             channel: *channel,
             cause: said.cause.unwrap_or(0),
             diagnostic: said.diagnostic.unwrap_or(0),
-            given: None,
+            given,
         },
-        Command::With {
-            facilities,
-            user: beside,
-            call,
-            ..
-        } => asked_with(facilities, beside, call, user, given),
         Command::Send { channel, q, d, .. } => Cmd::Send {
             channel: *channel,
             q: *q,

@@ -1,6 +1,6 @@
 -- A line that is spelled is read.
 use Rattle.std.proofs.Common.{ℕ, ◌≤◌, ◌≡◌, ◌∙◌, Bool, true, false, List, [], ◌∷◌, ◌++◌, Option, Some, None, refl, ap, sym, subst, arith, append-nil}
-use Rattle.std.specs.Prelude.{cond, option_and_then, codes, decimal}
+use Rattle.std.specs.Prelude.{cond, option_and_then, option_map, codes, decimal}
 use Rattle.std.specs.List.{list_all}
 use Rattle.std.proofs.lemmas.Bool.{lt-ltb, ne_eqb}
 use Rattle.std.proofs.lemmas.Fmt.{digits_decimal}
@@ -229,10 +229,10 @@ with_again facilities user d asked field digits rest f u s =
     let found = d_again d asked rest s in
     bind_again _ _ (field, digits ++ (32 ∷ (d_text d ++ rest))) _ (parts_again field _ (octets_no_blank field facilities f))
     (bind_again _ _ (digits, d_text d ++ rest) _ (parts_again digits _ (octets_no_blank digits user u))
-    (bind_again _ _ asked _ (ap (λ (p : Bool × List ℕ). part_in p.1) found ∙ part_again asked rest s)
     (bind_again _ _ facilities _ (octets_again field facilities f)
     (bind_again _ _ user _ (octets_again digits user u)
-    (ap (λ (p : Bool × List ℕ). Some (with_given facilities user p.0 asked)) found)))))
+    (ap (λ (p : Bool × List ℕ). option_map (with_given facilities user p.0) (part_in p.1)) found
+    ∙ ap (option_map (with_given facilities user d)) (part_again asked rest s)))))
 
 pub command_again : (v : PlainCommand) (text : List ℕ) → SpellsCommand v text → command_in text ≡ Some v
 unfolding command_in parts_of with_fields

@@ -19,7 +19,7 @@ use Rattle.x25_script.specs.Reading.{with_params_of, with_params_in, labelled_in
 use Rattle.x25_script.specs.Reading.{giving_on, restart_in, call_in, accept_in, send_in, interrupt_in, on_channel, part_fields, part_in, d_in, with_in}
 use Rattle.x25_script.specs.Reading.{with_fields, bare_command_in, command_of, command_in, lose_in, damage_in, drain_in, after, bare_line_in, line_of, line_in}
 use Rattle.x25_script.proofs.NumberLemmas.{number_found}
-use Rattle.x25_script.proofs.PartLemmas.{with_d, chosen, bind_found, begun, IsText, word_step, parts_joined, end_found, from_found, q_found, address_found}
+use Rattle.x25_script.proofs.PartLemmas.{with_d, chosen, bind_found, map_found, begun, IsText, word_step, parts_joined, end_found, from_found, q_found, address_found}
 use Rattle.x25_script.proofs.PartLemmas.{octets_found}
 
 -- ---- what is read is spelled so
@@ -307,12 +307,12 @@ unfolding with_in
 with_found fields v e =
     let first = bind_found (parts_of fields) _ v e in
     let second = bind_found (parts_of first.0.1) _ v first.2 in
-    let asked = bind_found (part_in (d_in second.0.1).1) _ v second.2 in
-    let facilities = bind_found (octets_in first.0.0) _ v asked.2 in
+    let facilities = bind_found (octets_in first.0.0) _ v second.2 in
     let user = bind_found (octets_in second.0.0) _ v facilities.2 in
+    let asked = map_found (part_in (d_in second.0.1).1) _ v user.2 in
     let rest = fields_two first.0.1 second.0.0 _ second.0 second.1 refl (d_joined second.0.1) in
     let all = fields_two fields first.0.0 _ first.0 first.1 refl rest in
-    subst (λ (w : PlainCommand). SpellsCommand w (codes "with " ++ fields)) (same_Some _ _ user.2) (
+    subst (λ (w : PlainCommand). SpellsCommand w (codes "with " ++ fields)) asked.2 (
       first.0.0,
       octets_found first.0.0 facilities.0 facilities.1,
       (

@@ -33,7 +33,7 @@ pub bind_found : {A B : Type 0} (read : Option A) (f : A → Option B) (y : B) �
 bind_found (Some x) f y e = (x, refl, e)
 bind_found None f y e = absurd (none-some _ e)
 
-map_found : {A B : Type 0} (read : Option A) (f : A → B) (y : B) → option_map f read ≡ Some y → (x : A) × (read ≡ Some x) × (f x ≡ y)
+pub map_found : {A B : Type 0} (read : Option A) (f : A → B) (y : B) → option_map f read ≡ Some y → (x : A) × (read ≡ Some x) × (f x ≡ y)
 map_found (Some x) f y e = (x, refl, same_Some _ _ e)
 map_found None f y e = absurd (none-some _ e)
 

@@ -11,13 +11,12 @@ use Rattle.x25_bits.specs.declared.role.Role.{Role}
 use Rattle.x25_bits.specs.declared.role.Role.TheVariants.{Dte, Dce}
 use Rattle.x25_circuit.specs.declared.params.Params.{Params}
 use Rattle.x25_script.specs.declared.given.Given.{Given}
-use Rattle.x25_script.specs.declared.script_line.CallPart.{CallPart}
 use Rattle.x25_script.specs.declared.script_line.Command.{Command}
 use Rattle.x25_script.specs.HexDigits.{octets_of}
 use Rattle.x25_script.specs.ScriptLine.{PlainCommand, call, accept, clear, send, interrupt, reset, ready, not_ready}
 use Rattle.x25_script.specs.ScriptLine.{restart, pull, connect, disconnect, probe, relink, PlainLine, command, t1}
 use Rattle.x25_script.specs.ScriptLine.{deliver, lose}
-use Rattle.x25_script.specs.ScriptLine.{damage, drain, heal, plain_command, plain_part, with_given}
+use Rattle.x25_script.specs.ScriptLine.{damage, drain, heal, plain_command, with_given}
 pub mod Spelling
 
 -- the first word of a line
@@ -249,10 +248,9 @@ unfoldable pub with_in : List ℕ → Option PlainCommand
 with_in text = do
   first ← parts_of text
   second ← parts_of first.1
-  asked ← part_in (d_in second.1).1
   facilities ← octets_in first.0
   user ← octets_in second.0
-  Some (with_given facilities user (d_in second.1).0 asked)
+  option_map (with_given facilities user (d_in second.1).0) (part_in (d_in second.1).1)
 
 unfoldable pub with_fields : Verb → List ℕ → Option PlainCommand
 with_fields Call text = call_in text
@@ -355,10 +353,6 @@ GivesWithGiven (Some last) read = read ≡ Some (last.0.now, last.1)
 abbrev pub GivesCommand : Option Command → Option PlainCommand → Type 0
 GivesCommand None read = read ≡ None
 GivesCommand (Some asked) read = read ≡ Some (plain_command asked)
-
-abbrev pub GivesPart : Option CallPart → Option PlainCommand → Type 0
-GivesPart None read = read ≡ None
-GivesPart (Some asked) read = read ≡ Some (plain_part asked)
 
 -- a text doesn't begin with this word
 abbrev pub IsNotBehind : List ℕ → List ℕ → Type 0

@@ -1,10 +1,10 @@
 -- A line of a script as a value alone, without where its characters lie (profile).
-use Rattle.std.specs.Prelude.{ℕ, Bool, true, false, ◌||◌, not, if◌then◌else◌, List, Option, Some, None, is_some}
+use Rattle.std.specs.Prelude.{ℕ, Bool, true, false, ◌||◌, not, if◌then◌else◌, List, [], Option, Some, None, is_some}
+use denote.Ref.{Bor}
 use Rattle.x25_bits.specs.declared.role.Role.{Role}
 use Rattle.x25_circuit.specs.declared.params.Params.{Params}
 use Rattle.x25_script.specs.declared.given.Given.{Given}
-use Rattle.x25_script.specs.declared.script_line.CallPart.{CallPart}
-use Rattle.x25_script.specs.declared.script_line.CallPart.TheVariants as part_code
+use Rattle.x25_script.specs.declared.script_line.Beside.{Beside}
 use Rattle.x25_script.specs.declared.script_line.Command.{Command}
 use Rattle.x25_script.specs.declared.script_line.Command.TheVariants as command_code
 
@@ -39,27 +39,46 @@ pub data PlainLine : Type 0 where
   drain : ℕ → PlainLine
   heal : PlainLine
 
-abbrev pub plain_part : CallPart → PlainCommand
-plain_part (part_code.Call called calling user params) = call called.now calling.now user params
-plain_part (part_code.Accept params channel) = accept channel params
-plain_part (part_code.Clear channel given) = clear channel given
+-- what is asked, with this beside it
+abbrev pub given_by : Beside → PlainCommand → PlainCommand
+given_by beside = with_given beside.facilities beside.user beside.d
+
+abbrev pub with_beside : Option (Bor Beside) → PlainCommand → PlainCommand
+with_beside None = λ asked. asked
+with_beside (Some beside) = given_by beside.now
+
+-- without what stands beside it
+abbrev pub plain_alone : Command → PlainCommand
+plain_alone (command_code.Call called calling user params beside) = call called.now calling.now user params
+plain_alone (command_code.Accept params channel beside) = accept channel params
+plain_alone (command_code.Clear channel given beside) = clear channel given
+plain_alone (command_code.Send channel q d user) = send channel q d user
+plain_alone (command_code.Interrupt channel user) = interrupt channel user
+plain_alone (command_code.Reset channel given) = reset channel given
+plain_alone (command_code.Ready channel) = ready channel
+plain_alone (command_code.NotReady channel) = not_ready channel
+plain_alone (command_code.Restart given) = restart given
+plain_alone command_code.Pull = pull
+plain_alone command_code.Connect = connect
+plain_alone command_code.Disconnect = disconnect
+plain_alone command_code.Probe = probe
+plain_alone command_code.Relink = relink
+
+abbrev pub beside_of : Command → Option (Bor Beside)
+beside_of (command_code.Call called calling user params beside) = beside
+beside_of (command_code.Accept params channel beside) = beside
+beside_of (command_code.Clear channel given beside) = beside
+beside_of asked = None
 
 abbrev pub plain_command : Command → PlainCommand
-plain_command (command_code.Call called calling user params) = call called.now calling.now user params
-plain_command (command_code.Accept params channel) = accept channel params
-plain_command (command_code.Clear channel given) = clear channel given
-plain_command (command_code.With facilities user d asked) = with_given facilities user d (plain_part asked)
-plain_command (command_code.Send channel q d user) = send channel q d user
-plain_command (command_code.Interrupt channel user) = interrupt channel user
-plain_command (command_code.Reset channel given) = reset channel given
-plain_command (command_code.Ready channel) = ready channel
-plain_command (command_code.NotReady channel) = not_ready channel
-plain_command (command_code.Restart given) = restart given
-plain_command command_code.Pull = pull
-plain_command command_code.Connect = connect
-plain_command command_code.Disconnect = disconnect
-plain_command command_code.Probe = probe
-plain_command command_code.Relink = relink
+plain_command asked = with_beside (beside_of asked) (plain_alone asked)
+
+-- the user data of a command that gives nothing beside it, none where it has no such field
+abbrev pub part_user : PlainCommand → List ℕ
+part_user (call called calling user params) = user
+part_user (send channel q d user) = user
+part_user (interrupt channel user) = user
+part_user asked = []
 
 -- ---- what only the wide form has
 

@@ -1,39 +1,42 @@
 //! What the user of an end asks for.
-ghost use Rattle.std.specs.Prelude.{◌≡◌, Option, codes};
+ghost use Rattle.std.specs.Prelude.{◌≡◌, MatchOption, None, codes, option_map};
 ghost use Rattle.x25_script.specs.Reading.{accept_in, bare_command_in, call_in, command_in, interrupt_in, send_in};
 ghost use Rattle.x25_script.specs.Reading.{giving_on, restart_in, with_fields, GivesCommand};
-ghost use Rattle.x25_script.specs.Reading.{d_in, part_in, with_in, GivesPart, IsNotBehind, NotReady, Ready};
-ghost use Rattle.x25_script.specs.ScriptLine.{clear as command_clear, reset as command_reset};
-ghost use Rattle.x25_script.specs.ScriptLine.{PlainCommand, plain_command, plain_part};
+ghost use Rattle.x25_script.specs.Reading.{d_in, part_in, with_in, IsNotBehind, NotReady, Ready};
+ghost use Rattle.x25_script.specs.ScriptLine.{clear as command_clear, given_by, reset as command_reset, send};
+ghost use Rattle.x25_script.specs.ScriptLine.{with_beside};
 
 use crate::fields::{address, behind, is, number, octets, q, split_blank};
 use crate::given::{Given, read_given, with_given};
+use crate::hex_digits::HexDigits;
 use crate::params::with_params;
-use crate::script_line::{CallPart, Command};
+use crate::script_line::{Beside, Command};
 
 #[tactic(auto, unfolding(crate::specs::Reading::call_in))]
-fn call(text: &[u8]) -> Option<CallPart<'_>>
-    ensures { GivesPart result (call_in text.now) }
+fn call<'a>(text: &'a [u8], beside: Option<&'a Beside<'a>>) -> Option<Command<'a>>
+    ensures { GivesCommand result (option_map (with_beside beside.entry) (call_in text.now)) }
 {
     let (called, rest) = split_blank(text)?;
     let (calling, rest) = split_blank(rest)?;
     let (user, params) = with_params(rest)?;
-    Some(CallPart::Call {
+    Some(Command::Call {
         called: address(called)?,
         calling: address(calling)?,
         user: octets(user)?,
         params,
+        beside,
     })
 }
 
 #[tactic(auto, unfolding(crate::specs::Reading::accept_in))]
-fn accept_part(text: &[u8]) -> Option<CallPart<'_>>
-    ensures { GivesPart result (accept_in text.now) }
+pub(crate) fn accept<'a>(text: &'a [u8], beside: Option<&'a Beside<'a>>) -> Option<Command<'a>>
+    ensures { GivesCommand result (option_map (with_beside beside.entry) (accept_in text.now)) }
 {
     let (channel, params) = with_params(text)?;
-    Some(CallPart::Accept {
-        channel: number(channel)?,
+    Some(Command::Accept {
         params,
+        channel: number(channel)?,
+        beside,
     })
 }
 
@@ -47,20 +50,16 @@ fn split_d(text: &[u8]) -> (bool, &[u8])
     }
 }
 
+/// On which channel a message is sent, Q, D, and its octets.
 #[inline(always)]
 #[tactic(auto, unfolding(crate::specs::Reading::send_in))]
-pub(crate) fn send(text: &[u8]) -> Option<Command<'_>>
-    ensures { GivesCommand result (send_in text.now) }
+pub(crate) fn sent(text: &[u8]) -> Option<(u16, bool, bool, HexDigits<'_>)>
+    ensures { option_map (λ sent. send sent.0 sent.1 sent.2 sent.3) result ≡ send_in text.now }
 {
     let (channel, rest) = split_blank(text)?;
     let (mark, rest) = split_blank(rest)?;
     let (d, user) = split_d(rest);
-    Some(Command::Send {
-        channel: number(channel)?,
-        q: q(mark)?,
-        d,
-        user: octets(user)?,
-    })
+    Some((number(channel)?, q(mark)?, d, octets(user)?))
 }
 
 #[tactic(auto, unfolding(crate::specs::Reading::interrupt_in))]
@@ -74,13 +73,14 @@ fn interrupt(text: &[u8]) -> Option<Command<'_>>
     })
 }
 
-fn clear(text: &[u8]) -> Option<CallPart<'_>>
-    ensures { GivesPart result (giving_on command_clear text.now) }
+fn clear<'a>(text: &'a [u8], beside: Option<&'a Beside<'a>>) -> Option<Command<'a>>
+    ensures { GivesCommand result (option_map (with_beside beside.entry) (giving_on command_clear text.now)) }
 {
     let (channel, given) = with_given(text)?;
-    Some(CallPart::Clear {
+    Some(Command::Clear {
         channel: number(channel)?,
         given,
+        beside,
     })
 }
 
@@ -117,79 +117,37 @@ fn not_ready(text: &[u8]) -> Option<Command<'_>>
     Some(Command::NotReady { channel })
 }
 
-/// What is asked of a call, with nothing beside it.
-fn alone(part: CallPart<'_>) -> Command<'_>
-    ensures { plain_command result ≡ plain_part part.entry }
-{
-    match part {
-        CallPart::Call {
-            called,
-            calling,
-            user,
-            params,
-        } => Command::Call {
-            called,
-            calling,
-            user,
-            params,
-        },
-        CallPart::Accept { params, channel } => Command::Accept { params, channel },
-        CallPart::Clear { channel, given } => Command::Clear { channel, given },
-    }
-}
-
-/// The same, where there is one.
-fn alone_in(part: Option<CallPart<'_>>) -> Option<Command<'_>>
-    ensures { (read : Option PlainCommand) → GivesPart part.entry read → GivesCommand result read }
-{
-    match part {
-        Some(part) => Some(alone(part)),
-        None => None,
-    }
-}
-
-/// As `accept_part`, made at once.
-#[tactic(auto, unfolding(crate::specs::Reading::accept_in))]
-pub(crate) fn accept(text: &[u8]) -> Option<Command<'_>>
-    ensures { GivesCommand result (accept_in text.now) }
-{
-    let (channel, params) = with_params(text)?;
-    Some(Command::Accept {
-        params,
-        channel: number(channel)?,
-    })
-}
-
-/// What is asked of a call, by its first word.
-fn part(text: &[u8]) -> Option<CallPart<'_>>
-    ensures { GivesPart result (part_in text.now) }
-{
-    if let Some(fields) = behind(text, b"call ") {
-        return call(fields);
-    }
-    if let Some(fields) = behind(text, b"accept ") {
-        return accept_part(fields);
-    }
-    if let Some(fields) = behind(text, b"clear ") {
-        return clear(fields);
-    }
-    None
-}
-
+/// What stands beside what is asked of a call, and what is asked.
 #[tactic(auto, unfolding(crate::specs::Reading::with_in))]
-fn with(text: &[u8]) -> Option<Command<'_>>
-    ensures { GivesCommand result (with_in text.now) }
+pub(crate) fn split_beside(text: &[u8]) -> Option<(Beside<'_>, &[u8])>
+    ensures { MatchOption result (with_in text.now ≡ None)
+        (λ found. with_in text.now ≡ option_map (given_by found.0) (part_in found.1.now)) }
 {
     let (field, rest) = split_blank(text)?;
     let (digits, rest) = split_blank(rest)?;
     let (d, asked) = split_d(rest);
-    let call = part(asked)?;
-    Some(Command::With {
+    let beside = Beside {
         facilities: octets(field)?,
         user: octets(digits)?,
         d,
-        call,
-    })
+    };
+    Some((beside, asked))
+}
+
+/// What is asked of a call with something beside it, by its first word.
+pub(crate) fn part<'a>(text: &'a [u8], beside: &'a Beside<'a>) -> Option<Command<'a>>
+    ensures { GivesCommand result (option_map (given_by beside.now) (part_in text.now)) }
+{
+    if let Some(fields) = behind(text, b"call ") {
+        return call(fields, Some(beside));
+    }
+    if let Some(fields) = behind(text, b"accept ") {
+        return accept(fields, Some(beside));
+    }
+    if let Some(fields) = behind(text, b"clear ") {
+        return clear(fields, Some(beside));
+    }
+    None
 }
 
 /// A command without fields.
@@ -215,14 +173,14 @@ fn bare_command(text: &[u8]) -> Option<Command<'_>>
     }
 }
 
-/// A command that neither sends nor accepts, by its first word.
+/// A command that neither sends nor accepts, with nothing beside it, by its first word.
 #[inline(never)]
 pub(crate) fn other_command(text: &[u8]) -> Option<Command<'_>>
     ensures { IsNotBehind (codes "send ") text.now → IsNotBehind (codes "accept ") text.now
-        → GivesCommand result (command_in text.now) }
+        → IsNotBehind (codes "with ") text.now → GivesCommand result (command_in text.now) }
 {
     if let Some(fields) = behind(text, b"call ") {
-        return alone_in(call(fields));
+        return call(fields, None);
     }
     if let Some(fields) = behind(text, b"int ") {
         return interrupt(fields);
@@ -231,7 +189,7 @@ pub(crate) fn other_command(text: &[u8]) -> Option<Command<'_>>
         return reset(fields);
     }
     if let Some(fields) = behind(text, b"clear ") {
-        return alone_in(clear(fields));
+        return clear(fields, None);
     }
     if let Some(fields) = behind(text, b"ready ") {
         return ready(fields);
@@ -241,9 +199,6 @@ pub(crate) fn other_command(text: &[u8]) -> Option<Command<'_>>
     }
     if let Some(fields) = behind(text, b"restart ") {
         return restart(fields);
-    }
-    if let Some(fields) = behind(text, b"with ") {
-        return with(fields);
     }
     bare_command(text)
 }

@@ -1,5 +1,5 @@
 //! Octets as hexadecimal digits.
-ghost use Rattle.std.specs.Prelude.{◌≡◌, ◌==◌, List, ℕ, length};
+ghost use Rattle.std.specs.Prelude.{◌≡◌, ◌==◌, [], List, ℕ, length};
 ghost use Rattle.x25_script.specs.HexDigits.{octets_of, octets_written, AreWritten};
 
 use std::marker::Model;
@@ -28,6 +28,23 @@ impl<'a> HexDigits<'a> {
             return None;
         }
         Some(HexDigits { digits })
+    }
+
+    /// No octets.
+    #[tactic(auto, using(crate::proofs::OctetLemmas::octets_of_none))]
+    pub(crate) fn none() -> HexDigits<'a>
+        ensures { result ≡ [] }
+    {
+        HexDigits { digits: b"" }
+    }
+
+    /// The same octets once more.
+    pub(crate) fn copied(&self) -> HexDigits<'a>
+        ensures { result ≡ self.now }
+    {
+        HexDigits {
+            digits: self.digits,
+        }
     }
 
     /// How many octets there are.

@@ -16,5 +16,5 @@ pub use given::Given;
 pub use hex_digits::HexDigits;
 pub use law::{lines_are_in_octets, reading_is_the_grammar};
 pub use reading::{read_command, read_line};
-pub use script_line::{CallPart, Command, ScriptTaker};
+pub use script_line::{Beside, Command, ScriptTaker};
 pub use x25_bits::Role;

@@ -1,11 +1,12 @@
 //! A line of a script read from its characters.
-ghost use Rattle.std.specs.Prelude.{◌≡◌, IfSome, List, ℕ, Option, Some, option_map};
-ghost use Rattle.x25_script.specs.ScriptLine.{PlainLine, damage, drain, lose};
-ghost use Rattle.x25_script.specs.Reading.{after, command_in, damage_in, drain_in, line_in, lose_in, GivesCommand};
-ghost use Rattle.x25_script.specs.Reading.{Deliver, End, T1};
+ghost use Rattle.std.specs.Prelude.{◌≡◌, IfSome, Option, Some, codes, option_and_then, option_map};
+ghost use Rattle.x25_script.specs.ScriptLine.{PlainCommand, PlainLine, command, damage, drain, lose};
+ghost use Rattle.x25_script.specs.Reading.{after, damage_in, drain_in, line_in, lose_in, send_in, with_in};
+ghost use Rattle.x25_script.specs.Reading.{GivesCommand};
+ghost use Rattle.x25_script.specs.Reading.{Deliver, End, IsNotBehind, T1};
 ghost use Rattle.x25_script.specs.Reading.Spelling.{Spells};
 
-use crate::command::{accept, other_command, send};
+use crate::command::{accept, other_command, part, sent, split_beside};
 use crate::fields::{behind, end, from, is, number, octets, split_blank, split_end};
 use crate::hex_digits::HexDigits;
 use crate::script_line::{Command, ScriptTaker};
@@ -51,13 +52,69 @@ fn hand_command<W, T: ScriptTaker<W>>(
     taker: &mut T,
     with: &mut W,
 ) -> T::Answer
-    ensures { (text : List ℕ) → GivesCommand asked.entry (command_in text)
-        → T.gives taker.old with.old taker.new with.new result (after (End end) text) }
+    ensures { (read : Option PlainCommand) → GivesCommand asked.entry read
+        → T.gives taker.old with.old taker.new with.new result
+        (option_and_then (λ asked. Some (command end asked)) read) }
 {
     match asked {
         Some(command) => taker.command(end, command, with),
         None => taker.nothing(with),
     }
+}
+
+fn read_send<W, T: ScriptTaker<W>>(
+    end: Role,
+    fields: &[u8],
+    taker: &mut T,
+    with: &mut W,
+) -> T::Answer
+    ensures { T.gives taker.old with.old taker.new with.new result
+        (option_and_then (λ asked. Some (command end asked)) (send_in fields.now)) }
+{
+    match sent(fields) {
+        Some((channel, q, d, user)) => {
+            let message = Command::Send {
+                channel,
+                q,
+                d,
+                user,
+            };
+            taker.command(end, message, with)
+        }
+        None => taker.nothing(with),
+    }
+}
+
+/// Hands on what is asked of a call with something beside it.
+fn read_with<W, T: ScriptTaker<W>>(
+    end: Role,
+    fields: &[u8],
+    taker: &mut T,
+    with: &mut W,
+) -> T::Answer
+    ensures { T.gives taker.old with.old taker.new with.new result
+        (option_and_then (λ asked. Some (command end asked)) (with_in fields.now)) }
+{
+    match split_beside(fields) {
+        Some((beside, asked)) => hand_command(end, part(asked, &beside), taker, with),
+        None => taker.nothing(with),
+    }
+}
+
+/// Hands on a command that neither sends nor accepts.
+fn read_other<W, T: ScriptTaker<W>>(
+    end: Role,
+    text: &[u8],
+    taker: &mut T,
+    with: &mut W,
+) -> T::Answer
+    ensures { IsNotBehind (codes "send ") text.now → IsNotBehind (codes "accept ") text.now
+        → T.gives taker.old with.old taker.new with.new result (after (End end) text.now) }
+{
+    if let Some(fields) = behind(text, b"with ") {
+        return read_with(end, fields, taker, with);
+    }
+    hand_command(end, other_command(text), taker, with)
 }
 
 /// Hands on what an end is commanded, as a line has it behind the name of that end.
@@ -71,12 +128,12 @@ pub fn read_command<W, T: ScriptTaker<W>>(
     ensures { T.gives taker.old with.old taker.new with.new result (after (End end) text.now) }
 {
     if let Some(fields) = behind(text, b"send ") {
-        return hand_command(end, send(fields), taker, with);
+        return read_send(end, fields, taker, with);
     }
     if let Some(fields) = behind(text, b"accept ") {
-        return hand_command(end, accept(fields), taker, with);
+        return hand_command(end, accept(fields, None), taker, with);
     }
-    hand_command(end, other_command(text), taker, with)
+    read_other(end, text, taker, with)
 }
 
 fn read_t1<W, T: ScriptTaker<W>>(fields: &[u8], taker: &mut T, with: &mut W) -> T::Answer

@@ -1,29 +1,19 @@
 ghost use Rattle.std.specs.Prelude.{◌≡◌, Option, None, Some};
 ghost use Rattle.x25_script.specs.ScriptLine.{PlainLine, command, damage, deliver, drain, heal, lose, plain_command};
-ghost use Rattle.x25_script.specs.ScriptLine.{is_wide, t1};
+ghost use Rattle.x25_script.specs.ScriptLine.{beside_of, is_wide, part_user, plain_alone, t1};
 
 use crate::given::Given;
 use crate::hex_digits::HexDigits;
 use x25_bits::Role;
 use x25_circuit::Params;
 
-/// What the user of an end asks of a call: what may stand behind `with`, as the variants of `Command` of these names.
+/// What stands beside what is asked of a call: facilities, user data and whether D is set. Whether these may be given
+/// is judged by the call.
 #[derive(Debug, Drop)]
-pub enum CallPart<'a> {
-    Call {
-        called: &'a str,
-        calling: &'a str,
-        user: HexDigits<'a>,
-        params: Option<Params>,
-    },
-    Accept {
-        params: Option<Params>,
-        channel: u16,
-    },
-    Clear {
-        channel: u16,
-        given: Given,
-    },
+pub struct Beside<'a> {
+    pub facilities: HexDigits<'a>,
+    pub user: HexDigits<'a>,
+    pub d: bool,
 }
 
 /// What the user of an end asks for.
@@ -33,8 +23,7 @@ pub enum CallPart<'a> {
 /// `params` are the packet sizes and windows that are proposed, or answered, where the line has them: any numbers of 8
 /// bits; whether a call may propose them, or its acceptance answer them, is judged by the call. `given` are a cause and
 /// a diagnostic, where the line has them; whether the user of this end may give them is judged by the call. `d` of a
-/// message is whether confirmation is asked. `With` has facilities, user data and whether D is set beside what is asked
-/// of a call; whether these may be given is judged by the call.
+/// message is whether confirmation is asked. `beside` stands where the line begins with `with`.
 #[derive(Debug, Drop)]
 pub enum Command<'a> {
     Call {
@@ -42,22 +31,19 @@ pub enum Command<'a> {
         calling: &'a str,
         user: HexDigits<'a>,
         params: Option<Params>,
+        beside: Option<&'a Beside<'a>>,
     },
-    // The channel stands last: so the fields lie in the first eight octets, as those of the other variants do, and the
-    // value is copied by whole words.
+    // The channel stands behind: so these fields lie in the first eight octets, as those of the other variants do, and
+    // the value is copied by whole words.
     Accept {
         params: Option<Params>,
         channel: u16,
+        beside: Option<&'a Beside<'a>>,
     },
     Clear {
         channel: u16,
         given: Given,
-    },
-    With {
-        facilities: HexDigits<'a>,
-        user: HexDigits<'a>,
-        d: bool,
-        call: CallPart<'a>,
+        beside: Option<&'a Beside<'a>>,
     },
     Send {
         channel: u16,
@@ -89,17 +75,44 @@ pub enum Command<'a> {
     Relink,
 }
 
-impl Command<'_> {
+impl<'a> Command<'a> {
+    /// The user data, none where it has no such field.
+    pub fn user(&self) -> HexDigits<'a>
+        ensures { result ≡ part_user (plain_alone self.now) }
+    {
+        // Each has an arm of its own: so a value is read, not a reference into the command.
+        match self {
+            Command::Call { user, .. } => user.copied(),
+            Command::Send { user, .. } => user.copied(),
+            Command::Interrupt { user, .. } => user.copied(),
+            _ => HexDigits::none(),
+        }
+    }
+
+    /// What stands beside what is asked of a call, where anything does.
+    pub fn beside(&self) -> Option<&'a Beside<'a>>
+        ensures { result ≡ beside_of self.now }
+    {
+        match self {
+            Command::Call { beside, .. } => *beside,
+            Command::Accept { beside, .. } => *beside,
+            Command::Clear { beside, .. } => *beside,
+            _ => None,
+        }
+    }
+
     /// Whether the line gives more than one of the strict profile has.
     pub fn is_wide(&self) -> bool
         ensures { result ≡ is_wide (plain_command self.now) }
     {
+        if self.beside().is_some() {
+            return true;
+        }
         match self {
             Command::Clear { given, .. }
             | Command::Reset { given, .. }
             | Command::Restart { given } => given.is_any(),
             Command::Send { d, .. } => *d,
-            Command::With { .. } => true,
             _ => false,
         }
     }

@@ -1,12 +1,12 @@
 -- Characters that are tested block by block, the last block over the one before it.
-use Rattle.std.proofs.Common.{ℕ, suc, ◌≡◌, ◌<◌, ◌≤◌, ◌+◌, ◌%◌, ◌∙◌, Bool, true, false, cond, List, [], ◌∷◌, length, map, take, drop, get_or, refl, ap, sym}
+use Rattle.std.proofs.Common.{ℕ, suc, ◌≡◌, ◌<◌, ◌≤◌, ◌+◌, ◌-◌, ◌%◌, ◌∙◌, Bool, true, false, cond, List, [], ◌∷◌, length, map, take, drop, get_or, refl, ap, sym}
 use Rattle.std.proofs.Common.{arith}
 use Rattle.std.specs.Prelude.{◌==◌, ◌&&◌, nat_le, nat_lt}
 use Rattle.std.specs.Simd.Lanes.{sel_l, top, zip2}
 use Rattle.std.specs.Char.{is_ascii_hexdigit}
 use Rattle.std.specs.List.{list_all, prefix_len}
 use Rattle.std.proofs.lemmas.Bool.{agree_below, agree_below_at, and_parts, eqb-true, le-leb, leb-true, ltb-false, ltb-true}
-use Rattle.std.proofs.lemmas.List.{length-drop, take_all, take-append-drop, take-take}
+use Rattle.std.proofs.lemmas.List.{drop-drop, length-drop, take_all, take-append-drop, take-take}
 use Rattle.std.proofs.lemmas.List.Folds.{list_all-append}
 use Rattle.std.proofs.Math.Seq.{take-add}
 use Rattle.x25_text.specs.Hexadecimal.{value_of}
@@ -106,6 +106,16 @@ module _ (p : ℕ → Bool) where
       ≡ list_all p (take (count + block) xs)
   all_both count block xs = sym (ap (list_all p) (take-add count block xs) ∙ list_all-append p (take count xs) (take block (drop count xs)))
 
+  -- the next two blocks
+  pub all_both_two : (count block : ℕ) (xs : List ℕ)
+      → (list_all p (take count xs) && (list_all p (take block (drop count xs)) && list_all p (take block (drop (count + block) xs))))
+      ≡ list_all p (take (count + (block + block)) xs)
+  all_both_two count block xs =
+      ap (λ b. list_all p (take count xs) && b)
+      (ap (λ ys. list_all p (take block (drop count xs)) && list_all p (take block ys)) (sym (drop-drop block count xs))
+      ∙ all_both block block (drop count xs))
+      ∙ all_both count (block + block) xs
+
   -- a part of what passes
   pub all_part : (count block : ℕ) (xs : List ℕ) → list_all p xs ≡ true → list_all p (take block (drop count xs)) ≡ true
   all_part count block xs all =
@@ -132,3 +142,16 @@ module _ (p : ℕ → Bool) where
       go false e =
           ap (λ b. b && list_all p (take block (drop place xs))) e
           ∙ sym (all_apart count xs ∙ ap (λ b. b && list_all p (drop count xs)) e)
+
+  -- the last two blocks, of which the first begins where those before it were tested
+  pub all_over_two : (count place last block : ℕ) (xs : List ℕ) → place ≤ count → place ≤ last → last ≤ place + block → last + block ≡ length xs
+      → (list_all p (take count xs) && (list_all p (take block (drop place xs)) && list_all p (take block (drop last xs)))) ≡ list_all p xs
+  all_over_two count place last block xs le on near end =
+      let rest : length xs - place ≡ length (drop place xs) = sym (length-drop place xs) in
+      let two : (list_all p (take block (drop place xs)) && list_all p (take block (drop last xs))) ≡ list_all p (drop place xs) =
+      ap (λ ys. list_all p (take block (drop place xs)) && list_all p (take block ys))
+      (ap (λ n. drop n xs) (omega (arith, on)) ∙ sym (drop-drop (last - place) place xs))
+      ∙ all_over block (last - place) block (drop place xs) (omega (arith, near)) (omega (arith, length-drop place xs, on, end)) in
+      ap (λ b. list_all p (take count xs) && b)
+      (two ∙ ap (list_all p) (sym (take_all (length xs - place) (drop place xs) (omega (arith, rest)))))
+      ∙ all_over count place (length xs - place) xs le (omega (arith, on, end))

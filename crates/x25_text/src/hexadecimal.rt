@@ -419,8 +419,8 @@ fn are_of_digits(marks: u8x16) -> bool
 
 /// Whether all characters are hexadecimal digits, of either case.
 ///
-/// Sixteen at a time; the last sixteen may be tested over some that were tested before. The answer is taken of all
-/// marks at the end.
+/// Twice sixteen at a time; the last of these may be tested over some that were tested before. The answer is taken of
+/// all marks at the end.
 pub fn is_hexadecimal(text: &[u8]) -> bool
     ensures { result ≡ list_all is_ascii_hexdigit text.now }
 {
@@ -429,8 +429,13 @@ pub fn is_hexadecimal(text: &[u8]) -> bool
         return text.iter().all(|character| value(*character) < 16);
     }
     let mut least = u8x16::splat(255);
-    for sixteen in 0..count / 16 {
-        least = lesser(least, marks_at(text, 16 * sixteen));
+    for pair in 0..count / 32 {
+        let both = lesser(marks_at(text, 32 * pair), marks_at(text, 32 * pair + 16));
+        least = lesser(least, both);
     }
-    are_of_digits(lesser(least, marks_at(text, count - 16)))
+    let last = lesser(
+        marks_at(text, count.saturating_sub(32)),
+        marks_at(text, count - 16),
+    );
+    are_of_digits(lesser(least, last))
 }

@@ -1,7 +1,7 @@
 //! What a line reads as, in words of the tests' own.
 use std::alloc::{AllocError, Global};
 use x25_circuit::Params;
-use x25_script::{CallPart, Command, Given, HexDigits, Role, ScriptTaker};
+use x25_script::{Command, Given, HexDigits, Role, ScriptTaker};
 
 fn end_name(end: Role) -> &'static str {
     match end {
@@ -69,52 +69,27 @@ fn clear_shown(alloc: Global, channel: u16, given: Given) -> Result<String, Allo
     format!(in alloc; "clears {channel}{given}")
 }
 
-fn part_shown(alloc: Global, part: &CallPart<'_>) -> Result<String, AllocError> {
-    match part {
-        CallPart::Call {
-            called,
-            calling,
-            user,
-            params,
-        } => call_shown(alloc, called, calling, user, *params),
-        CallPart::Accept { channel, params } => accept_shown(alloc, *channel, *params),
-        CallPart::Clear { channel, given } => clear_shown(alloc, *channel, *given),
-    }
-}
-
 fn command_shown(alloc: Global, command: &Command<'_>) -> Result<String, AllocError> {
     match command {
         Command::Call {
             called,
             calling,
-            user,
             params,
-        } => call_shown(alloc, called, calling, user, *params),
-        Command::Accept { channel, params } => accept_shown(alloc, *channel, *params),
-        Command::Clear { channel, given } => clear_shown(alloc, *channel, *given),
-        Command::With {
-            facilities,
-            user,
-            d,
-            call,
-        } => {
-            let facilities = octets_shown(alloc, facilities)?;
-            let user = octets_shown(alloc, user)?;
-            let call = part_shown(alloc, call)?;
-            format!(in alloc; "with facilities {facilities}, {user}, D {d}: {call}")
-        }
-        Command::Send {
+            ..
+        } => call_shown(alloc, called, calling, &command.user(), *params),
+        Command::Accept {
             channel,
-            q,
-            d,
-            user,
-        } => {
-            let user = octets_shown(alloc, user)?;
+            params,
+            ..
+        } => accept_shown(alloc, *channel, *params),
+        Command::Clear { channel, given, .. } => clear_shown(alloc, *channel, *given),
+        Command::Send { channel, q, d, .. } => {
+            let user = octets_shown(alloc, &command.user())?;
             let confirmed = if *d { ", D" } else { "" };
             format!(in alloc; "sends on {channel} with Q {q}{confirmed} {user}")
         }
-        Command::Interrupt { channel, user } => {
-            let user = octets_shown(alloc, user)?;
+        Command::Interrupt { channel, .. } => {
+            let user = octets_shown(alloc, &command.user())?;
             format!(in alloc; "interrupts {channel} by {user}")
         }
         Command::Reset { channel, given } => {
@@ -135,6 +110,17 @@ fn command_shown(alloc: Global, command: &Command<'_>) -> Result<String, AllocEr
     }
 }
 
+fn asked_shown(alloc: Global, command: &Command<'_>) -> Result<String, AllocError> {
+    let asked = command_shown(alloc, command)?;
+    let Some(beside) = command.beside() else {
+        return Ok(asked);
+    };
+    let facilities = octets_shown(alloc, &beside.facilities)?;
+    let user = octets_shown(alloc, &beside.user)?;
+    let d = beside.d;
+    format!(in alloc; "with facilities {facilities}, {user}, D {d}: {asked}")
+}
+
 /// Tells of the lines that it takes.
 #[derive(Clone, Copy)]
 pub struct Shown;
@@ -151,7 +137,7 @@ impl ScriptTaker<Global> for Shown {
         alloc: &mut Global,
     ) -> Result<Option<String>, AllocError> {
         let end = end_name(end);
-        let asked = command_shown(*alloc, &asked)?;
+        let asked = asked_shown(*alloc, &asked)?;
         Ok(Some(format!(in *alloc; "{end}: {asked}")?))
     }
 
