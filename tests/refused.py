@@ -5,9 +5,8 @@
 
 The program `x25`, where its Nth allocation is refused, has to write a beginning of what the case wants, say `no memory` on standard error
 and end with status 3, where `decode` and `deframe` write nothing; or, where it can do without, as where a list that was filled is made smaller, to do
-all that the case wants. The player `x25_refusals` plays scripts at stations and worlds, and makes a call that was refused again: it
-has to print all that it prints where none is refused, beside which call it was, and end with status 0. Which calls met how many refusals is
-said, and which met none.
+all that the case wants. The player `x25_refusals` plays scripts at a world, and makes a call that was refused again: it has to print all
+that it prints where none is refused, beside which call it was, and end with status 0. Which calls met how many refusals is said.
 
 N is 1, 2, 3, .. up to the number of allocations of the run; with --every K, N is 1 to 20 and each Kth from there. With names, these golden
 cases alone. It needs a C compiler, `cc`, and the GNU C library. Exit status: 0 all is so, 1 something differs, 2 there is no program, no
@@ -48,8 +47,7 @@ CASES = [
 ]
 FIRST = 20
 NO_MEMORY, DONE_WITHOUT = "no memory", "done without"
-MADE = re.compile(rb"(.+) calls=(\d+)\n")
-REFUSED = re.compile(rb"(.+) refused=(\d+)\n")
+REFUSED = b" refused\n"
 
 
 class Refusing:
@@ -114,27 +112,15 @@ def player_answer(refusing: Refusing, whole: bytes, number: int) -> tuple[str | 
     """Runs the player with this allocation refused; answers the call that met it, None where none did, and what isn't as it has to be."""
     done = refusing.run(REFUSE=str(number))
     lines = done.stdout.splitlines(keepends=True)
-    met = [line for line in lines if REFUSED.fullmatch(line)]
+    met = [line for line in lines if line.endswith(REFUSED)]
     text = b"".join(line for line in lines if line not in met)
     if text != whole:
         return None, golden.first_difference(whole, text)
     if (done.returncode, done.stderr) != (0, b""):
         return None, f"status {done.returncode}, standard error {done.stderr!r}"
-    if len(met) > 1 or not all(line.endswith(b" refused=1\n") for line in met):
+    if len(met) > 1:
         return None, f"one refusal was met more than once: {b''.join(met)!r}"
-    return met[0].rpartition(b" ")[0].decode() if met else None, None
-
-
-def tell_calls(whole: bytes, met: collections.Counter[str]) -> None:
-    """Says how many refusals each call met, and which calls met none."""
-    made = [MADE.fullmatch(line) for line in whole.splitlines(keepends=True)]
-    calls = {row[1].decode(): int(row[2]) for row in made if row}
-    for name, count in calls.items():
-        if met[name]:
-            print(f"  {name}: {met[name]} refusals in {count} calls")
-    never = [name for name in calls if not met[name]]
-    if never:
-        print(f"  never refused: {', '.join(never)}")
+    return met[0].removesuffix(REFUSED).decode() if met else None, None
 
 
 def play(player: str, every: int) -> int:
@@ -152,7 +138,8 @@ def play(player: str, every: int) -> int:
     met = collections.Counter(name for name, _ in answers if name)
     print(f"the player: {len(numbers)} of {count} allocations refused in turn: {sum(met.values())} met by calls, "
           f"{len(numbers) - sum(met.values()) - len(differing)} by the player itself, {len(differing)} differ")
-    tell_calls(whole, met)
+    for name, count in sorted(met.items()):
+        print(f"  {name}: {count} refusals")
     return len(differing)
 
 

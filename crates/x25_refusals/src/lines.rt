@@ -10,14 +10,6 @@ pub(crate) struct Lines {
     text: Text,
 }
 
-/// The name of an end, and a blank.
-pub(crate) fn end_name(end: Role) -> &'static [u8] {
-    match end {
-        Role::Dte => b"dte ",
-        Role::Dce => b"dce ",
-    }
-}
-
 /// How the line of a frame begins.
 fn mark(from: Role) -> &'static [u8] {
     match from {
@@ -40,10 +32,6 @@ impl Lines {
         self.text.as_slice()
     }
 
-    pub(crate) fn clear(&mut self) {
-        self.text.clear();
-    }
-
     /// Appends characters.
     pub(crate) fn push(&mut self, characters: &[u8]) -> Result<(), AllocError> {
         self.text.try_push(characters)
@@ -64,9 +52,9 @@ impl Lines {
         self.push(b"\n")
     }
 
-    /// Appends a label, a number and a line feed.
-    pub(crate) fn push_number(&mut self, label: &[u8], number: u64) -> Result<(), AllocError> {
-        self.text.try_push_number(label, number)?;
-        self.push(b"\n")
+    /// Appends the line of a call that was refused memory.
+    pub(crate) fn push_refused(&mut self, call: &str) -> Result<(), AllocError> {
+        self.push(call.as_bytes())?;
+        self.push(b" refused\n")
     }
 }

@@ -1,110 +1,86 @@
-//! A script that is played at two ends. An event that is refused memory has to leave all as it was, and then happens
-//! again.
-use crate::counts::{Counts, Kind};
-use crate::ends::{Ends, Outcome, Seen, Trouble};
+//! Plays scripts at a world. A call that is refused memory has to leave all as it was, and is then made again.
 use crate::lines::Lines;
-use crate::scripts::{Act, Script};
-use x25_station::{Cmd, Role};
+use crate::scripts::Act;
+use crate::worlds::{Trouble, Worlds};
+use x25_station::Cmd;
 use x25_world::{Direction, Event};
 
 /// As many frames as a drain delivers at most.
 const MOST_DELIVERIES: u8 = 100;
 
-/// What the player keeps beside the ends: how often calls were made and refused, and what is shown.
-#[derive(Drop)]
-pub(crate) struct Book {
-    pub counts: Counts,
-    pub shown: Lines,
+/// The name of the call that an event is.
+fn name_of(event: Event<'_>) -> &'static str {
+    match event {
+        Event::Command(_, command) => name_of_command(command),
+        Event::Deliver(_) => "World::step(Deliver)",
+        Event::Lose(_, _) => "World::step(Lose)",
+        Event::Damage(_, _, _) => "World::step(Damage)",
+        Event::T1(_) => "World::step(T1)",
+    }
 }
 
-/// Lets an event happen again that was refused memory, where it left all as it was.
-fn happens_again<E: Ends>(
-    ends: &mut E,
-    event: Event<'static>,
-    before: &Seen,
-    shown: &mut Lines,
-) -> Result<Outcome, Trouble> {
-    if ends.seen() != *before || !ends.stands()? {
+/// The same of a command.
+fn name_of_command(command: Cmd<'_>) -> &'static str {
+    match command {
+        Cmd::Call { given: Some(_), .. } | Cmd::Accept { given: Some(_), .. } => {
+            "World::step with something given"
+        }
+        Cmd::Call { params: None, .. } => "World::step(Call)",
+        Cmd::Call { .. } => "World::step(Call) with sizes",
+        Cmd::Accept { params: None, .. } => "World::step(Accept)",
+        Cmd::Accept { .. } => "World::step(Accept) with sizes",
+        Cmd::Send { .. } => "World::step(Send)",
+        Cmd::Connect => "World::step(Connect)",
+        _ => "World::step of another command",
+    }
+}
+
+fn happens(world: &mut Worlds, event: Event<'static>, shown: &mut Lines) -> Result<(), Trouble> {
+    let before = world.seen()?;
+    if world.happens(event, shown)? {
+        return Ok(());
+    }
+    shown.push_refused(name_of(event))?;
+    if !world.stands_as(&before)? {
         return Err(Trouble::Changed);
     }
-    ends.happens(event, shown)
-}
-
-fn happens<E: Ends>(
-    ends: &mut E,
-    event: Event<'static>,
-    book: &mut Book,
-) -> Result<Outcome, Trouble> {
-    let kind = Kind::of(event);
-    book.counts.called(kind);
-    let before = ends.seen();
-    match ends.happens(event, &mut book.shown)? {
-        Outcome::NoMemory => {
-            book.counts.refused(kind);
-            happens_again(ends, event, &before, &mut book.shown)
-        }
-        outcome => Ok(outcome),
-    }
-}
-
-fn plays_event<E: Ends>(
-    ends: &mut E,
-    event: Event<'static>,
-    book: &mut Book,
-) -> Result<(), Trouble> {
-    match happens(ends, event, book)? {
-        Outcome::Accepted => Ok(()),
-        Outcome::Refused(number) => Ok(book.shown.push_number(b"! ", u64::from(number))?),
-        Outcome::NoMemory => Err(Trouble::NoMemory),
-    }
-}
-
-/// The direction of the next delivery of a drain.
-fn next_delivery(seen: &Seen) -> Option<Direction> {
-    if seen.to_dce > 0 {
-        Some(Direction::ToDce)
-    } else if seen.to_dte > 0 {
-        Some(Direction::ToDte)
+    if world.happens(event, shown)? {
+        Ok(())
     } else {
-        None
+        Err(Trouble::NoMemory)
     }
 }
 
-fn drains<E: Ends>(ends: &mut E, book: &mut Book) -> Result<(), Trouble> {
+fn drains(world: &mut Worlds, shown: &mut Lines) -> Result<(), Trouble> {
     for _ in 0..MOST_DELIVERIES {
-        let Some(direction) = next_delivery(&ends.seen()) else {
+        let Some(direction) = world.next_delivery() else {
             return Ok(());
         };
-        plays_event(ends, Event::Deliver(direction), book)?;
+        happens(world, Event::Deliver(direction), shown)?;
     }
     Ok(())
 }
 
-/// The user of this end sends this message on channel 1.
-fn message(end: Role, user: &'static [u8]) -> Event<'static> {
-    Event::Command(
-        end,
-        Cmd::Send {
-            channel: 1,
-            q: false,
-            d: false,
-            user,
-        },
-    )
+/// The line is good for a moment. Where memory is refused, what was told stands, and the line is good again.
+fn heals(world: &mut Worlds, shown: &mut Lines) -> Result<(), Trouble> {
+    if world.heals(shown)? {
+        return Ok(());
+    }
+    shown.push_refused("World::heal")?;
+    if world.heals(shown)? {
+        Ok(())
+    } else {
+        Err(Trouble::NoMemory)
+    }
 }
 
 /// Plays what a script says.
-pub(crate) fn plays<E: Ends>(
-    ends: &mut E,
-    script: &Script,
-    book: &mut Book,
-) -> Result<(), Trouble> {
-    for act in script.acts {
+pub(crate) fn plays(world: &mut Worlds, acts: &[Act], shown: &mut Lines) -> Result<(), Trouble> {
+    for act in acts {
         match *act {
-            Act::Do(event) => plays_event(ends, event, book)?,
-            Act::Send(end, user) => plays_event(ends, message(end, user), book)?,
-            Act::Drain => drains(ends, book)?,
-            Act::Heal => ends.heals(&mut book.counts, &mut book.shown)?,
+            Act::Do(event) => happens(world, event, shown)?,
+            Act::Drain => drains(world, shown)?,
+            Act::Heal => heals(world, shown)?,
         }
     }
     Ok(())

@@ -1,69 +1,42 @@
-//! Scripts of two stations, and of the line between them.
-use Act::{Do, Drain, Heal, Send};
+//! Scripts of two stations and the line between them, in which each kind of call that asks for memory stands.
+use Act::{Do, Drain, Heal};
 use x25_layer::Params;
 use x25_station::{Cfg, Cmd, Given, Ranges};
-use x25_world::Direction::{ToDce, ToDte};
-use x25_world::Event::{Command, Damage, Deliver, Lose, T1};
+use x25_world::Direction::ToDce;
+use x25_world::Event::{self, Command, Damage, Lose, T1};
 use x25_world::Role::{Dce, Dte};
-use x25_world::{Event, Role};
 
 /// What is played.
 #[derive(Clone, Copy)]
 pub(crate) enum Act {
     Do(Event<'static>),
-    /// The user of this end sends this message on channel 1.
-    Send(Role, &'static [u8]),
     /// Deliveries, first those to the DCE, until nothing is on the line.
     Drain,
     /// The line is good for a moment.
     Heal,
 }
 
-/// What is played at two ends.
+/// What is played at a world.
 #[derive(Clone, Copy)]
 pub(crate) struct Script {
     pub name: &'static str,
     pub cfg: Cfg,
+    /// Whether the link was just set up, or both links are down.
+    pub is_up: bool,
     pub acts: &'static [Act],
 }
+
+const CHANNELS: Ranges = Ranges {
+    count: 1,
+    incoming: 0,
+    outgoing: 0,
+    message: 65_535,
+};
 
 const USUAL: Cfg = Cfg {
     k: 7,
     n2: 10,
-    channels: Ranges {
-        count: 1,
-        incoming: 0,
-        outgoing: 0,
-        message: 65_535,
-    },
-    long_data: false,
-    say_sizes: false,
-    wide: false,
-};
-
-const ONE_TRY: Cfg = Cfg {
-    k: 7,
-    n2: 1,
-    channels: Ranges {
-        count: 1,
-        incoming: 0,
-        outgoing: 0,
-        message: 65_535,
-    },
-    long_data: false,
-    say_sizes: false,
-    wide: false,
-};
-
-const WINDOW_OF_ONE: Cfg = Cfg {
-    k: 1,
-    n2: 10,
-    channels: Ranges {
-        count: 1,
-        incoming: 0,
-        outgoing: 0,
-        message: 65_535,
-    },
+    channels: CHANNELS,
     long_data: false,
     say_sizes: false,
     wide: false,
@@ -72,24 +45,11 @@ const WINDOW_OF_ONE: Cfg = Cfg {
 const WIDE: Cfg = Cfg {
     k: 7,
     n2: 10,
-    channels: Ranges {
-        count: 1,
-        incoming: 0,
-        outgoing: 0,
-        message: 65_535,
-    },
+    channels: CHANNELS,
     long_data: false,
     say_sizes: false,
     wide: true,
 };
-
-const CONNECTS: Act = Do(Command(Dte, Cmd::Connect));
-
-const DISCONNECTS: Act = Do(Command(Dte, Cmd::Disconnect));
-
-const PROBES: Act = Do(Command(Dte, Cmd::Probe));
-
-const RELINKS: Act = Do(Command(Dte, Cmd::Relink));
 
 const CALLS: Act = Do(Command(
     Dte,
@@ -97,28 +57,6 @@ const CALLS: Act = Do(Command(
         called: "123",
         calling: "4567",
         user: b"A",
-        params: None,
-        given: None,
-    },
-));
-
-const CALLS_12: Act = Do(Command(
-    Dte,
-    Cmd::Call {
-        called: "1",
-        calling: "2",
-        user: b"",
-        params: None,
-        given: None,
-    },
-));
-
-const DCE_CALLS_34: Act = Do(Command(
-    Dce,
-    Cmd::Call {
-        called: "3",
-        calling: "4",
-        user: b"",
         params: None,
         given: None,
     },
@@ -156,19 +94,6 @@ const CALLS_WITH: Act = Do(Command(
     },
 ));
 
-const ACCEPTS_WITH: Act = Do(Command(
-    Dce,
-    Cmd::Accept {
-        channel: 1,
-        params: None,
-        given: Some(&Given {
-            facilities: &[],
-            user: b"hi",
-            d: true,
-        }),
-    },
-));
-
 const ACCEPTS: Act = Do(Command(
     Dce,
     Cmd::Accept {
@@ -192,31 +117,28 @@ const ANSWERS: Act = Do(Command(
     },
 ));
 
-const CLEAR: Cmd<'static> = Cmd::Clear {
-    channel: 1,
-    cause: 0,
-    diagnostic: 0,
-    given: None,
-};
+const ACCEPTS_WITH: Act = Do(Command(
+    Dce,
+    Cmd::Accept {
+        channel: 1,
+        params: None,
+        given: Some(&Given {
+            facilities: &[],
+            user: b"hi",
+            d: true,
+        }),
+    },
+));
 
-const CLEARS: Act = Do(Command(Dte, CLEAR));
-
-const DCE_CLEARS: Act = Do(Command(Dce, CLEAR));
-
-const RESET: Cmd<'static> = Cmd::Reset {
-    channel: 1,
-    cause: 0,
-    diagnostic: 0,
-};
-
-const RESETS: Act = Do(Command(Dte, RESET));
-
-const RESTART: Cmd<'static> = Cmd::Restart {
-    cause: 0,
-    diagnostic: 0,
-};
-
-const RESTARTS: Act = Do(Command(Dte, RESTART));
+const SENDS: Act = Do(Command(
+    Dte,
+    Cmd::Send {
+        channel: 1,
+        q: false,
+        d: false,
+        user: b"hi",
+    },
+));
 
 const INTERRUPTS: Act = Do(Command(
     Dte,
@@ -226,27 +148,46 @@ const INTERRUPTS: Act = Do(Command(
     },
 ));
 
-const PULLS: Act = Do(Command(Dte, Cmd::Pull));
+const RESETS: Act = Do(Command(
+    Dte,
+    Cmd::Reset {
+        channel: 1,
+        cause: 0,
+        diagnostic: 0,
+    },
+));
 
-const IS_READY: Act = Do(Command(Dte, Cmd::Ready { channel: 1 }));
+const CLEARS: Act = Do(Command(
+    Dte,
+    Cmd::Clear {
+        channel: 1,
+        cause: 0,
+        diagnostic: 0,
+        given: None,
+    },
+));
 
-const DCE_IS_READY: Act = Do(Command(Dce, Cmd::Ready { channel: 1 }));
+const RESTARTS: Act = Do(Command(
+    Dte,
+    Cmd::Restart {
+        cause: 0,
+        diagnostic: 0,
+    },
+));
 
-const DCE_IS_NOT_READY: Act = Do(Command(Dce, Cmd::NotReady { channel: 1 }));
+const CONNECTS: Act = Do(Command(Dte, Cmd::Connect));
 
-const T1_FIRES: Act = Do(T1(Dte));
+const IS_NOT_READY: Act = Do(Command(Dce, Cmd::NotReady { channel: 1 }));
+
+const IS_READY: Act = Do(Command(Dce, Cmd::Ready { channel: 1 }));
 
 const LOSES: Act = Do(Lose(ToDce, 0));
 
-const COMES: Act = Do(Deliver(ToDce));
-
-const COMES_BACK: Act = Do(Deliver(ToDte));
-
-/// Played at two stations, and at a world.
-pub(crate) static SCRIPTS: [Script; 12] = [
+pub(crate) static SCRIPTS: [Script; 6] = [
     Script {
-        name: "a call, and two messages",
+        name: "messages to an end that isn't ready, an interrupt, a reset and a clear",
         cfg: USUAL,
+        is_up: false,
         acts: &[
             CONNECTS,
             Drain,
@@ -254,174 +195,68 @@ pub(crate) static SCRIPTS: [Script; 12] = [
             Drain,
             ACCEPTS,
             Drain,
-            Send(Dte, b"hi"),
-            Send(Dte, b""),
+            IS_NOT_READY,
             Drain,
-        ],
-    },
-    Script {
-        name: "two calls collide, and both ends clear at once",
-        cfg: USUAL,
-        acts: &[
-            CONNECTS,
+            SENDS,
+            SENDS,
+            INTERRUPTS,
             Drain,
-            CALLS_12,
-            DCE_CALLS_34,
+            IS_READY,
+            Drain,
+            RESETS,
             Drain,
             CLEARS,
-            DCE_CLEARS,
             Drain,
         ],
     },
     Script {
-        name: "a reset and a clear, and a call under the next name",
+        name: "an idle link that is polled, a restart, and the end of the link",
         cfg: USUAL,
-        acts: &[
-            CONNECTS, Drain, CALLS, Drain, ACCEPTS, Drain, RESETS, CLEARS, Drain, CALLS_12, Drain,
-        ],
-    },
-    Script {
-        name: "a link that is given up",
-        cfg: ONE_TRY,
-        acts: &[
-            CONNECTS, COMES, COMES_BACK, LOSES, T1_FIRES, T1_FIRES, CALLS_12,
-        ],
-    },
-    Script {
-        name: "timer T1 fires early",
-        cfg: USUAL,
+        is_up: false,
         acts: &[
             CONNECTS,
             Drain,
-            CALLS,
+            Do(Command(Dte, Cmd::Probe)),
             Drain,
-            ACCEPTS,
-            Drain,
-            Send(Dte, b"a"),
-            T1_FIRES,
-            Drain,
-        ],
-    },
-    Script {
-        name: "an I frame is lost, and comes again",
-        cfg: USUAL,
-        acts: &[
-            CONNECTS,
+            Do(Command(Dte, Cmd::Relink)),
             Drain,
             CALLS,
+            RESTARTS,
             Drain,
-            ACCEPTS,
-            Drain,
-            Send(Dte, b"a"),
-            LOSES,
-            Drain,
-            T1_FIRES,
+            Do(Command(Dte, Cmd::Pull)),
+            Do(Command(Dte, Cmd::Disconnect)),
             Drain,
         ],
     },
     Script {
         name: "a call that proposes sizes and windows",
         cfg: USUAL,
+        is_up: false,
         acts: &[CONNECTS, Drain, PROPOSES, Drain, ANSWERS, Drain],
     },
     Script {
         name: "facilities with a call, and user data with its acceptance",
         cfg: WIDE,
+        is_up: false,
         acts: &[CONNECTS, Drain, CALLS_WITH, Drain, ACCEPTS_WITH, Drain],
     },
     Script {
-        name: "an interrupt, and messages to an end that isn't ready",
-        cfg: USUAL,
-        acts: &[
-            CONNECTS,
-            Drain,
-            CALLS,
-            Drain,
-            ACCEPTS,
-            Drain,
-            DCE_IS_NOT_READY,
-            Drain,
-            Send(Dte, b"a"),
-            Send(Dte, b"b"),
-            INTERRUPTS,
-            Drain,
-            DCE_IS_READY,
-            Drain,
-        ],
-    },
-    Script {
-        name: "a message that waits behind nine packets, and is pulled",
-        cfg: WINDOW_OF_ONE,
-        acts: &[
-            CONNECTS,
-            Drain,
-            CALLS,
-            Drain,
-            ACCEPTS,
-            Drain,
-            IS_READY,
-            IS_READY,
-            IS_READY,
-            IS_READY,
-            IS_READY,
-            IS_READY,
-            IS_READY,
-            IS_READY,
-            IS_READY,
-            Send(Dte, b"a"),
-            Drain,
-            PULLS,
-            Drain,
-        ],
-    },
-    Script {
-        name: "an idle link that is polled, and set up anew",
-        cfg: USUAL,
-        acts: &[CONNECTS, Drain, PROBES, Drain, RELINKS, Drain],
-    },
-    Script {
-        name: "a restart, and the end of the link",
-        cfg: USUAL,
-        acts: &[
-            CONNECTS,
-            Drain,
-            CALLS,
-            Drain,
-            RESTARTS,
-            CALLS,
-            Drain,
-            DISCONNECTS,
-            Drain,
-        ],
-    },
-];
-
-/// Played at a world alone, whose line damages and heals too, from link set-up on.
-pub(crate) static OF_WORLDS_UP: [Script; 2] = [
-    Script {
         name: "a frame is damaged, and comes again",
         cfg: USUAL,
+        is_up: true,
         acts: &[
             Drain,
             CALLS,
             Do(Damage(ToDce, 0, b"\x01\x22")),
             Drain,
-            T1_FIRES,
+            Do(T1(Dte)),
             Drain,
         ],
     },
     Script {
         name: "an I frame is lost, and the line is good then",
         cfg: USUAL,
-        acts: &[
-            Drain,
-            CALLS,
-            Drain,
-            ACCEPTS,
-            Drain,
-            Send(Dte, b"a"),
-            LOSES,
-            Heal,
-        ],
+        is_up: true,
+        acts: &[Drain, CALLS, Drain, ACCEPTS, Drain, SENDS, LOSES, Heal],
     },
 ];
