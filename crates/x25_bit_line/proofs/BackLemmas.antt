@@ -1,29 +1,18 @@
 -- A trace that is framed and found again.
-use Rattle.std.proofs.Common.{◌≡◌, ◌≢◌, ◌∙◌, ◌+◌, ◌-◌, ◌*◌, ◌/◌, ◌%◌, ◌<◌, ◌≤◌, ◌⊎◌, inl, inr, ◌==◌, nat_eq, nat_le, ℕ, zero, suc, Bool, true, false, not, List}
-use Rattle.std.proofs.Common.{[], ◌∷◌, ◌++◌, length, take, drop, map, Some, append_assoc, ap, sym, refl, arith, length-append, length-drop, length-take-le}
-use Rattle.std.proofs.Common.{le-leb, flat_map}
-use Rattle.std.specs.Prelude.{replicate, slice_index, All, option_map}
-use Rattle.std.specs.Fmt.{digit_glyph}
-use Rattle.std.specs.Result.{result_ok}
-use Rattle.std.proofs.lemmas.Bool.{agree_below, agree_below_at, cases_lt, eqb-true}
-use Rattle.std.proofs.lemmas.List.{length-replicate, take-append-drop}
-use Rattle.std.proofs.Math.ListN.{get_or-eq_default}
-use Rattle.hex.specs.Hex.{decode_of, encode_lower, encode_with, lower_digits}
-use Rattle.hex.proofs.HexLemmas.{decode_of-encode_lower}
-use Rattle.x25_bits.specs.FrameCheck.{bits_of, low_bits, number_of}
-use Rattle.x25_bits.specs.Found.{Content, found_of, octets_by, octets_of}
-use Rattle.x25_bits.specs.Deframer.{flag, between, begins_with_flag, is_flag_at, places_below}
-use Rattle.x25_bits.specs.Stuffing.{filled, framed, stuff}
-use Rattle.x25_bits.specs.declared.role.Role.{Role}
-use Rattle.x25_bits.specs.declared.role.Role.TheVariants.{Dte, Dce}
+use Rattle.x25_bit_line.proofs.Names.{◌≡◌, ◌∙◌, ◌+◌, ◌-◌, ◌*◌, ◌/◌, ◌<◌, ◌≤◌, ℕ, zero, suc, Bool, true, false, List, [], ◌∷◌, ◌++◌, length, take, drop}
+use Rattle.x25_bit_line.proofs.Names.{append_assoc, ap, sym, refl, arith, length-append, length-drop, length-take-le, take-append-drop, number_of, octets_by}
+use Rattle.hex.{proofs.HexLemmas.{decode_of-encode_lower}, specs.Hex.{decode_of, encode_lower, encode_with, lower_digits}}
+use Rattle.std.proofs.{Common.{◌≢◌, ◌%◌, ◌⊎◌, inl, inr, ◌==◌, nat_eq, nat_le, not, map, Some, le-leb, flat_map}, Math.ListN.{get_or-eq_default}}
+use Rattle.std.{proofs.lemmas.Bool.{agree_below, agree_below_at, cases_lt, eqb-true}, proofs.lemmas.List.{length-replicate}, specs.Fmt.{digit_glyph}}
+use Rattle.std.specs.{Prelude.{replicate, slice_index, All, option_map}, Result.{result_ok}}
+use Rattle.x25_bit_line.proofs.{FrameLineLemmas.{bits_on, no_bits, sends_frame}, Names.{octets_of, filled, Role, framed_bits, line_bits}}
+use Rattle.x25_bit_line.specs.{Deframing.{class_lines, deframed, trace_line}, Framing.{framed_octets}, laws.Trace.{AreContents, trace_text}}
+use Rattle.x25_bits.specs.{Deframer.{flag, between, begins_with_flag, is_flag_at, places_below}, Found.{Content, found_of}, FrameCheck.{bits_of, low_bits}}
+use Rattle.x25_bits.specs.{Stuffing.{framed, stuff}, declared.role.Role.TheVariants.{Dte, Dce}}
 use Rattle.x25_decode.specs.Decoding.{mark_of, octets_in, sent_in}
+use Rattle.x25_io.proofs.LineLemmas.{ends_line, open-append}
 use Rattle.x25_io.specs.Lines.{IsOpen}
 use Rattle.x25_text.specs.Text.{octet_text}
-use Rattle.x25_bit_line.specs.Deframing.{class_lines, deframed, trace_line}
-use Rattle.x25_bit_line.specs.Framing.{framed_bits, framed_octets, line_bits}
-use Rattle.x25_bit_line.specs.laws.Trace.{AreContents, trace_text}
-use Rattle.x25_io.proofs.LineLemmas.{ends_line, open-append}
-use Rattle.x25_bit_line.proofs.FrameLineLemmas.{bits_on, no_bits, sends_frame}
 
 -- ---- digits
 

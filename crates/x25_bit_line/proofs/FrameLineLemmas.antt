@@ -1,16 +1,11 @@
 -- Lines of a trace, one after another.
-use Rattle.std.proofs.Common.{◌≡◌, ◌∙◌, ◌<◌, ◌≤◌, ◌||◌, ℕ, Bool, true, false, not, List, [], ◌∷◌, ◌++◌, length, Some, None, Result, Ok, Err, ap, sym, refl}
-use Rattle.std.proofs.Common.{arith, nat_le, le-leb}
+use Rattle.x25_bit_line.proofs.Names.{◌≡◌, ◌∙◌, ◌<◌, ◌≤◌, ℕ, Bool, true, false, List, [], ◌∷◌, ◌++◌, length, ap, sym, refl, arith, flat_map, Role, framed_bits}
+use Rattle.std.proofs.{Common.{◌||◌, not, Some, None, Result, Ok, Err, nat_le, le-leb}, Math.Bool.{and-true, or-false}, lemmas.Bool.Decides.{nat_tests}}
 use Rattle.std.specs.Prelude.{OnOk, ◌&&◌, is_some}
-use Rattle.std.specs.List.{flat_map}
-use Rattle.std.proofs.lemmas.Bool.Decides.{nat_tests}
-use Rattle.std.proofs.Math.Bool.{and-true, or-false}
+use Rattle.x25_bit_line.{proofs.Names.{line_bits}, specs.Framing.{begins_by_mark, is_wrong, sent_bits}}
 use Rattle.x25_bits.specs.Stuffing.{framed}
-use Rattle.x25_bits.specs.declared.role.Role.{Role}
-use Rattle.x25_io.specs.HeldLine.{most_line}
-use Rattle.x25_io.specs.Lines.{lines_of}
 use Rattle.x25_decode.specs.Decoding.{gap_in, is_refused, sent_in}
-use Rattle.x25_bit_line.specs.Framing.{begins_by_mark, framed_bits, is_wrong, line_bits, sent_bits}
+use Rattle.x25_io.specs.{HeldLine.{most_line}, Lines.{lines_of}}
 
 -- ---- one line
 

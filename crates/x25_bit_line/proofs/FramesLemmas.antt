@@ -1,25 +1,12 @@
 -- The bits sent for lines.
-use Rattle.std.proofs.Common.{◌≡◌, ◌∙◌, ◌||◌, ℕ, Bool, false, List, [], ◌∷◌, ◌++◌, Option, append_assoc, ap, sym, subst, refl, arith}
-use Rattle.std.specs.List.{flat_map, list_any}
-use Rattle.std.proofs.lemmas.List.{append-nil}
-use Rattle.std.proofs.Math.Bool.{or_assoc, or-false}
-use Rattle.x25_bits.specs.Found.{octets_by, octets_of}
-use Rattle.x25_bits.specs.Stuffing.{filled}
+use Rattle.x25_bit_line.proofs.Names.{◌≡◌, ◌∙◌, ℕ, Bool, false, List, [], ◌∷◌, ◌++◌, Option, append_assoc, ap, sym, subst, refl, arith, flat_map, append-nil}
+use Rattle.std.{proofs.Common.{◌||◌}, proofs.Math.Bool.{or_assoc, or-false}, specs.List.{list_any}}
+use Rattle.x25_bit_line.proofs.{Names.{octets_by, octets_of, filled, AppendsPrefix, Tells, prefix_more, framed_bits, line_bits}, TellingLemmas.{told_all}}
+use Rattle.x25_bit_line.specs.{Framing.{framed_octets, has_wrong, is_wrong}, LineBits.{Sends}, code.Frames.{FramesOn, WritesLines}}
+use Rattle.x25_bit_line.specs.declared.{frame_sender.FrameSender.{FrameSender}, line_bits.LineBits.{LineBits}}
+use Rattle.x25_io.proofs.{LooseLemmas.{lines_asked}, TakerLemmas.{between}, ToldLemmas.{none_told, told_prefix}}
 use Rattle.x25_io.specs.HeldLine.{HoldsLine}
-use Rattle.x25_io.specs.declared.held_line.HeldLine.{HeldLine}
-use Rattle.x25_io.specs.Lines.{lines_of}
-use Rattle.x25_io.specs.Loose.{asked_lines, asked_text}
-use Rattle.x25_io.specs.code.LinesLead.{LinesLead}
-use Rattle.x25_io.proofs.LooseLemmas.{lines_asked}
-use Rattle.x25_io.proofs.TakerLemmas.{between}
-use Rattle.x25_io.specs.code.Written.{AppendsPrefix, Tells}
-use Rattle.x25_io.proofs.ToldLemmas.{prefix_more, none_told, told_prefix}
-use Rattle.x25_bit_line.specs.Framing.{framed_bits, framed_octets, has_wrong, is_wrong, line_bits}
-use Rattle.x25_bit_line.specs.LineBits.{Sends}
-use Rattle.x25_bit_line.specs.code.Frames.{FramesOn, WritesLines}
-use Rattle.x25_bit_line.specs.declared.frame_sender.FrameSender.{FrameSender}
-use Rattle.x25_bit_line.specs.declared.line_bits.LineBits.{LineBits}
-use Rattle.x25_bit_line.proofs.TellingLemmas.{told_all}
+use Rattle.x25_io.specs.{Lines.{lines_of}, Loose.{asked_lines, asked_text}, code.LinesLead.{LinesLead}, declared.held_line.HeldLine.{HeldLine}}
 
 -- before anything is read
 start : (old : Option (List ℕ)) (s : FrameSender) (input : List ℕ) → s.bits.bits ≡ [] → s.output ≡ [] → s.is_wrong ≡ false

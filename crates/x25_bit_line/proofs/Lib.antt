@@ -1,3 +1,4 @@
+pub mod Names
 pub mod TellingLemmas
 pub mod ReadsLemmas
 pub mod OctetLemmas

@@ -1,11 +1,8 @@
 -- Bits and the octet that they write.
-use Rattle.std.proofs.Common.{◌≡◌, ◌∙◌, ◌+◌, ◌-◌, ◌*◌, ◌^◌, ◌<◌, ◌≤◌, ℕ, suc, Bool, true, false, List, [], ◌∷◌, ◌++◌, length, take, drop, get_or, ap, sym}
-use Rattle.std.proofs.Common.{subst, refl, arith, length-drop, length-take-le}
-use Rattle.std.specs.Prelude.{slice_index_or}
-use Rattle.std.specs.Int.{from_bool}
-use Rattle.std.proofs.lemmas.List.{drop_all, get_or-drop, get_or-take, take_more}
-use Rattle.std.proofs.Math.Seq.{drop-cons}
-use Rattle.x25_bits.specs.FrameCheck.{number_of}
+use Rattle.x25_bit_line.proofs.Names.{◌≡◌, ◌∙◌, ◌+◌, ◌-◌, ◌*◌, ◌<◌, ◌≤◌, ℕ, suc, Bool, true, false, List, [], ◌∷◌, ◌++◌, length, take, drop, ap, sym, subst}
+use Rattle.x25_bit_line.proofs.Names.{refl, arith, length-drop, length-take-le, number_of}
+use Rattle.std.proofs.{Common.{◌^◌, get_or}, Math.Seq.{drop-cons}, lemmas.List.{drop_all, get_or-drop, get_or-take, take_more}}
+use Rattle.std.specs.{Int.{from_bool}, Prelude.{slice_index_or}}
 
 pub no_octet : (place : ℕ) (bits : List Bool) → place + 8 ≤ length bits → 0 ≡ number_of (drop 8 (take 8 (drop place bits)))
 unfolding number_of

@@ -1,23 +1,11 @@
 -- Bits that are read, and the lines for what is found in them.
-use Rattle.std.proofs.Common.{◌≡◌, ◌∙◌, ◌+◌, ◌-◌, ◌*◌, ◌/◌, ◌≤◌, ℕ, zero, suc, Bool, List, [], ◌∷◌, ◌++◌, length, take, drop, Option, append_assoc, ap, sym}
-use Rattle.std.proofs.Common.{subst, refl, arith, length-append}
-use Rattle.std.proofs.lemmas.List.{append-nil, take_all, drop_at, take-append-drop}
-use Rattle.std.proofs.lemmas.Grind.{flat_map-append}
-use Rattle.std.proofs.Math.Seq.{take-add}
-use Rattle.x25_bits.specs.code.Prefix.{IsPrefix}
-use Rattle.x25_bits.specs.laws.Cuts.{found_more}
-use Rattle.x25_bits.specs.FrameCheck.{bits_of, low_bits}
-use Rattle.x25_bits.specs.code.Fits.{Fits}
-use Rattle.x25_bits.specs.code.Reading.{part}
-use Rattle.x25_bits.specs.Found.{Class, found_of}
-use Rattle.x25_bits.specs.Deframer.{between, places_below}
-use Rattle.x25_bits.specs.declared.deframer.Deframer.{Deframer}
-use Rattle.x25_bits.specs.declared.role.Role.{Role}
-use Rattle.x25_io.specs.code.Written.{AppendsPrefix, Tells}
-use Rattle.x25_io.proofs.ToldLemmas.{prefix_more, none_told}
-use Rattle.x25_bit_line.specs.Deframing.{class_line, class_lines}
-use Rattle.x25_bit_line.specs.code.Reads.{Reads, ReadsOn}
-use Rattle.x25_bit_line.specs.declared.finder.Finder.{Finder}
+use Rattle.x25_bit_line.proofs.Names.{◌≡◌, ◌∙◌, ◌+◌, ◌-◌, ◌*◌, ◌/◌, ◌≤◌, ℕ, zero, suc, Bool, List, [], ◌∷◌, ◌++◌, length, take, drop, Option, append_assoc, ap}
+use Rattle.x25_bit_line.proofs.Names.{sym, subst, refl, arith, length-append, append-nil, take-append-drop, Role, AppendsPrefix, Tells, prefix_more}
+use Rattle.std.proofs.{Math.Seq.{take-add}, lemmas.Grind.{flat_map-append}, lemmas.List.{take_all, drop_at}}
+use Rattle.x25_bit_line.specs.{Deframing.{class_line, class_lines}, code.Reads.{Reads, ReadsOn}, declared.finder.Finder.{Finder}}
+use Rattle.x25_bits.specs.{Deframer.{between, places_below}, Found.{Class, found_of}, FrameCheck.{bits_of, low_bits}, code.Fits.{Fits}, code.Prefix.{IsPrefix}}
+use Rattle.x25_bits.specs.{code.Reading.{part}, declared.deframer.Deframer.{Deframer}, laws.Cuts.{found_more}}
+use Rattle.x25_io.proofs.ToldLemmas.{none_told}
 
 length-low_bits : (k n : ℕ) → length (low_bits k n) ≡ k
 unfolding low_bits

@@ -1,14 +1,10 @@
 -- Bits that are sent octet by octet.
-use Rattle.std.proofs.Common.{◌≡◌, ◌∙◌, ◌+◌, ◌-◌, ◌*◌, ◌/◌, ◌%◌, ◌<◌, ◌≤◌, ℕ, zero, suc, Bool, true, List, [], ◌∷◌, ◌++◌, length, take, drop, Option, Result}
-use Rattle.std.proofs.Common.{Ok, Err, append_assoc, ap, sym, subst, refl, arith, length-append, length-drop, length-take-le}
-use Rattle.std.specs.Prelude.{replicate, OnOk}
-use Rattle.std.proofs.lemmas.List.{append-nil, drop_at, drop-drop, take_at, take-append-drop}
-use Rattle.x25_bits.specs.FrameCheck.{number_of}
-use Rattle.x25_bits.specs.Found.{octets_by, octets_of}
-use Rattle.x25_bits.specs.Stuffing.{filled}
-use Rattle.x25_io.specs.code.Written.{AppendsPrefix, Tells, TellsMore}
-use Rattle.x25_io.proofs.ToldLemmas.{prefix_more}
+use Rattle.x25_bit_line.proofs.Names.{◌≡◌, ◌∙◌, ◌+◌, ◌-◌, ◌*◌, ◌/◌, ◌<◌, ◌≤◌, ℕ, zero, suc, Bool, true, List, [], ◌∷◌, ◌++◌, length, take, drop, Option}
+use Rattle.x25_bit_line.proofs.Names.{append_assoc, ap, sym, subst, refl, arith, length-append, length-drop, length-take-le, append-nil, take-append-drop}
+use Rattle.x25_bit_line.proofs.Names.{number_of, octets_by, octets_of, filled, AppendsPrefix, Tells, prefix_more}
+use Rattle.std.{proofs.Common.{◌%◌, Result, Ok, Err}, proofs.lemmas.List.{drop_at, drop-drop, take_at}, specs.Prelude.{replicate, OnOk}}
 use Rattle.x25_bit_line.specs.LineBits.{behind_octets, Sends, SendsLine}
+use Rattle.x25_io.specs.code.Written.{TellsMore}
 
 -- the first octet of bits that are filled
 octet_first : (eight rest : List Bool) → length eight ≡ 8 → octets_of (filled (eight ++ rest)) ≡ number_of eight ∷ octets_of (filled rest)

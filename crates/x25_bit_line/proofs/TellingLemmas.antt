@@ -1,12 +1,8 @@
 -- Digits that are told a part at a time.
-use Rattle.std.proofs.Common.{◌≡◌, ◌∙◌, ◌≤◌, ℕ, List, [], ◌∷◌, ◌++◌, length, Option, append_assoc, ap, sym, subst, refl, arith}
-use Rattle.std.specs.List.{flat_map}
-use Rattle.std.specs.Io.KnownBytes.{Appends}
-use Rattle.std.proofs.lemmas.Grind.{flat_map-append}
-use Rattle.std.proofs.lemmas.List.{append-nil}
+use Rattle.x25_bit_line.proofs.Names.{◌≡◌, ◌∙◌, ◌≤◌, ℕ, List, [], ◌∷◌, ◌++◌, length, Option, append_assoc, ap, sym, subst, refl, arith, flat_map, append-nil}
+use Rattle.x25_bit_line.proofs.Names.{AppendsPrefix, Tells, prefix_more}
+use Rattle.std.{proofs.lemmas.Grind.{flat_map-append}, specs.Io.KnownBytes.{Appends}}
 use Rattle.x25_text.specs.Text.{octet_text}
-use Rattle.x25_io.specs.code.Written.{AppendsPrefix, Tells}
-use Rattle.x25_io.proofs.ToldLemmas.{prefix_more}
 
 -- all that was told is written
 pub told_all : (old now : Option (List ℕ)) (text told : List ℕ) → Tells old now text told → text ≡ [] → Appends old now told

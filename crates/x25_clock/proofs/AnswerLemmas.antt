@@ -1,22 +1,11 @@
 -- One who obeys his clock is told the answer: until then it is awaited.
-use Rattle.std.proofs.Common.{◌≡◌, ℕ, ◌≤◌, ◌⊎◌, inl, inr, List, [], ◌∷◌, Bool, true, false, refl, sym, ap, subst, ◌∙◌}
+use Rattle.x25_clock.proofs.Names.{◌≡◌, ℕ, ◌≤◌, ◌⊎◌, inl, inr, List, [], ◌∷◌, Bool, true, false, refl, sym, ap, subst, ◌∙◌, true≢false, Awaits, awaited_at, Up}
+use Rattle.x25_clock.proofs.Names.{is_up, Settings, layer_settings, Station, Outcome, Did, Refused, rank_of, rank, AwaitsStill, Times, Watched, watched, Deed}
 use Rattle.std.specs.List.{list_any}
-use Rattle.std.proofs.lemmas.Bool.{true≢false}
-use Rattle.x25_circuit.specs.declared.awaits.Awaits.{Awaits}
-use Rattle.x25_layer.specs.code.FitsLayer.{awaited_at}
-use Rattle.x25_link.specs.declared.phase.Phase.TheVariants.{Up}
-use Rattle.x25_link.specs.Station.{is_up}
-use Rattle.x25_station.specs.Config.{Settings, layer_settings}
-use Rattle.x25_station.specs.Station.{Station}
-use Rattle.x25_station.specs.Step.{Outcome, Did, Refused}
-use Rattle.x25_station.specs.laws.TimerLaw as timer
-use Rattle.x25_station.specs.laws.EndLaw.{is_answered_on, is_left_on, IsTold, EndIsTold}
-use Rattle.x25_station.specs.laws.WayOutLaw.{rank_of, rank, AwaitsStill}
-use Rattle.x25_clock.specs.declared.times.Times.{Times}
-use Rattle.x25_clock.specs.laws.ClockLaw.{Watched, watched}
-use Rattle.x25_clock.specs.laws.WaitLaw.{Deed, Happens, IsAsked, event_of, found_by, outcome_of, done, AwaitsAll, NothingWaits}
+use Rattle.x25_clock.proofs.{Names.{Happens, IsAsked, event_of, found_by, outcome_of, done, AwaitsAll, NothingWaits}, WaitLemmas.{is_up_high, rank_up}}
 use Rattle.x25_clock.specs.laws.AnswerLaw.{answers, IsUntold, AnswerIsTold}
-use Rattle.x25_clock.proofs.WaitLemmas.{is_up_high, rank_up}
+use Rattle.x25_station.specs.laws.EndLaw.{is_answered_on, is_left_on, IsTold, EndIsTold}
+use Rattle.x25_station.specs.laws.TimerLaw as timer
 
 module _ (c : Settings) (h : ℕ) where
   abbrev awaited : Station → Awaits

@@ -1,24 +1,12 @@
 -- Deadlines stand for what is awaited.
-use Rattle.std.proofs.Common.{◌≡◌, ℕ, zero, suc, ◌+◌, ◌==◌, List, [], ◌∷◌, map, Bool, true, false, not, ◌||◌, if◌then◌else◌, Option, Some, None, refl, sym, ap}
-use Rattle.std.proofs.Common.{◌∙◌, arith}
-use Rattle.std.proofs.lemmas.Bool.{true≢false}
-use Rattle.std.proofs.lemmas.Option.{none-some}
-use Rattle.x25_circuit.specs.declared.awaits.Awaits.{Awaits}
-use Rattle.x25_circuit.specs.declared.awaits.Awaits.TheVariants.{Nothing, Acceptance, ResetConfirmation, ClearConfirmation}
-use Rattle.x25_layer.specs.code.FitsLayer.{awaited_at}
-use Rattle.x25_layer.specs.Layer.{is_channel}
-use Rattle.x25_station.specs.Config.{Settings, layer_settings}
-use Rattle.x25_station.specs.Station.{Station, new_station}
-use Rattle.x25_station.specs.Station.Told.{is_at_rest}
-use Rattle.x25_station.specs.Step.{Outcome, Did, Refused}
-use Rattle.x25_station.specs.Timer.{runs, tells_link, is_acknowledged, timer_of}
+use Rattle.x25_clock.proofs.Names.{◌≡◌, ℕ, zero, suc, ◌+◌, ◌==◌, List, [], ◌∷◌, map, Bool, true, false, not, ◌||◌, if◌then◌else◌, Option, Some, None, refl, sym}
+use Rattle.x25_clock.proofs.Names.{ap, ◌∙◌, arith, true≢false, none-some, Awaits, Nothing, Acceptance, ResetConfirmation, ClearConfirmation, awaited_at}
+use Rattle.x25_clock.proofs.Names.{is_channel, Settings, layer_settings, Station, is_at_rest, Outcome, Did, Refused, runs, tells_link, is_acknowledged}
+use Rattle.x25_clock.proofs.Names.{timer_of, Times, Wait, Deadlines, channels_from, deadline, time_of, number_of, running, is_past, t1_after, wait_after}
+use Rattle.x25_clock.proofs.Names.{renewed, overdue_of, renewed_on, after_due, Moment, Watched, seen_of, heeds, watched_by, watched_from, IsSince, AreAwaited}
+use Rattle.x25_clock.{proofs.Names.{AreTrue}, specs.Clock.{nothing_awaited}, specs.laws.ClockLaw.{Happens, IsDue, Stands, IsAwaited, DeadlinesAreTrue}}
+use Rattle.x25_station.specs.Station.{new_station}
 use Rattle.x25_station.specs.laws.TimerLaw as timer
-use Rattle.x25_clock.specs.declared.times.Times.{Times}
-use Rattle.x25_clock.specs.declared.wait.Wait.{Wait}
-use Rattle.x25_clock.specs.Clock.{Deadlines, nothing_awaited, channels_from, deadline, time_of, number_of, running, is_past, t1_after, wait_after, renewed}
-use Rattle.x25_clock.specs.Clock.{overdue_of, renewed_on, after_due}
-use Rattle.x25_clock.specs.laws.ClockLaw.{Moment, Happens, IsDue, Watched, seen_of, heeds, watched_by, watched_from, IsSince, Stands, IsAwaited, AreAwaited}
-use Rattle.x25_clock.specs.laws.ClockLaw.{AreTrue, DeadlinesAreTrue}
 
 -- ---- a deadline
 
@@ -61,21 +49,10 @@ t1_stands times now more true until h = record { on = λ e. goes_on now more tim
 
 same_number : (a b : Awaits) → (number_of a == number_of b) ≡ true → a ≡ b
 same_number Nothing Nothing e = refl
-same_number Nothing Acceptance e = false_true e
-same_number Nothing ResetConfirmation e = false_true e
-same_number Nothing ClearConfirmation e = false_true e
-same_number Acceptance Nothing e = false_true e
 same_number Acceptance Acceptance e = refl
-same_number Acceptance ResetConfirmation e = false_true e
-same_number Acceptance ClearConfirmation e = false_true e
-same_number ResetConfirmation Nothing e = false_true e
-same_number ResetConfirmation Acceptance e = false_true e
 same_number ResetConfirmation ResetConfirmation e = refl
-same_number ResetConfirmation ClearConfirmation e = false_true e
-same_number ClearConfirmation Nothing e = false_true e
-same_number ClearConfirmation Acceptance e = false_true e
-same_number ClearConfirmation ResetConfirmation e = false_true e
 same_number ClearConfirmation ClearConfirmation e = refl
+same_number a b e = false_true e
 
 module _ (times : Times) (now more : ℕ) where
   wait_true : (old new : ℕ → Awaits) (w : Wait) → IsAwaited times now old w → IsAwaited times (now + more) new (wait_after times (now + more) (new w.channel) w)

@@ -1,12 +1,8 @@
 -- Deadlines: none is past where the next moment isn't, and one stands so long before a moment.
-use Rattle.std.proofs.Common.{◌≡◌, ℕ, ◌+◌, ◌^◌, ◌<◌, ◌≤◌, ◌==◌, List, [], ◌∷◌, Bool, true, false, nat_le, nat_lt, if◌then◌else◌, Option, Some, None, refl, sym}
-use Rattle.std.proofs.Common.{ap, subst, ◌∙◌, arith}
-use Rattle.std.proofs.lemmas.Bool.{eqb-true, leb-true, leb-false, lt-ltb}
-use Rattle.x25_clock.specs.declared.due.Due.{Due}
+use Rattle.x25_clock.proofs.Names.{◌≡◌, ℕ, ◌+◌, ◌^◌, ◌<◌, ◌≤◌, ◌==◌, List, [], ◌∷◌, Bool, true, false, nat_le, if◌then◌else◌, Option, Some, None, refl, sym, ap}
+use Rattle.x25_clock.proofs.Names.{subst, ◌∙◌, arith, eqb-true, leb-true, Due, Wait, Deadlines, deadline, sooner, first_of, next_of, IsNotPast}
+use Rattle.std.proofs.{Common.{nat_lt}, lemmas.Bool.{leb-false, lt-ltb}}
 use Rattle.x25_clock.specs.declared.due.Due.TheVariants as due
-use Rattle.x25_clock.specs.declared.wait.Wait.{Wait}
-use Rattle.x25_clock.specs.Clock.{Deadlines, deadline, sooner, first_of, next_of}
-use Rattle.x25_clock.specs.laws.WaitLaw.{IsNotPast}
 
 -- ---- no deadline is past where the next moment isn't
 

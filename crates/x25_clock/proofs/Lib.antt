@@ -1,3 +1,4 @@
+pub mod Names
 pub mod ListLemmas
 pub mod ListedLemmas
 pub mod ClockLemmas

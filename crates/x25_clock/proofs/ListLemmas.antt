@@ -1,6 +1,6 @@
 -- A list whose elements are changed one after another, from the front.
-use Rattle.std.proofs.Common.{◌≡◌, ℕ, zero, suc, ◌+◌, ◌<◌, ◌≤◌, List, [], ◌∷◌, ◌++◌, length, map, slice_set, slice_index_or, take, drop, refl, sym, ap, ◌∙◌}
-use Rattle.std.proofs.Common.{arith, append-nil}
+use Rattle.x25_clock.proofs.Names.{◌≡◌, ℕ, zero, suc, ◌+◌, ◌<◌, ◌≤◌, List, [], ◌∷◌, ◌++◌, length, map, slice_index_or, drop, refl, sym, ap, ◌∙◌, arith}
+use Rattle.std.proofs.Common.{slice_set, take, append-nil}
 
 -- those from a place on changed
 abbrev pub left_mapped : {A : Type 0} → (A → A) → ℕ → List A → List A
@@ -10,10 +10,9 @@ left_mapped f (suc n) (x ∷ xs) = x ∷ left_mapped f n xs
 
 one_more : {A : Type 0} (f : A → A) (n : ℕ) (xs : List A) (d : A) → n < length xs → left_mapped f (suc n) (slice_set xs n (f (slice_index_or xs n d)))
     ≡ left_mapped f n xs
-one_more f zero [] d low = absurd (omega (arith, low))
 one_more f zero (x ∷ xs) d low = refl
-one_more f (suc n) [] d low = absurd (omega (arith, low))
 one_more f (suc n) (x ∷ xs) d low = ap (λ l. x ∷ l) (one_more f n xs d (omega (arith, low)))
+one_more f n [] d low = absurd (omega (arith, low))
 
 pub changed_more : {A : Type 0} (f : A → A) (n : ℕ) (xs all : List A) (d : A) → n < length xs → left_mapped f n xs ≡ map f all
     → left_mapped f (n + 1) (slice_set xs n (f (slice_index_or xs n d))) ≡ map f all

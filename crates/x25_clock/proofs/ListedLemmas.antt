@@ -1,17 +1,11 @@
 -- The list of a clock, and what it has of each channel.
-use Rattle.std.proofs.Common.{◌≡◌, ℕ, zero, suc, ◌+◌, ◌<◌, ◌≤◌, ◌==◌, nat_le, List, [], ◌∷◌, ◌++◌, length, map, drop, slice_index_or, Bool, true, false, not}
-use Rattle.std.proofs.Common.{if◌then◌else◌, Option, Some, None, refl, sym, ap, subst, ◌∙◌, arith, ◌⊎◌, inl, inr}
-use Rattle.std.proofs.lemmas.Bool.{true≢false, eqb-true, eq-eqb}
+use Rattle.x25_clock.proofs.Names.{◌≡◌, ℕ, zero, suc, ◌+◌, ◌<◌, ◌≤◌, ◌==◌, nat_le, List, [], ◌∷◌, ◌++◌, length, map, drop, slice_index_or, Bool, true, false}
+use Rattle.x25_clock.proofs.Names.{not, if◌then◌else◌, Option, Some, None, refl, sym, ap, subst, ◌∙◌, arith, ◌⊎◌, inl, inr, true≢false, eqb-true, eq-eqb}
+use Rattle.x25_clock.proofs.Names.{Awaits, Nothing, Acceptance, ResetConfirmation, ClearConfirmation, Times, Wait, channels_from, deadline, is_past, sooner}
 use Rattle.std.proofs.lemmas.Bool.Decides.{leb_tells}
-use Rattle.x25_circuit.specs.declared.awaits.Awaits.{Awaits}
-use Rattle.x25_circuit.specs.declared.awaits.Awaits.TheVariants.{Nothing, Acceptance, ResetConfirmation, ClearConfirmation}
 use Rattle.x25_circuit.specs.Awaits.{is_any}
-use Rattle.x25_clock.specs.declared.times.Times.{Times}
-use Rattle.x25_clock.specs.declared.wait.Wait.{Wait}
-use Rattle.x25_clock.specs.Clock.{nothing_on, wait_at, spread, channels_from, deadline, is_past, sooner, number_of, time_of, wait_after, first_of, overdue_of}
-use Rattle.x25_clock.specs.Clock.{renewed}
-use Rattle.x25_clock.specs.Awaited.{AreListed, AwaitsNone}
-use Rattle.x25_clock.proofs.WaitLemmas.{after_channel, renewed_channel}
+use Rattle.x25_clock.proofs.{Names.{number_of, time_of, wait_after, first_of, overdue_of, renewed}, WaitLemmas.{after_channel, renewed_channel}}
+use Rattle.x25_clock.specs.{Awaited.{AreListed, AwaitsNone}, Clock.{nothing_on, wait_at, spread}}
 
 -- ---- what a list has of a channel
 
@@ -201,17 +195,15 @@ more_here h most past (x ∷ ws) w are high is =
 -- ---- those from a place on
 
 pub from_place : (n : ℕ) (ws : List Wait) (d : Wait) → n < length ws → drop n ws ≡ slice_index_or ws n d ∷ drop (suc n) ws
-from_place zero [] d low = absurd (omega (arith, low))
 from_place zero (w ∷ ws) d low = refl
-from_place (suc n) [] d low = absurd (omega (arith, low))
 from_place (suc n) (w ∷ ws) d low = from_place n ws d (omega (arith, low))
+from_place n [] d low = absurd (omega (arith, low))
 
 listed_behind : (n most past : ℕ) (ws : List Wait) (d : Wait) → n < length ws → AreListed most past ws
     → AreListed most (slice_index_or ws n d).channel (drop (suc n) ws)
-listed_behind zero most past [] d low are = absurd (omega (arith, low))
 listed_behind zero most past (w ∷ ws) d low are = are.3
-listed_behind (suc n) most past [] d low are = absurd (omega (arith, low))
 listed_behind (suc n) most past (w ∷ ws) d low are = listed_behind n most w.channel ws d (omega (arith, low)) are.3
+listed_behind n most past [] d low are = absurd (omega (arith, low))
 
 -- the first of these is of the channel
 pub first_here : (n h : ℕ) (ws : List Wait) (d : Wait) → n < length ws → (slice_index_or ws n d).channel ≡ h → wait_at h (drop n ws) ≡ slice_index_or ws n d
@@ -237,22 +229,13 @@ ReadsOn old at past = (h : ℕ) → past < h → wait_at h (drop at old) ≡ wai
 
 module _ (times : Times) (now : ℕ) where
   same_number : (a b : Awaits) → (number_of a == number_of b) ≡ true → is_any a ≡ is_any b
-  same_number Nothing Nothing e = refl
   same_number Nothing Acceptance e = absurd (true≢false (sym e))
   same_number Nothing ResetConfirmation e = absurd (true≢false (sym e))
   same_number Nothing ClearConfirmation e = absurd (true≢false (sym e))
   same_number Acceptance Nothing e = absurd (true≢false (sym e))
-  same_number Acceptance Acceptance e = refl
-  same_number Acceptance ResetConfirmation e = refl
-  same_number Acceptance ClearConfirmation e = refl
   same_number ResetConfirmation Nothing e = absurd (true≢false (sym e))
-  same_number ResetConfirmation Acceptance e = refl
-  same_number ResetConfirmation ResetConfirmation e = refl
-  same_number ResetConfirmation ClearConfirmation e = refl
   same_number ClearConfirmation Nothing e = absurd (true≢false (sym e))
-  same_number ClearConfirmation Acceptance e = refl
-  same_number ClearConfirmation ResetConfirmation e = refl
-  same_number ClearConfirmation ClearConfirmation e = refl
+  same_number a b e = refl
 
   -- what is awaited behind it is any, where that is
   pub after_any : (a : Awaits) (w : Wait) → is_any a ≡ true → is_any (wait_after times now a w).awaits ≡ true
@@ -285,9 +268,7 @@ module _ (times : Times) (now : ℕ) (awaited : ℕ → Awaits) where
     where
       by : (a : Awaits) → is_any a ≡ true → (let x : Wait = if number_of a == 0 then w else nothing_on w.channel in x) ≡ nothing_on w.channel
       by Nothing any = absurd (true≢false (sym any))
-      by Acceptance any = refl
-      by ResetConfirmation any = refl
-      by ClearConfirmation any = refl
+      by a any = refl
 
   -- where nothing is awaited, nothing is left of what was
   pub none_left : (h most past : ℕ) (ws : List Wait) → AreListed most past ws → awaited h ≡ Nothing → heeds (wait_at h ws) ≡ nothing_on h
@@ -326,9 +307,7 @@ module _ (times : Times) (now : ℕ) (awaited : ℕ → Awaits) where
       where
         nothing : (b : Awaits) → is_any b ≡ false → b ≡ Nothing
         nothing Nothing e = refl
-        nothing Acceptance e = absurd (true≢false e)
-        nothing ResetConfirmation e = absurd (true≢false e)
-        nothing ClearConfirmation e = absurd (true≢false e)
+        nothing b e = absurd (true≢false e)
 
         none_up : AwaitsNone awaited past (suc channel)
         none_up k low up = by (k == channel) refl

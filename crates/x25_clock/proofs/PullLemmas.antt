@@ -1,28 +1,13 @@
 -- What is pulled behind a step, and heeded with it, leaves the deadlines as where each is heeded.
-use Rattle.std.proofs.Common.{◌≡◌, ℕ, ◌+◌, ◌==◌, List, [], ◌∷◌, map, Bool, true, false, not, ◌||◌, if◌then◌else◌, Option, Some, None, refl, sym, ap, ◌∙◌, arith}
-use Rattle.std.proofs.lemmas.Bool.{true≢false, eq-eqb, le-ltb}
-use Rattle.x25_circuit.specs.declared.awaits.Awaits.{Awaits}
-use Rattle.x25_link.specs.Station.{LinkStation}
+use Rattle.x25_clock.proofs.Names.{◌≡◌, ℕ, ◌+◌, ◌==◌, List, [], ◌∷◌, map, Bool, true, false, not, ◌||◌, if◌then◌else◌, Option, Some, None, refl, sym, ap, ◌∙◌}
+use Rattle.x25_clock.proofs.Names.{arith, true≢false, eq-eqb, le-ltb, Awaits, LinkStation, awaited_at, Settings, layer_settings, Station, is_at_rest, Step}
+use Rattle.x25_clock.proofs.Names.{Outcome, Did, Refused, runs, tells_link, is_acknowledged, timer_of, IsSettled, Times, Wait, Deadlines, deadline, time_of}
+use Rattle.x25_clock.proofs.Names.{number_of, t1_after, running, wait_after, heeded, Watched, seen_of, heeds, comes, Happens, IsAsked, event_of, found_by, done}
+use Rattle.x25_clock.{proofs.WaitLemmas.{after_channel}, specs.Clock.{Seen}, specs.laws.PullLaw.{seen_pulled, pull, PullIsHeeded}}
 use Rattle.x25_layer.specs.Calls.{PullsAll}
-use Rattle.x25_layer.specs.code.FitsLayer.{awaited_at}
-use Rattle.x25_station.specs.declared.timer.Timer.{Timer}
-use Rattle.x25_station.specs.Command.{Requests}
-use Rattle.x25_station.specs.Config.{Settings, layer_settings}
-use Rattle.x25_station.specs.Entry.{StationEntry}
-use Rattle.x25_station.specs.Pulling.{pulled, pulled_of}
-use Rattle.x25_station.specs.Station.{Station}
-use Rattle.x25_station.specs.Station.Told.{is_at_rest}
-use Rattle.x25_station.specs.Step.{Step, Outcome, Did, Refused, requests}
-use Rattle.x25_station.specs.Timer.{runs, tells_link, is_acknowledged, timer_of, pulled_timer}
-use Rattle.x25_station.specs.laws.SettledLaw.{IsSettled, GoesOn, PullsGoOn}
+use Rattle.x25_station.specs.{Command.{Requests}, Entry.{StationEntry}, Pulling.{pulled, pulled_of}, Step.{requests}, Timer.{pulled_timer}}
+use Rattle.x25_station.specs.{declared.timer.Timer.{Timer}, laws.SettledLaw.{GoesOn, PullsGoOn}}
 use Rattle.x25_station.specs.laws.TimerLaw as timer
-use Rattle.x25_clock.specs.declared.times.Times.{Times}
-use Rattle.x25_clock.specs.declared.wait.Wait.{Wait}
-use Rattle.x25_clock.specs.Clock.{Deadlines, Seen, deadline, time_of, number_of, t1_after, running, wait_after, heeded}
-use Rattle.x25_clock.specs.laws.ClockLaw.{Watched, seen_of, heeds, comes}
-use Rattle.x25_clock.specs.laws.WaitLaw.{Happens, IsAsked, event_of, found_by, done}
-use Rattle.x25_clock.specs.laws.PullLaw.{seen_pulled, pull, PullIsHeeded}
-use Rattle.x25_clock.proofs.WaitLemmas.{after_channel}
 
 -- ---- one deadline, heeded twice at one moment
 

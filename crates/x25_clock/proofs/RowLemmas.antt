@@ -1,7 +1,6 @@
 -- The worked row, by computing.
-use Rattle.std.proofs.Common.{refl, arith}
+use Rattle.x25_clock.{proofs.Names.{refl, arith}, specs.rows.SilentRows.{SilentPeerIsLeft}}
 use Rattle.x25_link.specs.Station.{pumped}
-use Rattle.x25_clock.specs.rows.SilentRows.{SilentPeerIsLeft}
 
 pub silent_peer_is_left : SilentPeerIsLeft
 unfolding pumped

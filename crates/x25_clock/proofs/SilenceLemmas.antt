@@ -1,36 +1,20 @@
 -- One who asks at once what is due hears nothing no longer than the times say.
-use Rattle.std.proofs.Common.{◌≡◌, ℕ, suc, ◌+◌, ◌-◌, ◌*◌, ◌^◌, ◌<◌, ◌≤◌, ◌⊎◌, inl, inr, List, [], ◌∷◌, Bool, true, false, not, ◌||◌, if◌then◌else◌, Option}
-use Rattle.std.proofs.Common.{Some, None, refl, sym, ap, subst, ◌∙◌, arith}
-use Rattle.std.proofs.lemmas.Bool.{true≢false, le-ltb, and_parts}
-use Rattle.std.proofs.lemmas.Nat.{mul-le}
-use Rattle.std.proofs.lemmas.Option.{none-some}
-use Rattle.std.proofs.Math.Nat.{suc-mul}
-use Rattle.x25_link.specs.declared.error.LinkError.TheVariants as link_error
-use Rattle.x25_link.specs.declared.phase.Phase.{Phase}
-use Rattle.x25_link.specs.declared.phase.Phase.TheVariants.{Down, Waiting, Up, Closed}
-use Rattle.x25_link.specs.Station.{LinkStation, is_up}
+use Rattle.x25_clock.proofs.Names.{◌≡◌, ℕ, suc, ◌+◌, ◌^◌, ◌<◌, ◌≤◌, ◌⊎◌, inl, inr, List, [], ◌∷◌, Bool, true, false, not, ◌||◌, if◌then◌else◌, Option, Some}
+use Rattle.x25_clock.proofs.Names.{None, refl, sym, ap, subst, ◌∙◌, arith, true≢false, le-ltb, and_parts, none-some, Phase, Down, Waiting, Up, Closed}
+use Rattle.x25_clock.proofs.Names.{LinkStation, is_up, Settings, Station, is_at_rest, Step, Outcome, Did, Refused, runs, timer_of, tells_link, is_acknowledged}
+use Rattle.x25_clock.proofs.Names.{IsSettled, Due, Times, Wait, Deadlines, deadline, is_past, sooner, running, t1_after, heeded, next_of, overdue_of, unless_on}
+use Rattle.x25_clock.proofs.Names.{due_of, renewed_on, after_due, Moment, Watched, watched_by, watched_from, seen_of, watched, comes, IsSince, AreTrue, Deed}
+use Rattle.x25_clock.proofs.Names.{Happens, IsAsked, later_by, event_of, outcome_of, done, all_done, IsFounded, IsNotPast, AreObeyed, tells}
+use Rattle.std.proofs.{Common.{◌-◌, ◌*◌}, Math.Nat.{suc-mul}, lemmas.Nat.{mul-le}}
+use Rattle.x25_clock.proofs.{ClockLemmas.{deadlines_are_true}, DeadlineLemmas.{past_first, past_second, first_past, Ends, begins_at, end_in_time, or_t1}}
+use Rattle.x25_clock.{proofs.WaitLemmas.{asks}, specs.laws.SilenceLaw.{IsSilent, longest_silence, SilenceEnds, IsIdle, IdleIsAsked}}
 use Rattle.x25_link.specs.Link.{is_idle, timer_runs, timer_step, probe_refusal}
-use Rattle.x25_station.specs.Config.{Settings, link_settings}
-use Rattle.x25_station.specs.Station.{Station}
-use Rattle.x25_station.specs.Station.Told.{is_at_rest}
-use Rattle.x25_station.specs.Step.{Step, Outcome, Did, Refused, follows, unless}
-use Rattle.x25_station.specs.Timer.{runs, timer_of, tells_link, is_acknowledged}
-use Rattle.x25_station.specs.laws.TimerLaw as timer
-use Rattle.x25_station.specs.laws.SettledLaw.{IsSettled, SettledBy, NewIsSettled, StaysSettled, SettledAsks}
+use Rattle.x25_station.specs.{Config.{link_settings}, Step.{follows, unless}, laws.SettledLaw.{SettledBy, NewIsSettled, StaysSettled, SettledAsks}}
 use Rattle.x25_station.specs.laws.UnheardLaw.{MayAsk, IsUnheard, takes, TakesTries, AsksOn, UnheardAsksOn}
-use Rattle.x25_clock.specs.declared.due.Due.{Due}
+use Rattle.x25_link.specs.declared.error.LinkError.TheVariants as link_error
+use Rattle.x25_station.specs.laws.TimerLaw as timer
 use Rattle.x25_clock.specs.declared.due.Due.TheVariants as due
-use Rattle.x25_clock.specs.declared.times.Times.{Times}
-use Rattle.x25_clock.specs.declared.wait.Wait.{Wait}
-use Rattle.x25_clock.specs.Clock.{Deadlines, deadline, is_past, sooner, running, t1_after, heeded, next_of, overdue_of, unless_on, due_of, renewed_on}
-use Rattle.x25_clock.specs.Clock.{after_due}
 use Rattle.x25_clock.specs.laws.ClockLaw as moment
-use Rattle.x25_clock.specs.laws.ClockLaw.{Moment, Watched, watched_by, watched_from, seen_of, watched, comes, IsSince, AreTrue}
-use Rattle.x25_clock.specs.laws.WaitLaw.{Deed, Happens, IsAsked, later_by, event_of, outcome_of, done, all_done, IsFounded, IsNotPast, AreObeyed, tells}
-use Rattle.x25_clock.specs.laws.SilenceLaw.{IsSilent, longest_silence, SilenceEnds, IsIdle, IdleIsAsked}
-use Rattle.x25_clock.proofs.ClockLemmas.{deadlines_are_true}
-use Rattle.x25_clock.proofs.DeadlineLemmas.{past_first, past_second, first_past, Ends, begins_at, end_in_time, or_t1}
-use Rattle.x25_clock.proofs.WaitLemmas.{asks}
 
 -- ---- what is asked, and the deadlines of T1 and of an idle link behind it
 
@@ -160,13 +144,11 @@ waits_runs s is = ap (λ (p : Phase). timer_runs p s) is
 
 quiet_event : (s : Station) (event : timer.StationEvent) → IsUnheard s event → runs s ≡ false → comes event ≡ false
 quiet_event s (timer.Comes octets) is off = absurd (true≢false (sym (waits_runs s.link is) ∙ off))
-quiet_event s (timer.Asks command) is off = refl
-quiet_event s timer.Fires is off = refl
+quiet_event s event is off = refl
 
 one_firing : (event : timer.StationEvent) → timer.is_firing event ≡ true → takes event ≡ 1
-one_firing (timer.Comes octets) is = false_true is
-one_firing (timer.Asks command) is = false_true is
 one_firing timer.Fires is = refl
+one_firing event is = false_true is
 
 same_acked : (before after : LinkStation) → after.outgoing.acked ≡ before.outgoing.acked → is_acknowledged before after ≡ false
 same_acked before after same = le-ltb _ _ (omega (arith, same))
@@ -184,10 +166,9 @@ pub record Silent : Type 0 where
   pub rests : SettledAsks
 
 is_on : Silent → (c : Settings) (p : Phase) (s : Station) → MayAsk p → 1 ≤ c.window → IsSettled c s → s.link.phase ≡ p → IsOn p s
-is_on laws c Down s may least settled is = absurd may
-is_on laws c Closed s may least settled is = absurd may
 is_on laws c Waiting s may least settled is = record { phase = is; on = ap (λ (b : Bool). b || is_at_rest s) (waits_runs s.link is) }
 is_on laws c Up s may least settled is = record { phase = is; on = laws.rests c s least settled (ap is_up is) }
+is_on laws c p s may least settled is = absurd may
 
 settled_after : (c : Settings) (s : Station) (o : Outcome) → IsSettled c s → SettledBy c o → IsSettled c (timer.after s o)
 settled_after c s (Did step) before settled = settled
@@ -275,8 +256,6 @@ module _ (c : Settings) (times : Times) (phase : Phase) (bound : ℕ) (may : May
     -- a link that is up is polled, and T1 runs then; while UA is awaited it runs anyway
     polls_by : (p : Phase) → s.link.phase ≡ p → MayAsk p → e.t1 ≡ w.deadlines.t1 → (step : Step)
         → (let o : Outcome = unless (probe_refusal p) step in AsksOn c s 1 o → IsOn phase (timer.after s o) → tells o ≡ false → Then due.Probe o)
-    polls_by Down is may same step took after quiet = absurd may
-    polls_by Closed is may same step took after quiet = absurd may
     polls_by Waiting is may same step took after quiet =
         let on : runs s ≡ true = waits_runs s.link is in
         let was : Ends bound w.deadlines.t1 (left s) = subst (λ (r : Bool). IsBy bound times r (left s) w.deadlines.t1 w.deadlines.idle) on by in
@@ -288,6 +267,7 @@ module _ (c : Settings) (times : Times) (phase : Phase) (bound : ℕ) (may : May
         (λ on fired. subst (λ (x : Option ℕ). Ends bound x (left s)) (sym same)
         (subst (λ (r : Bool). IsBy bound times r (left s) w.deadlines.t1 w.deadlines.idle) on by))
         (λ off no. absurd (true≢false (sym (behind.asked refl) ∙ no)))
+    polls_by p is may same step took after quiet = absurd may
 
     asked_by : (what : Due) → (let o : Outcome = timer.outcome c s (asks what) in IsOn phase (timer.after s o) → tells o ≡ false → IsUnheard s (asks what)
         → due_of (w.now + later) w.deadlines ≡ Some what → Then what o)
@@ -380,10 +360,8 @@ rest_is_up : (s : Station) → is_at_rest s ≡ true → is_up s.link.phase ≡ 
 rest_is_up s is = (and_parts (is_up s.link.phase) _ (and_parts (is_idle s.link) (not (runs s)) is).0).0
 
 up_is : (p : Phase) → is_up p ≡ true → p ≡ Up
-up_is Down is = false_true is
-up_is Waiting is = false_true is
 up_is Up is = refl
-up_is Closed is = false_true is
+up_is p is = false_true is
 
 rest_is_off : (s : Station) → is_at_rest s ≡ true → runs s ≡ true → ⊥
 rest_is_off s is on = true≢false (sym (and_parts (is_idle s.link) (not (runs s)) is).1 ∙ ap not on)

@@ -1,35 +1,19 @@
 -- An answer is awaited no longer than the times say, where what is due is asked at once.
-use Rattle.std.proofs.Common.{◌≡◌, ℕ, zero, suc, ◌+◌, ◌^◌, ◌<◌, ◌≤◌, ◌==◌, ◌⊎◌, inl, inr, List, [], ◌∷◌, map, Bool, true, false, not, nat_le, if◌then◌else◌}
-use Rattle.std.proofs.Common.{Option, Some, None, refl, sym, ap, subst, ◌∙◌, arith}
-use Rattle.std.proofs.lemmas.Bool.{true≢false, eqb-true, eq-eqb, leb-true, and_parts}
-use Rattle.std.proofs.lemmas.Option.{none-some}
-use Rattle.x25_link.specs.declared.phase.Phase.{Phase}
-use Rattle.x25_link.specs.declared.phase.Phase.TheVariants.{Down, Waiting, Up, Closed}
-use Rattle.x25_link.specs.Outgoing.{waits}
-use Rattle.x25_link.specs.Station.{is_up}
-use Rattle.x25_circuit.specs.declared.awaits.Awaits.{Awaits}
-use Rattle.x25_circuit.specs.declared.awaits.Awaits.TheVariants.{Nothing, Acceptance, ResetConfirmation, ClearConfirmation}
-use Rattle.x25_circuit.specs.declared.state.State.{State}
-use Rattle.x25_circuit.specs.Awaits.{awaited_in}
-use Rattle.x25_layer.specs.Layer.{is_channel}
-use Rattle.x25_layer.specs.code.FitsLayer.{awaited_at}
-use Rattle.x25_station.specs.Config.{Settings, layer_settings}
-use Rattle.x25_station.specs.Station.{Station}
-use Rattle.x25_station.specs.Step.{Step, Outcome, Did, Refused}
-use Rattle.x25_station.specs.Timer.{tells_link}
-use Rattle.x25_station.specs.laws.TimerLaw as timer
-use Rattle.x25_station.specs.laws.WayOutLaw.{rank_in, rank_of, rank, AwaitsStill, LeadsOn, ClearLeadsOn, RestartLeadsOn, RelinkLeadsOn, NothingLeadsBack}
-use Rattle.x25_clock.specs.declared.due.Due.{Due}
-use Rattle.x25_clock.specs.declared.due.Due.TheVariants as due
-use Rattle.x25_clock.specs.declared.times.Times.{Times}
-use Rattle.x25_clock.specs.declared.wait.Wait.{Wait}
-use Rattle.x25_clock.specs.Clock.{Deadlines, channels_from, deadline, is_past, sooner, number_of, time_of, running, wait_after, heeded, next_of, overdue_of}
-use Rattle.x25_clock.specs.Clock.{asked_for, due_on, unless_on, due_of, renewed, renewed_on, after_due}
-use Rattle.x25_clock.specs.laws.ClockLaw.{Watched, seen_of, heeds, watched, IsSince, AreAwaited, AreTrue}
-use Rattle.x25_clock.specs.laws.WaitLaw.{Deed, Happens, IsAsked, later_by, event_of, found_by, outcome_of, done, all_done, IsFounded, IsNotPast, AreObeyed}
-use Rattle.x25_clock.specs.laws.WaitLaw.{tells, AwaitsAll, longest_wait, AreSet, NothingWaits}
+use Rattle.x25_clock.proofs.Names.{◌≡◌, ℕ, zero, suc, ◌+◌, ◌^◌, ◌<◌, ◌≤◌, ◌==◌, ◌⊎◌, inl, inr, List, [], ◌∷◌, map, Bool, true, false, not, nat_le}
+use Rattle.x25_clock.proofs.Names.{if◌then◌else◌, Option, Some, None, refl, sym, ap, subst, ◌∙◌, arith, true≢false, eqb-true, eq-eqb, leb-true, and_parts}
+use Rattle.x25_clock.proofs.Names.{none-some, Phase, Down, Waiting, Up, Closed, is_up, Awaits, Nothing, Acceptance, ResetConfirmation, ClearConfirmation}
+use Rattle.x25_clock.proofs.Names.{is_channel, awaited_at, Settings, layer_settings, Station, Step, Outcome, Did, Refused, tells_link, rank_of, rank}
+use Rattle.x25_clock.proofs.Names.{AwaitsStill, Due, Times, Wait, Deadlines, channels_from, deadline, is_past, sooner, number_of, time_of, running, wait_after}
+use Rattle.x25_clock.proofs.Names.{heeded, next_of, overdue_of, unless_on, due_of, renewed, renewed_on, after_due, Watched, seen_of, heeds, watched, IsSince}
+use Rattle.x25_clock.proofs.Names.{AreAwaited, AreTrue, Deed, Happens, IsAsked, later_by, event_of, found_by, outcome_of, done, all_done, IsFounded, IsNotPast}
+use Rattle.x25_circuit.specs.{Awaits.{awaited_in}, declared.state.State.{State}}
 use Rattle.x25_clock.proofs.ClockLemmas.{happens_true, due_true, deadlines_are_true}
 use Rattle.x25_clock.proofs.DeadlineLemmas.{AreNotPast, waits_past, restart_past, or_t1, Ends, begins_at, end_in_time}
+use Rattle.x25_clock.{proofs.Names.{AreObeyed, tells, AwaitsAll, NothingWaits}, specs.Clock.{asked_for, due_on}, specs.laws.WaitLaw.{longest_wait, AreSet}}
+use Rattle.x25_link.specs.Outgoing.{waits}
+use Rattle.x25_station.specs.laws.WayOutLaw.{rank_in, LeadsOn, ClearLeadsOn, RestartLeadsOn, RelinkLeadsOn, NothingLeadsBack}
+use Rattle.x25_station.specs.laws.TimerLaw as timer
+use Rattle.x25_clock.specs.declared.due.Due.TheVariants as due
 
 -- ---- what is asked, and the deadlines behind it
 
@@ -128,23 +112,18 @@ low_one : {A : Type 0} (n : ℕ) → n ≤ 1 → 2 ≤ n → A
 low_one n low high = absurd (omega (arith, low, high))
 
 pub is_up_high : (p : Phase) (r : Bool) (a : Awaits) → 2 ≤ rank_of p r a → is_up p ≡ true
-is_up_high Down r a high = low_one 0 (omega arith) high
 is_up_high Waiting r a high = low_one 1 (omega arith) high
 is_up_high Up r a high = refl
-is_up_high Closed r a high = low_one 0 (omega arith) high
+is_up_high p r a high = low_one 0 (omega arith) high
 
 is_configured : (p : Phase) (b : Bool) (s : State) → 2 ≤ rank_of p false (if b then awaited_in s else Nothing) → b ≡ true
 is_configured p true s high = refl
-is_configured Down false s high = low_one 0 (omega arith) high
 is_configured Waiting false s high = low_one 1 (omega arith) high
-is_configured Up false s high = low_one 0 (omega arith) high
-is_configured Closed false s high = low_one 0 (omega arith) high
+is_configured p false s high = low_one 0 (omega arith) high
 
 pub rank_up : (p : Phase) (r : Bool) (a : Awaits) → is_up p ≡ true → rank_of p r a ≡ rank_of Up r a
-rank_up Down r a up = absurd (true≢false (sym up))
-rank_up Waiting r a up = absurd (true≢false (sym up))
 rank_up Up r a up = refl
-rank_up Closed r a up = absurd (true≢false (sym up))
+rank_up p r a up = absurd (true≢false (sym up))
 
 -- a call or a reset that was cleared
 record IsCleared (rest_a rest : ℕ) (a b : Awaits) : Type 0 where
@@ -255,17 +234,14 @@ module _ (c : Settings) (times : Times) (h bound : ℕ) (set : AreSet times) (sm
   is_cleared : (a b : Awaits) → 2 ≤ rank_in b → rank_in b < rank_in a → IsCleared (left a) (times.t23 + times.t20) a b
   is_cleared a Nothing two low = low_one 0 (omega arith) two
   is_cleared Nothing Acceptance two low = not_less 4 0 (omega arith) low
-  is_cleared Acceptance Acceptance two low = not_less 4 4 (omega arith) low
-  is_cleared ResetConfirmation Acceptance two low = not_less 4 4 (omega arith) low
   is_cleared ClearConfirmation Acceptance two low = not_less 4 3 (omega arith) low
   is_cleared Nothing ResetConfirmation two low = not_less 4 0 (omega arith) low
-  is_cleared Acceptance ResetConfirmation two low = not_less 4 4 (omega arith) low
-  is_cleared ResetConfirmation ResetConfirmation two low = not_less 4 4 (omega arith) low
   is_cleared ClearConfirmation ResetConfirmation two low = not_less 4 3 (omega arith) low
   is_cleared Nothing ClearConfirmation two low = not_less 3 0 (omega arith) low
   is_cleared Acceptance ClearConfirmation two low = record { old = refl; new = refl; differ = refl }
   is_cleared ResetConfirmation ClearConfirmation two low = record { old = refl; new = refl; differ = refl }
   is_cleared ClearConfirmation ClearConfirmation two low = not_less 3 3 (omega arith) low
+  is_cleared a b two low = not_less 4 4 (omega arith) low
 
   -- it was cleared
   waits_fall : (before now : ℕ) (old new : ℕ → Awaits) (ws : List Wait) → IsCleared (left (old h)) (times.t23 + times.t20) (old h) (new h) → now + left (old h)
@@ -290,9 +266,7 @@ module _ (c : Settings) (times : Times) (h bound : ℕ) (set : AreSet times) (sm
   -- an answer that is awaited leaves time for a restart
   left_some : (a : Awaits) → 2 ≤ rank_in a → times.t20 ≤ left a
   left_some Nothing two = low_one 0 (omega arith) two
-  left_some Acceptance two = omega arith
-  left_some ResetConfirmation two = omega arith
-  left_some ClearConfirmation two = omega arith
+  left_some a two = omega arith
 
   restart_stays : (now : ℕ) (restart : Option ℕ) → Ends bound restart 0 → Ends bound (running true false restart (deadline now times.t20)) 0
   restart_stays now None ends = absurd ends
@@ -413,9 +387,8 @@ module _ (c : Settings) (times : Times) (h bound : ℕ) (set : AreSet times) (sm
   asked_falls : Laws → (s : Station) (what : Due) (a : Awaits) → rank c s h ≡ rank_in a → 2 ≤ rank c s h → is_up s.link.phase ≡ true → s.layer.restarting
       ≡ false → asked_for h a ≡ Some what → waits s.link.outgoing < 256 → Falls c h s what
   asked_falls laws s what Nothing is high linked ready asked low = absurd (none-some what asked)
-  asked_falls laws s what Acceptance is high linked ready asked low = cleared laws s what is (sym (ap or_t1 asked)) low
-  asked_falls laws s what ResetConfirmation is high linked ready asked low = cleared laws s what is (sym (ap or_t1 asked)) low
   asked_falls laws s what ClearConfirmation is high linked ready asked low = restarted laws s what is linked ready (sym (ap or_t1 asked)) low
+  asked_falls laws s what a is high linked ready asked low = cleared laws s what is (sym (ap or_t1 asked)) low
 
   relink_told : Laws → (s : Station) (what : Due) → is_up s.link.phase ≡ true → what ≡ due.Relink → tells (timer.outcome c s (asks what)) ≡ false → ⊥
   relink_told laws s what up is quiet =

@@ -1,17 +1,12 @@
 -- The line at the front of a text.
-use Rattle.std.proofs.Common.{ℕ, suc, ◌≡◌, ◌≢◌, ◌==◌, ◌<◌, ◌≤◌, ◌+◌, ◌-◌, ◌*◌, ◌%◌, ◌∙◌, Bool, true, false, List, [], ◌∷◌, ◌++◌, length, take, drop, refl, ap}
-use Rattle.std.proofs.Common.{sym, subst, arith, if◌then◌else◌, Option, Some, None, Result, Ok, Err}
-use Rattle.std.specs.Prelude.{nat_le, slice_index, option_and_then, option_map}
-use Rattle.std.specs.Result.{result_ok}
-use Rattle.std.proofs.lemmas.Bool.{le-leb}
-use Rattle.std.proofs.lemmas.List.{length-drop, length-take-le, take_all, take-append-drop}
-use Rattle.std.proofs.Math.Seq.{drop-cons}
-use Rattle.hex.specs.Hex.{◌>>=◌, decode_of, decode_pairs, digit_or_error, hex_digit_value}
-use Rattle.hex.specs.declared.error.FromHexError.{FromHexError}
+use Rattle.x25_decode.proofs.Names.{ℕ, ◌≡◌, ◌<◌, ◌∙◌, Bool, true, false, List, [], ◌∷◌, ◌++◌, length, refl, ap, sym, subst, arith, Option, None, sent_in}
+use Rattle.hex.specs.{Hex.{◌>>=◌, decode_of, decode_pairs, digit_or_error, hex_digit_value}, declared.error.FromHexError.{FromHexError}}
 use Rattle.hex.specs.declared.error.FromHexError.TheVariants.{OddLength}
+use Rattle.std.proofs.{Common.{suc, ◌≢◌, ◌==◌, ◌≤◌, ◌+◌, ◌-◌, ◌*◌, ◌%◌, take, drop, if◌then◌else◌, Some, Result, Ok, Err}, Math.Seq.{drop-cons}}
+use Rattle.std.proofs.lemmas.{Bool.{le-leb}, List.{length-drop, length-take-le, take_all, take-append-drop}}
+use Rattle.std.specs.{Prelude.{nat_le, slice_index, option_and_then, option_map}, Result.{result_ok}}
 use Rattle.x25_bits.specs.declared.role.Role.{Role}
-use Rattle.x25_decode.specs.Decoding.{octets_in, sender_of, sent_in}
-use Rattle.x25_decode.specs.code.Front.{StandsInFront}
+use Rattle.x25_decode.specs.{Decoding.{octets_in, sender_of}, code.Front.{StandsInFront}}
 use Rattle.x25_io.specs.Lines.{IsOpen}
 
 no_feed : (c v : ℕ) → hex_digit_value c ≡ Some v → c ≢ 10

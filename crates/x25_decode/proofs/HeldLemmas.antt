@@ -1,14 +1,10 @@
 -- A line that is longer than any that is held is none of the grammar.
-use Rattle.x25_decode.specs.declared.answer.Reading.{Reading}
-use Rattle.std.proofs.Common.{◌≡◌, ◌<◌, ◌==◌, not, ℕ, Bool, true, false, List, [], ◌∷◌, ◌++◌, length, ap, refl, arith, nat_le, codes, if◌then◌else◌, Option}
-use Rattle.std.proofs.Common.{Some, None, option_map, option_and_then}
-use Rattle.std.specs.Prelude.{is_some}
-use Rattle.std.specs.Str.{bytes_eq}
-use Rattle.std.proofs.lemmas.Bool.Decides.{nat_tests}
-use Rattle.std.proofs.lemmas.Slice.Eq.{bytes_eq-Decides}
+use Rattle.x25_decode.proofs.Names.{Reading, ◌≡◌, ◌<◌, ℕ, Bool, true, false, List, [], ◌∷◌, length, ap, refl, arith, Option, None, answer_to, is_refused}
+use Rattle.std.proofs.{Common.{◌==◌, nat_le, codes, if◌then◌else◌, Some, option_map, option_and_then}, lemmas.Bool.Decides.{nat_tests}}
+use Rattle.std.{proofs.lemmas.Slice.Eq.{bytes_eq-Decides}, specs.Str.{bytes_eq}}
 use Rattle.x25_bits.specs.declared.role.Role.{Role}
+use Rattle.x25_decode.{proofs.Names.{sent_in}, specs.Decoding.{gap_in, octets_in, sender_of}}
 use Rattle.x25_io.specs.HeldLine.{most_line}
-use Rattle.x25_decode.specs.Decoding.{answer_to, gap_in, is_refused, sent_in, octets_in, sender_of}
 
 no_octets : (space : Bool) (from : Option Role)
     → (if space then option_and_then {U = Role × List ℕ} (λ from. option_map (λ octets. (from, octets)) None) from else None) ≡ None

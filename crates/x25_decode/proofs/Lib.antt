@@ -1,3 +1,4 @@
+pub mod Names
 pub mod StreamLemmas
 pub mod FrontLemmas
 pub mod HeldLemmas

@@ -1,26 +1,13 @@
 -- An input that is read loosely, line by line.
-use Rattle.std.proofs.Common.{◌≡◌, ◌∙◌, ◌<◌, ◌||◌, ℕ, Bool, true, false, List, [], ◌∷◌, ◌++◌, Option, None, Result, length, codes, append_assoc, ap, sym, subst}
-use Rattle.std.proofs.Common.{refl}
+use Rattle.x25_decode.proofs.Names.{◌≡◌, ◌∙◌, ◌<◌, ℕ, true, false, List, [], ◌∷◌, ◌++◌, Option, None, length, append_assoc, ap, sym, subst, refl, Appends}
+use Rattle.std.{proofs.Common.{◌||◌, Result, codes}, proofs.Math.Bool.{or_assoc, or-false}, proofs.lemmas.List.{append-nil}, specs.List.{list_any}}
 use Rattle.std.specs.Prelude.{MatchResult}
-use Rattle.std.specs.Io.KnownBytes.{Appends}
-use Rattle.std.specs.List.{flat_map, list_any}
-use Rattle.std.proofs.Math.Bool.{or_assoc, or-false}
-use Rattle.std.proofs.lemmas.Bool.{lt-leb}
-use Rattle.std.proofs.lemmas.List.{append-nil}
-use Rattle.x25_io.specs.HeldLine.{HoldsLine, most_line}
-use Rattle.x25_io.specs.declared.held_line.HeldLine.{HeldLine}
-use Rattle.x25_io.specs.Lines.{lines_of}
-use Rattle.x25_io.specs.Loose.{asked, carried}
-use Rattle.x25_io.specs.code.LinesLead.{LinesLead}
-use Rattle.x25_io.specs.code.Written.{AppendsPrefix, Tells, TellsMore}
-use Rattle.x25_io.proofs.LooseLemmas.{long_asked, long_carried}
-use Rattle.x25_io.proofs.TakerLemmas.{between}
-use Rattle.x25_io.proofs.ToldLemmas.{none_told, part_of_all, prefix_more, told_prefix}
-use Rattle.x25_decode.specs.Decoding.{answer_to, gap_in, is_refused, sent_in}
+use Rattle.x25_decode.{proofs.Names.{flat_map, AppendsPrefix, answer_to, is_refused, sent_in, Reading}, specs.Decoding.{gap_in}}
 use Rattle.x25_decode.specs.LooseDecoder.{answer_loosely, answer_to_asked, refuses_asked, refuses_loosely, loose_output}
-use Rattle.x25_decode.specs.code.LooseStream.{DecodesLines, WritesLines}
-use Rattle.x25_decode.specs.declared.answer.Reading.{Reading}
-use Rattle.x25_decode.specs.declared.loose_decoder.LooseDecoder.{LooseDecoder}
+use Rattle.x25_decode.specs.{code.LooseStream.{DecodesLines, WritesLines}, declared.loose_decoder.LooseDecoder.{LooseDecoder}}
+use Rattle.x25_io.proofs.{LooseLemmas.{long_asked, long_carried}, TakerLemmas.{between}, ToldLemmas.{none_told, part_of_all, prefix_more, told_prefix}}
+use Rattle.x25_io.specs.{HeldLine.{HoldsLine, most_line}, Lines.{lines_of}, Loose.{asked, carried}, code.LinesLead.{LinesLead}, code.Written.{Tells, TellsMore}}
+use Rattle.x25_io.specs.declared.held_line.HeldLine.{HeldLine}
 
 -- ---- a line that is too long
 

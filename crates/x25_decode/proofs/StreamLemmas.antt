@@ -1,18 +1,10 @@
 -- A text, a piece at a time.
-use Rattle.x25_decode.specs.declared.answer.Reading.{Reading}
-use Rattle.std.proofs.Common.{◌≡◌, ◌∙◌, ◌||◌, ℕ, Bool, false, List, [], ◌∷◌, ◌++◌, Option, ap, sym, refl, subst, append_assoc}
-use Rattle.std.specs.List.{flat_map, list_any}
-use Rattle.std.proofs.lemmas.List.{append-nil}
-use Rattle.std.specs.Io.KnownBytes.{Appends}
-use Rattle.std.proofs.Math.Bool.{or_assoc, or-false}
+use Rattle.x25_decode.proofs.Names.{Reading, ◌≡◌, ◌∙◌, ℕ, Bool, false, List, [], ◌∷◌, ◌++◌, Option, ap, sym, refl, subst, append_assoc, flat_map, Appends}
+use Rattle.std.{proofs.Common.{◌||◌}, proofs.Math.Bool.{or_assoc, or-false}, proofs.lemmas.List.{append-nil}, specs.List.{list_any}}
+use Rattle.x25_decode.{proofs.Names.{AppendsPrefix, answer_to, is_refused}, specs.Decoding.{output_of, has_refused}, specs.code.Stream.{Leads, WritesEnded}}
+use Rattle.x25_io.proofs.{LineLemmas.{ends_line, open-append}, ToldLemmas.{none_told, prefix_more}}
 use Rattle.x25_io.specs.HeldLine.{HoldsLine}
-use Rattle.x25_io.specs.declared.held_line.HeldLine.{HeldLine}
-use Rattle.x25_io.specs.Lines.{IsOpen, lines_of}
-use Rattle.x25_io.specs.code.Written.{AppendsPrefix, Tells}
-use Rattle.x25_io.proofs.LineLemmas.{ends_line, open-append}
-use Rattle.x25_io.proofs.ToldLemmas.{none_told, prefix_more}
-use Rattle.x25_decode.specs.Decoding.{answer_to, is_refused, output_of, has_refused}
-use Rattle.x25_decode.specs.code.Stream.{Leads, WritesEnded}
+use Rattle.x25_io.specs.{Lines.{IsOpen, lines_of}, code.Written.{Tells}, declared.held_line.HeldLine.{HeldLine}}
 
 nil_output : (reading : Reading) → output_of reading [] ≡ []
 unfolding lines_of

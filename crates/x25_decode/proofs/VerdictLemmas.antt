@@ -1,14 +1,8 @@
 -- Verdicts, a vector at a time.
-use Rattle.std.proofs.Common.{◌≡◌, ◌∙◌, ◌+◌, ◌<◌, ℕ, Bool, true, suc, List, [], ◌∷◌, ◌++◌, map, drop, length, Option, ap, sym, refl, subst, arith, append_assoc}
-use Rattle.std.proofs.Common.{get_or}
-use Rattle.std.specs.Prelude.{◌&&◌, OnErr, Result, Ok, Err}
-use Rattle.std.specs.Io.KnownBytes.{Appends}
-use Rattle.std.specs.List.{flat_map, list_all}
-use Rattle.std.proofs.Math.Seq.{drop-cons}
-use Rattle.std.proofs.Math.Bool.{and_assoc}
-use Rattle.std.proofs.KnownBytes.{Appends-nil, Appends-trans}
-use Rattle.x25_decode.specs.TestVectors.{is_right, shown, verdict, verdict_of}
-use Rattle.x25_io.specs.code.Written.{AppendsPrefix}
+use Rattle.x25_decode.proofs.Names.{◌≡◌, ◌∙◌, ◌<◌, ℕ, Bool, true, List, [], ◌∷◌, ◌++◌, length, Option, ap, sym, refl, subst, arith, append_assoc, Appends}
+use Rattle.std.proofs.{Common.{◌+◌, suc, map, drop, get_or}, KnownBytes.{Appends-nil, Appends-trans}, Math.Bool.{and_assoc}, Math.Seq.{drop-cons}}
+use Rattle.std.specs.{List.{list_all}, Prelude.{◌&&◌, OnErr, Result, Ok, Err}}
+use Rattle.x25_decode.{proofs.Names.{flat_map, AppendsPrefix}, specs.TestVectors.{is_right, shown, verdict, verdict_of}}
 use Rattle.x25_decode.specs.declared.test_vectors.Vector.{Vector}
 
 -- text that is written in two parts, where the second wasn't written whole

@@ -1,19 +1,15 @@
 -- What a line of a user hands down is octets.
-use Rattle.std.proofs.Common.{◌≡◌, ℕ, nat_le, Bool, true, false, cond, List, length, Option, Some, None, refl, arith, ◌<◌}
-use Rattle.x25_bits.specs.declared.role.Role.{Role}
-use Rattle.x25_bits.specs.declared.role.Role.TheVariants.{Dte, Dce}
-use Rattle.x25_station.specs.laws.ReadLaw.{RequestsOctets}
-use Rattle.x25_station.specs.laws.TimerLaw.{StationEvent, Asks, Fires}
-use Rattle.x25_script.specs.ScriptLine.{PlainCommand, call, clear, send, interrupt, reset, restart, with_given, PlainLine, command, t1, is_taken, taken}
-use Rattle.std.specs.Option.{unwrap_or}
-use Rattle.x25_script.specs.Reading.{line_in}
-use Rattle.x25_script.specs.laws.ReadingLaw.{IsOctet, PartInOctets, AsksInOctets, IsInOctets, ReadsOctets}
-use Rattle.x25_decode.specs.Decoding.{sent_in}
+use Rattle.x25_joined.proofs.Names.{◌≡◌, ℕ, nat_le, Bool, true, false, List, length, Option, Some, None, refl, arith, ◌<◌, Role, Dte, Dce, StationEvent, Asks}
+use Rattle.x25_joined.proofs.Names.{Fires, line_in, ReadsOctets, event_in}
+use Rattle.std.{proofs.Common.{cond}, specs.Option.{unwrap_or}, specs.Prelude.{option_and_then}}
 use Rattle.x25_console.specs.Commands.{command_asked, part_asked}
+use Rattle.x25_decode.specs.Decoding.{sent_in}
 use Rattle.x25_io.specs.HeldLine.{most_line}
-use Rattle.x25_pipe.specs.Pipe.{is_same, script_event, read_event, event_in}
+use Rattle.x25_pipe.specs.Pipe.{is_same, script_event, read_event}
+use Rattle.x25_script.specs.ScriptLine.{PlainCommand, call, clear, send, interrupt, reset, restart, with_given, PlainLine, command, t1, is_taken, taken}
+use Rattle.x25_script.specs.laws.ReadingLaw.{IsOctet, PartInOctets, AsksInOctets, IsInOctets}
+use Rattle.x25_station.specs.laws.ReadLaw.{RequestsOctets}
 use Rattle.x25_world.specs.laws.Claims.{CommandsOctets}
-use Rattle.std.specs.Prelude.{option_and_then}
 
 -- a command hands down octets
 abbrev pub AsksOctets : Option StationEvent → Type 0

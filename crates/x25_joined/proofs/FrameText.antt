@@ -1,22 +1,14 @@
 -- The line that tells of a frame reads as its octets at the other end.
-use Rattle.std.proofs.Common.{◌≡◌, ◌≢◌, ◌∙◌, ℕ, suc, ◌+◌, ◌*◌, ◌/◌, ◌%◌, ◌<◌, nat_eq, nat_lt, nat_le, Bool, true, false, if◌then◌else◌, List, [], ◌∷◌, ◌++◌}
-use Rattle.std.proofs.Common.{length, flat_map, Some, None, option_map, Ok, ap, refl, arith}
-use Rattle.std.specs.Fmt.{digit_glyph}
-use Rattle.std.proofs.lemmas.Bool.{ne_eqb, le-leb}
-use Rattle.std.proofs.lemmas.List.Elements.{All-head, All-tail}
-use Rattle.hex.specs.Hex.{value_at, pair_value, decode_pairs}
-use Rattle.x25_bits.specs.Role.{other}
-use Rattle.x25_bits.specs.declared.role.Role.{Role}
-use Rattle.x25_bits.specs.declared.role.Role.TheVariants.{Dte, Dce}
-use Rattle.x25_text.specs.Text.{octet_text}
-use Rattle.x25_io.specs.Lines.{IsOpen}
+use Rattle.x25_joined.proofs.Names.{◌≡◌, ◌∙◌, ℕ, suc, ◌+◌, ◌<◌, nat_le, Bool, true, false, List, [], ◌∷◌, ◌++◌, length, Some, None, ap, refl, arith}
+use Rattle.x25_joined.proofs.Names.{decode_pairs, other, Role, Dte, Dce, IsOpen, Comes, frame_line, AreOfFrame, saying_line, event_in}
+use Rattle.hex.specs.Hex.{value_at, pair_value}
+use Rattle.std.proofs.{Common.{◌≢◌, ◌*◌, ◌/◌, ◌%◌, nat_eq, nat_lt, if◌then◌else◌, flat_map, option_map, Ok}, lemmas.Bool.{ne_eqb, le-leb}}
+use Rattle.std.{proofs.lemmas.List.Elements.{All-head, All-tail}, specs.Fmt.{digit_glyph}}
 use Rattle.x25_decode.specs.Decoding.{mark_of, octets_in, sent_in}
-use Rattle.x25_station.specs.laws.ReadLaw.{AreOctets}
-use Rattle.x25_station.specs.laws.TimerLaw.{Comes}
 use Rattle.x25_io.specs.HeldLine.{most_line}
-use Rattle.x25_console.specs.Telling.{frame_line}
-use Rattle.x25_world.specs.laws.TapOctets.{AreOfFrame}
-use Rattle.x25_pipe.specs.Pipe.{saying_line, sends, read_event, event_in}
+use Rattle.x25_pipe.specs.Pipe.{sends, read_event}
+use Rattle.x25_station.specs.laws.ReadLaw.{AreOctets}
+use Rattle.x25_text.specs.Text.{octet_text}
 
 abbrev digits_of : List ℕ → List ℕ
 digits_of octets = flat_map octet_text octets

@@ -1,31 +1,19 @@
 -- Each history of two joined programs is a run of two stations, and the claims on these hold of what the programs wrote.
-use Rattle.std.proofs.Common.{◌≡◌, ◌∙◌, ◌≤◌, inl, ℕ, List, [], ◌∷◌, ◌++◌, true, Some, None, ap, sym, subst, refl}
-use Rattle.std.proofs.lemmas.List.Elements.{All-nil}
-use Rattle.x25_bits.specs.Role.{other}
-use Rattle.x25_bits.specs.declared.role.Role.{Role}
-use Rattle.x25_bits.specs.declared.role.Role.TheVariants.{Dte, Dce}
+use Rattle.x25_joined.proofs.Names.{◌≡◌, ◌∙◌, ◌≤◌, ℕ, List, [], ◌∷◌, ◌++◌, true, Some, None, ap, sym, subst, refl, All-nil, other, Role, Dte, Dce, ReadsOctets}
+use Rattle.std.proofs.Common.{inl}
 use Rattle.x25_handshakes.specs.laws.Names.{Name}
-use Rattle.x25_layer.specs.laws.Law.{HandsUpLawfully, HasAllOf}
-use Rattle.x25_layer.specs.laws.Transcript.{Entry}
-use Rattle.x25_script.specs.laws.ReadingLaw.{ReadsOctets}
-use Rattle.x25_station.specs.declared.config.Cfg.{Cfg}
-use Rattle.x25_station.specs.Entry.{StationEntry, layer_entries}
-use Rattle.x25_station.specs.Config.{settings_from, config_refusal}
-use Rattle.x25_station.specs.Station.{Station, new_station}
-use Rattle.x25_station.specs.Station.Told.{is_idle, stretch}
-use Rattle.x25_world.specs.World as world
-use Rattle.x25_world.specs.World.{World, Event, Happened, swapped_back, happens, refusal_of, after, AreAccepted, start}
-use Rattle.x25_world.specs.laws.Claims as claims
-use Rattle.x25_world.specs.laws.Claims.{AreInOctets, IsLawful, ArrivesAll, station_at, entries_at, ups_in}
-use Rattle.x25_world.specs.laws.SessionClaims.{Throughout}
-use Rattle.x25_world.specs.laws.TapOctets.{AreOfFrame, IsTapOfOctets}
-use Rattle.x25_joined.specs.laws.Joined.{Joined, exchanged, nothing_read, Act, acts, Happening, acts_at, IsPossibleAt, run, ArePossible, entries_in, frames_in}
+use Rattle.x25_joined.proofs.{JoinedShows.{IsEnd, Shows, Fits, Mirrors, stays, moves, pulls, all_pulled, act_shows}, LineText.{none_whole, first_said}}
+use Rattle.x25_joined.proofs.{Names.{Cfg, StationEntry, settings_from, Station, new_station, ups_in, AreOfFrame, entries_in, frames_in}, Turns.{first_is}}
+use Rattle.x25_joined.specs.laws.Joined.{Joined, exchanged, nothing_read, Act, acts, Happening, acts_at, IsPossibleAt, run, ArePossible}
 use Rattle.x25_joined.specs.laws.JoinedClaims.{station_by, entries_by, frames_by, put_by, Tells, OfPrograms, AreWorlds, OfProgramsUpOnce, UntilSecondUp}
 use Rattle.x25_joined.specs.laws.JoinedClaims.{AreLawful, Arrive}
-use Rattle.x25_joined.proofs.LineText.{none_whole, first_said}
-use Rattle.x25_joined.proofs.JoinedShows.{IsEnd, Shows, Fits, Mirrors, stays, moves, pulls, all_pulled, act_shows}
-use Rattle.x25_joined.proofs.Turns.{first_is}
+use Rattle.x25_layer.specs.laws.{Law.{HandsUpLawfully, HasAllOf}, Transcript.{Entry}}
+use Rattle.x25_station.specs.{Config.{config_refusal}, Entry.{layer_entries}, Station.Told.{is_idle, stretch}}
 use Rattle.x25_world.proofs.WorldLemmas.{run_append, accepted_append, octets_append}
+use Rattle.x25_world.specs.World.{World, Event, Happened, swapped_back, happens, refusal_of, after, AreAccepted, start}
+use Rattle.x25_world.specs.laws.{Claims.{AreInOctets, IsLawful, ArrivesAll, station_at, entries_at}, SessionClaims.{Throughout}, TapOctets.{IsTapOfOctets}}
+use Rattle.x25_world.specs.World as world
+use Rattle.x25_world.specs.laws.Claims as claims
 
 -- ---- as the other end sees it
 

@@ -1,41 +1,26 @@
 -- Two joined programs and a world of two stations, as one of the ends sees them: what one act of the programs is in the world.
-use Rattle.std.proofs.Common.{◌≡◌, ◌∙◌, ◌≤◌, ℕ, zero, suc, Bool, true, false, ◌&&◌, ◌||◌, nat_lt, cond, List, [], ◌∷◌, ◌++◌, length, take, drop, map, remove}
-use Rattle.std.proofs.Common.{All, Option, Some, None, append_assoc, append-nil, ap, ap₂, sym, subst, refl, arith}
-use Rattle.std.proofs.lemmas.Bool.{ltb-false}
-use Rattle.std.proofs.lemmas.List.{map-append}
-use Rattle.std.proofs.lemmas.List.Elements.{All-nil, All-cons, All-head, All-tail, All-append, All-take, All-drop}
-use Rattle.x25_bits.specs.Role.{other}
-use Rattle.x25_bits.specs.declared.role.Role.{Role}
-use Rattle.x25_bits.specs.declared.role.Role.TheVariants.{Dte, Dce}
-use Rattle.x25_frame.specs.Spelling.{spelling_of}
-use Rattle.x25_link.specs.Station.{awaits_ua}
-use Rattle.x25_line.specs.{laws.Stations.{is_visible}, laws.Loss.{replaced}}
-use Rattle.x25_script.specs.laws.ReadingLaw.{ReadsOctets}
-use Rattle.x25_io.specs.Lines.{IsOpen}
-use Rattle.x25_station.specs.declared.config.Cfg.{Cfg}
+use Rattle.x25_joined.proofs.Names.{◌≡◌, ◌∙◌, ◌≤◌, ℕ, suc, Bool, true, false, ◌&&◌, List, [], ◌∷◌, ◌++◌, length, map, Option, Some, None, append_assoc}
+use Rattle.x25_joined.proofs.Names.{append-nil, ap, sym, subst, refl, arith, All-nil, All-cons, other, Role, Dte, Dce, spelling_of, ReadsOctets, IsOpen, Cfg}
+use Rattle.x25_joined.proofs.Names.{StationEntry, Settings, settings_from, Station, Step, Outcome, Did, Refused, commands, fires, StationEvent, Comes, Asks}
+use Rattle.x25_joined.proofs.Names.{Fires, with_pulls, event_in, turn, piped, AreOfFrame, written, entries_in, frames_in}
+use Rattle.std.proofs.{Common.{zero, ◌||◌, nat_lt, cond, take, drop, remove, All, ap₂}, lemmas.Bool.{ltb-false}, lemmas.List.{map-append}}
+use Rattle.std.proofs.lemmas.List.Elements.{All-head, All-tail, All-append, All-take, All-drop}
+use Rattle.x25_joined.proofs.{AskedOctets.{AsksOctets, asks_octets}, FrameText.{frame_words, frame_text, frame_open, frame_comes}}
+use Rattle.x25_joined.proofs.LineText.{AreWhole, more_whole, one_more, said_more}
+use Rattle.x25_joined.{proofs.Turns.{entries-append, frames-append, TurnIs, line_did, line_refused, line_none}, specs.laws.Joined.{IsPossible}}
+use Rattle.x25_joined.specs.laws.Joined.{Joined, station_of, reads, takes, on_line, Act, Reads, Takes, Loses, Damages, acts, IsNoFrame, is_on_line, IsInTime}
+use Rattle.x25_joined.specs.laws.JoinedClaims.{frame_of_end, put_by}
 use Rattle.x25_layer.specs.Calls.{PullsAll}
-use Rattle.x25_station.specs.Command.{Command, Requests}
-use Rattle.x25_station.specs.Entry.{StationEntry}
-use Rattle.x25_station.specs.Config.{Settings, settings_from}
-use Rattle.x25_station.specs.Station.{Station}
-use Rattle.x25_station.specs.Step.{Step, Outcome, Did, Refused, commands, fires, receives}
-use Rattle.x25_station.specs.laws.TimerLaw.{StationEvent, Comes, Asks, Fires}
-use Rattle.x25_pipe.specs.Pipe.{pulled_behind, and_pulls, with_pulls, event_in, turn, piped}
+use Rattle.x25_line.specs.laws.{Loss.{replaced}, Stations.{is_visible}}
+use Rattle.x25_link.specs.Station.{awaits_ua}
+use Rattle.x25_pipe.specs.Pipe.{pulled_behind, and_pulls}
+use Rattle.x25_station.specs.{Command.{Command, Requests}, Step.{receives}}
+use Rattle.x25_world.proofs.Growing.{entries_append, own_entries, no_entries}
 use Rattle.x25_world.specs.SetUp.{carries}
-use Rattle.x25_world.specs.declared.set_up.SetUpFrame.TheVariants.{Sabm, Ua}
+use Rattle.x25_world.specs.World.{OnTap, AtEnd, World, tapped, entered, after_step, Happened, Declined, of_station, delivered}
+use Rattle.x25_world.specs.{declared.set_up.SetUpFrame.TheVariants.{Sabm, Ua}, laws.Claims.{ActsInOctets, entries_at}, laws.TapOctets.{AreOfFrames}}
 use Rattle.x25_world.specs.declared.error.WorldError.TheVariants as error
 use Rattle.x25_world.specs.World as world
-use Rattle.x25_world.specs.World.{OnTap, AtEnd, World, tapped, entered, after_step, Happened, Declined, of_station, delivered}
-use Rattle.x25_world.specs.laws.Claims.{ActsInOctets, entries_at}
-use Rattle.x25_world.specs.laws.TapOctets.{AreOfFrame, AreOfFrames}
-use Rattle.x25_joined.specs.laws.Joined.{Joined, written, station_of, entries_in, frames_in, reads, takes, on_line, Act, Reads, Takes, Loses, Damages, acts}
-use Rattle.x25_joined.specs.laws.Joined.{IsNoFrame, is_on_line, IsInTime, IsPossible}
-use Rattle.x25_joined.specs.laws.JoinedClaims.{frame_of_end, put_by}
-use Rattle.x25_joined.proofs.LineText.{AreWhole, more_whole, one_more, said_more}
-use Rattle.x25_joined.proofs.FrameText.{frame_words, frame_text, frame_open, frame_comes}
-use Rattle.x25_joined.proofs.Turns.{entries-append, frames-append, TurnIs, line_did, line_refused, line_none}
-use Rattle.x25_joined.proofs.AskedOctets.{AsksOctets, asks_octets}
-use Rattle.x25_world.proofs.Growing.{entries_append, own_entries, no_entries}
 
 -- ---- transcript and tap, of each end
 

@@ -1,3 +1,4 @@
+pub mod Names
 pub mod LineText
 pub mod FrameText
 pub mod Turns

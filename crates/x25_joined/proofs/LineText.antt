@@ -1,12 +1,9 @@
 -- A line behind others, and what a program says when it reads one more.
-use Rattle.std.proofs.Common.{◌≡◌, ◌∙◌, ℕ, List, [], ◌∷◌, ◌++◌, length, drop, append_assoc, append-nil, ap, sym, refl}
-use Rattle.std.proofs.Math.Seq.{drop-append_seam}
-use Rattle.x25_io.specs.Lines.{IsOpen, lines_of}
+use Rattle.x25_joined.proofs.Names.{◌≡◌, ◌∙◌, ℕ, List, [], ◌∷◌, ◌++◌, length, append_assoc, append-nil, ap, sym, refl, IsOpen, lines_of, Settings, Station}
+use Rattle.std.proofs.{Common.{drop}, Math.Seq.{drop-append_seam}}
 use Rattle.x25_io.proofs.LineLemmas.{ends_line}
-use Rattle.x25_station.specs.Config.{Settings}
-use Rattle.x25_station.specs.Station.{Station, new_station}
-use Rattle.x25_pipe.specs.Pipe.{Saying, Turn, and_then, standing_turn, turn, turns, piped}
-use Rattle.x25_joined.specs.laws.Joined.{written, written_more}
+use Rattle.x25_joined.{proofs.Names.{new_station, Saying, turn, turns, piped, written}, specs.laws.Joined.{written_more}}
+use Rattle.x25_pipe.specs.Pipe.{Turn, and_then, standing_turn}
 
 -- ---- lines
 

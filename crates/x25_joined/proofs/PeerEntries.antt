@@ -1,21 +1,15 @@
 -- How often a step of a station tells of LinkUp.
-use Rattle.std.proofs.Common.{◌≡◌, ◌∙◌, ℕ, suc, ◌+◌, Bool, true, false, List, [], ◌∷◌, ◌++◌, Option, Some, None, ap, sym, subst, refl, arith}
-use Rattle.x25_link.specs.declared.phase.Reason.{Reason}
-use Rattle.x25_link.specs.Hearing.{LinkStep}
-use Rattle.x25_link.specs.declared.error.LinkError.{LinkError}
-use Rattle.x25_link.specs.Link.{timer_refusal, timer_step, connect_refusal, connect_step, disconnect_refusal, disconnect_step, probe_refusal}
-use Rattle.x25_link.specs.Link.{relink_refusal, relink_step}
-use Rattle.x25_peer.proofs.Granted.{unless_did, did_granted, gave_granted, timer_silent}
-use Rattle.x25_world.proofs.sessions.SessionEntries.{ArePlain, outcome_plain, packet_plain}
+use Rattle.x25_joined.proofs.Names.{◌≡◌, ◌∙◌, ℕ, suc, ◌+◌, Bool, true, false, List, [], ◌∷◌, ◌++◌, Option, Some, None, ap, sym, subst, refl, arith, Settings}
+use Rattle.x25_joined.proofs.Names.{StationEntry, Station, Step, Did, commands, fires, ups_in}
+use Rattle.x25_layer.specs.{Calls.{LayerRequest, LayerOutcome}, Layer.{LayerSettings, Layer}}
 use Rattle.x25_line.specs.laws.Sessions.{begun_by}
-use Rattle.x25_layer.specs.Layer.{LayerSettings, Layer}
-use Rattle.x25_layer.specs.Calls.{LayerRequest, LayerOutcome}
-use Rattle.x25_station.specs.Config.{Settings, layer_settings, link_settings}
+use Rattle.x25_link.specs.{Hearing.{LinkStep}, Link.{relink_step}, declared.error.LinkError.{LinkError}, declared.phase.Reason.{Reason}}
+use Rattle.x25_link.specs.Link.{timer_refusal, timer_step, connect_refusal, connect_step, disconnect_refusal, disconnect_step, probe_refusal, relink_refusal}
+use Rattle.x25_peer.proofs.Granted.{unless_did, did_granted, gave_granted, timer_silent}
+use Rattle.x25_station.specs.{Config.{layer_settings, link_settings}, Entry.{link_up, entries_noted, connect_asked, disconnect_asked, relink_asked}}
+use Rattle.x25_station.specs.Step.{entries_of_outcome, entries_of_packet, entries_heard, follows, unless, led_by}
+use Rattle.x25_world.proofs.sessions.SessionEntries.{ArePlain, outcome_plain, packet_plain}
 use Rattle.x25_station.specs.Command as command
-use Rattle.x25_station.specs.Entry.{StationEntry, link_up, entries_noted, connect_asked, disconnect_asked, relink_asked}
-use Rattle.x25_station.specs.Station.{Station}
-use Rattle.x25_station.specs.Step.{Step, Did, entries_of_outcome, entries_of_packet, entries_heard, follows, commands, fires, unless, led_by}
-use Rattle.x25_world.specs.laws.Claims.{ups_in}
 
 pub ups_append : (xs ys : List StationEntry) → ups_in (xs ++ ys) ≡ ups_in xs + ups_in ys
 ups_append [] ys = (let none : 0 + ups_in ys ≡ ups_in ys = omega (arith) in sym none)

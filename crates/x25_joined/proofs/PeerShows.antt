@@ -1,40 +1,28 @@
 -- A program joined to any peer, and a station beside that peer: what the program reads is what the station does.
-use Rattle.std.proofs.Common.{◌≡◌, ◌∙◌, ℕ, zero, suc, ◌+◌, ◌==◌, ◌≤◌, ◌<◌, Bool, true, false, ◌&&◌, nat_le, if◌then◌else◌, List, [], ◌∷◌, ◌++◌, map, Option}
-use Rattle.std.proofs.Common.{Some, None, append_assoc, append-nil, ap, ap₂, sym, subst, refl, eq-eqb, arith}
-use Rattle.std.proofs.lemmas.Bool.{eqb-true, leb-true}
-use Rattle.x25_bits.specs.Role.{other}
-use Rattle.x25_bits.specs.declared.role.Role.{Role}
+use Rattle.x25_joined.proofs.Names.{◌≡◌, ◌∙◌, ℕ, suc, ◌+◌, ◌≤◌, ◌<◌, Bool, true, false, ◌&&◌, nat_le, List, [], ◌∷◌, ◌++◌, map, Option, Some, None}
+use Rattle.x25_joined.proofs.Names.{append_assoc, append-nil, ap, sym, subst, refl, arith, other, Role, spelling_of, ReadsOctets, IsOpen, Cfg, StationEntry}
+use Rattle.x25_joined.proofs.Names.{Settings, settings_from, Station, new_station, Step, Outcome, Did, Refused, commands, fires, StationEvent, Comes, Asks}
+use Rattle.x25_joined.proofs.Names.{Fires, Saying, with_pulls, event_in, turn, piped, ups_in, AreOfFrame, written, entries_in, frames_in}
+use Rattle.std.proofs.{Common.{zero, ◌==◌, if◌then◌else◌, ap₂, eq-eqb}, lemmas.Bool.{eqb-true, leb-true}}
 use Rattle.x25_frame.specs.Frame.{PlainFrame}
-use Rattle.x25_frame.specs.Spelling.{spelling_of}
-use Rattle.x25_line.specs.laws.Sessions.{Entry, Meeting, sent_in, begun_by}
+use Rattle.x25_joined.proofs.{AskedOctets.{AsksOctets, asks_octets}, FrameText.{frame_words, frame_text, frame_open, frame_comes}}
+use Rattle.x25_joined.proofs.LineText.{AreWhole, none_whole, more_whole, one_more, said_more, first_said}
+use Rattle.x25_joined.proofs.PeerEntries.{ups_append, follows_ups, commands_ups, fires_ups}
+use Rattle.x25_joined.proofs.Turns.{entries-append, TurnIs, first_is, line_did, line_refused, line_none}
+use Rattle.x25_joined.specs.laws.BesidePeer.{Program, nothing_read, begun_in, seen, bare, sent_then, reads, IsInTime, HappensToProgram, Reads, Takes, Elsewhere}
+use Rattle.x25_joined.specs.laws.{BesidePeer.{ReachedProgram, at_start, goes_on}, BesidePeerClaims.{entries_to, OfProgram}}
+use Rattle.x25_joined.specs.laws.Joined.{written_more, station_of, IsNoFrame}
 use Rattle.x25_layer.specs.Calls.{PullsAll}
-use Rattle.x25_script.specs.laws.ReadingLaw.{ReadsOctets}
-use Rattle.x25_io.specs.Lines.{IsOpen}
-use Rattle.x25_station.specs.declared.config.Cfg.{Cfg}
+use Rattle.x25_line.specs.laws.Sessions.{Entry, Meeting, sent_in, begun_by}
+use Rattle.x25_peer.specs.laws.BesideSessions.{Own, BesideSessions, in_session, own_anew, own_after, stepped, acted, took, met_by}
+use Rattle.x25_pipe.specs.Pipe.{pulled_behind, and_pulls}
+use Rattle.x25_station.specs.{Command.{Command, Requests, RequestsWith, Connects, Disconnects, Probes, Relinks}, Config.{config_refusal}}
+use Rattle.x25_station.specs.{Step.{link_receives, receives}, laws.TimerLaw.{outcome}}
+use Rattle.x25_world.proofs.sessions.acts.SessionRequests.{said_octets}
 use Rattle.x25_station.specs.declared.error.StationError.TheVariants as error
 use Rattle.x25_station.specs.Command as command
-use Rattle.x25_station.specs.Command.{Command, Requests, RequestsWith, Connects, Disconnects, Probes, Relinks}
-use Rattle.x25_station.specs.Entry.{StationEntry}
-use Rattle.x25_station.specs.Config.{Settings, settings_from, config_refusal}
-use Rattle.x25_station.specs.Station.{Station, new_station}
-use Rattle.x25_station.specs.Step.{Step, Outcome, Did, Refused, link_receives, receives, commands, fires}
-use Rattle.x25_station.specs.laws.TimerLaw.{StationEvent, Comes, Asks, Fires, outcome}
-use Rattle.x25_pipe.specs.Pipe.{Saying, pulled_behind, and_pulls, with_pulls, event_in, turn, piped}
-use Rattle.x25_world.specs.laws.Claims.{ups_in}
-use Rattle.x25_world.specs.laws.TapOctets.{AreOfFrame}
 use Rattle.x25_peer.specs.laws.BesideSessions as beside
-use Rattle.x25_peer.specs.laws.BesideSessions.{Own, BesideSessions, in_session, own_anew, own_after, stepped, acted, took, met_by}
 use Rattle.x25_peer.specs.laws.BesideSessionClaims as over_sessions
-use Rattle.x25_joined.specs.laws.Joined.{written, written_more, station_of, entries_in, frames_in, IsNoFrame}
-use Rattle.x25_joined.specs.laws.BesidePeer.{Program, nothing_read, begun_in, seen, bare, sent_then, reads, IsInTime, HappensToProgram, Reads, Takes, Elsewhere}
-use Rattle.x25_joined.specs.laws.BesidePeer.{ReachedProgram, at_start, goes_on}
-use Rattle.x25_joined.specs.laws.BesidePeerClaims.{entries_to, OfProgram}
-use Rattle.x25_joined.proofs.LineText.{AreWhole, none_whole, more_whole, one_more, said_more, first_said}
-use Rattle.x25_joined.proofs.FrameText.{frame_words, frame_text, frame_open, frame_comes}
-use Rattle.x25_joined.proofs.Turns.{entries-append, TurnIs, first_is, line_did, line_refused, line_none}
-use Rattle.x25_joined.proofs.AskedOctets.{AsksOctets, asks_octets}
-use Rattle.x25_joined.proofs.PeerEntries.{ups_append, follows_ups, commands_ups, fires_ups}
-use Rattle.x25_world.proofs.sessions.acts.SessionRequests.{said_octets}
 
 -- ---- the entries of sessions
 

@@ -1,18 +1,11 @@
 -- What a program says of an event, and where it leads.
-use Rattle.std.proofs.Common.{◌≡◌, ◌∙◌, ℕ, List, [], ◌∷◌, ◌++◌, map, Option, Some, None, append-nil, ap, sym, subst, refl}
-use Rattle.x25_frame.specs.Spelling.{spelling_of}
-use Rattle.x25_station.specs.Entry.{StationEntry}
-use Rattle.x25_station.specs.Config.{Settings}
-use Rattle.x25_station.specs.Station.{Station}
-use Rattle.x25_station.specs.Step.{Step, Outcome, Did, Refused}
+use Rattle.x25_joined.proofs.Names.{◌≡◌, ◌∙◌, ℕ, List, [], ◌∷◌, ◌++◌, map, Option, Some, None, append-nil, ap, sym, subst, refl, spelling_of, StationEntry}
+use Rattle.x25_joined.proofs.Names.{Settings, Station, Step, Outcome, Did, Refused, StationEvent, Saying, with_pulls, event_in, event_turn, turn, entries_in}
+use Rattle.x25_joined.proofs.Names.{frames_in}
+use Rattle.x25_pipe.specs.Pipe.{enters, sends, reads_nothing, refuses, Turn, marked, standing_turn, step_told, turn_of, pulling_turn, timer_with_pulls}
+use Rattle.x25_pipe.specs.Pipe.{asked_turn}
+use Rattle.x25_station.specs.{Timer.{standing}, declared.error.StationError.{StationError}, declared.timer.Timer.{Timer}}
 use Rattle.x25_station.specs.laws.TimerLaw as timer
-use Rattle.x25_station.specs.laws.TimerLaw.{StationEvent}
-use Rattle.x25_station.specs.Timer.{standing}
-use Rattle.x25_station.specs.declared.timer.Timer.{Timer}
-use Rattle.x25_station.specs.declared.error.StationError.{StationError}
-use Rattle.x25_pipe.specs.Pipe.{Saying, enters, sends, reads_nothing, refuses, Turn, marked, standing_turn, step_told, turn_of, pulling_turn, timer_with_pulls}
-use Rattle.x25_pipe.specs.Pipe.{with_pulls, event_in, event_turn, asked_turn, turn}
-use Rattle.x25_joined.specs.laws.Joined.{entries_in, frames_in}
 
 -- the entries that both parts say
 pub entries-append : (xs ys : List Saying) → entries_in (xs ++ ys) ≡ entries_in xs ++ entries_in ys

@@ -1,8 +1,7 @@
 -- The frames on a line where one of the two ends is busy: RNR may stand among them, and what is heard last tells whether the end is busy.
-use Rattle.std.proofs.Common.{◌≡◌, ℕ, List, [], ◌∷◌, ◌++◌, Bool, true, false, refl, sym, ◌∙◌}
-use Rattle.x25_frame.specs.Frame.{PlainFrame, info, rr, rnr, rej}
-use Rattle.x25_link.specs.{Station.{LinkStation, is_busy}, laws.AnswerLaw.{says, AreNext}, laws.BusyLaw.{said_last, says_free, NoInfo, Says}}
-use Rattle.x25_line.proofs.{StationSteps.{not_both}, HealingLines.{LastTells}}
+use Rattle.x25_line.proofs.Names.{◌≡◌, ℕ, List, [], ◌∷◌, ◌++◌, Bool, true, false, refl, sym, ◌∙◌, PlainFrame, info, rr, rnr, rej, LinkStation, is_busy, says}
+use Rattle.x25_line.proofs.{HealingLines.{LastTells}, Names.{AreNext, Says}, StationSteps.{not_both}}
+use Rattle.x25_link.specs.laws.BusyLaw.{said_last, says_free, NoInfo}
 
 -- where no I frame went, V(S) stays
 pub silent_stays : (r : ℕ) {n : ℕ} (fs : List PlainFrame) {m : ℕ} → AreNext r n fs m → NoInfo fs → m ≡ n

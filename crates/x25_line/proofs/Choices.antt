@@ -1,8 +1,7 @@
 -- What is refused, or isn't so, changes nothing.
-use Rattle.std.proofs.Common.{◌≡◌, Bool, true, false, if◌then◌else◌, Option, Some, None, refl}
-use Rattle.x25_link.specs.{declared.error.LinkError.{LinkError}, Station.{LinkSettings, LinkStation, is_up}, Hearing.{LinkStep}}
-use Rattle.x25_link.specs.Link.{timer_refusal, connect_refusal, disconnect_refusal}
-use Rattle.x25_line.specs.laws.Stations.{Act, T1, Connect, Disconnect, Abandon, Probe, unless, own_act}
+use Rattle.x25_line.proofs.Names.{◌≡◌, Bool, true, false, if◌then◌else◌, Option, Some, None, refl, LinkError, LinkSettings, LinkStation, is_up, LinkStep}
+use Rattle.x25_line.proofs.Names.{timer_refusal, connect_refusal, disconnect_refusal, Act, T1, Connect, Disconnect, Abandon, Probe}
+use Rattle.x25_line.specs.laws.Stations.{unless, own_act}
 
 -- what holds of w, and of v where nothing is refused, holds whichever of the two comes
 pub unless_by : {W : Type 0} (Q : W → Type 0) (o : Option LinkError) {w v : W} → Q w → (o ≡ None → Q v) → Q (unless o w v)

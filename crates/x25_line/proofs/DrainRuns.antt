@@ -1,18 +1,12 @@
 -- Deliveries alone drain each line: what comes makes the line and the stations weigh less, but for as many changes as the world bounds.
-use Rattle.std.proofs.Common.{◌≡◌, ℕ, suc, zero, ◌+◌, ◌*◌, ◌%◌, ◌≤◌, List, [], ◌∷◌, ◌++◌, ◌⊎◌, inl, inr, length, Bool, true, false, Result, Ok, refl, sym, ap}
-use Rattle.std.proofs.Common.{◌∙◌, subst, arith}
+use Rattle.x25_line.proofs.Names.{◌≡◌, ℕ, suc, zero, ◌+◌, ◌*◌, ◌%◌, ◌≤◌, List, [], ◌∷◌, ◌++◌, ◌⊎◌, inl, inr, length, Bool, true, false, Result, Ok, refl, sym}
+use Rattle.x25_line.proofs.Names.{ap, ◌∙◌, subst, arith, Role, PlainFrame, info, spelling_of, frame_of, ReadsSpelled, FrameError, LinkSettings, LinkStation}
+use Rattle.x25_line.proofs.Names.{other, take_step, Deliver, LinkEvent, Near, Far, Entry, Meeting, Sessions, sent_in, begun_by, after_step, delivered, acts}
 use Rattle.std.specs.Prelude.{◌==◌}
-use Rattle.x25_bits.specs.declared.role.Role.{Role}
-use Rattle.x25_frame.specs.{Frame.{PlainFrame, info}, Spelling.{spelling_of}, Reading.{frame_of}, laws.ReadingLaw.{ReadsSpelled}}
-use Rattle.x25_frame.specs.declared.error.FrameError.{FrameError}
-use Rattle.x25_link.specs.{Station.{LinkSettings, LinkStation}, Hearing.{other}, Link.{take_step}}
-use Rattle.x25_line.specs.laws.Stations.{Deliver, LinkEvent, Near, Far}
-use Rattle.x25_line.specs.laws.Sessions.{Entry, Meeting, Sessions, sent_in, begun_by, after_step, delivered, acts, swapped, run}
-use Rattle.x25_line.specs.{laws.StationClaims.{AreJoined}, Healing.{IsDelivery, EachFindsIn, SessionsDrainEnd, SomeSessionsDrain}, laws.LawsBelow.{HealingLaws}}
-use Rattle.x25_line.specs.laws.SessionClaims.{Each}
-use Rattle.x25_line.proofs.{StationRuns.{joined_swapped}, HealingRuns.{Fit, keeps_fit, fit_from}}
-use Rattle.x25_line.proofs.DrainWeights.{more_if, times, times_more, seven_times, read_weight, weights, to_take, station_weight, AreSpelled}
 use Rattle.x25_line.proofs.DrainSteps.{changes, asks_in, read_weight_some, GoesOn, Changes, Took, took}
+use Rattle.x25_line.proofs.DrainWeights.{more_if, times, times_more, seven_times, read_weight, weights, to_take, station_weight, AreSpelled}
+use Rattle.x25_line.proofs.{HealingRuns.{Fit, keeps_fit, fit_from}, Names.{swapped, run, AreJoined, IsDelivery, HealingLaws, Each}}
+use Rattle.x25_line.{proofs.StationRuns.{joined_swapped}, specs.Healing.{EachFindsIn, SessionsDrainEnd, SomeSessionsDrain}}
 
 -- ---- what stands on a line
 

@@ -1,18 +1,15 @@
 -- What octets that come make of a station: it weighs less with what it sends; or it changes its session or hears a new number, of
 -- which there are only so many.
-use Rattle.std.proofs.Common.{◌≡◌, ℕ, suc, zero, ◌+◌, ◌-◌, ◌*◌, ◌%◌, ◌<◌, ◌≤◌, List, [], ◌∷◌, ◌⊎◌, inl, inr, length, max, Bool, true, false, if◌then◌else◌}
-use Rattle.std.proofs.{Common.{Result, Ok, Err, refl, sym, ap, subst, arith}, lemmas.Bool.{leb-true, eqb-true, eqb-false}}
-use Rattle.std.specs.Prelude.{◌==◌, ◌&&◌}
-use Rattle.x25_link.proofs.EndLemmas.{true_false}
-use Rattle.x25_frame.specs.{Frame.{PlainFrame, info, rr, rnr, rej, sabm, disc, ua, dm}, Spelling.{is_command, poll_or_final}, Reading.{frame_of}}
-use Rattle.x25_frame.specs.{declared.error.FrameError.{FrameError}, declared.error.FrameError.TheVariants.{Undefined, NoInfoAllowed, TooLong}}
-use Rattle.x25_link.specs.{declared.phase.Phase.{Phase}, declared.phase.Phase.TheVariants.{Down, Waiting, Up, Closed}}
-use Rattle.x25_link.specs.Station.{LinkSettings, LinkStation, Side, with_nothing, sends, ended}
-use Rattle.x25_link.specs.Hearing.{LinkStep, quiet, other, is_valid, acknowledged, hears_info, peer_is, goes_back, polls, numbered, rejects, reject_of}
-use Rattle.x25_link.specs.{Hearing.{row_of_frame, row_of}, Link.{alone, hears, declines, when_down, when_waiting, take_step}, laws.AnswerLaw.{heard}}
-use Rattle.x25_line.proofs.StationSends.{AllWithin}
+use Rattle.x25_line.proofs.Names.{◌≡◌, ℕ, suc, zero, ◌+◌, ◌-◌, ◌*◌, ◌%◌, ◌<◌, ◌≤◌, List, [], ◌∷◌, ◌⊎◌, inl, inr, length, max, Bool, true, false, if◌then◌else◌}
+use Rattle.x25_line.proofs.Names.{Result, Ok, Err, refl, sym, ap, subst, arith, leb-true, eqb-true, ◌&&◌, PlainFrame, info, rr, rnr, rej, sabm, disc, ua, dm}
+use Rattle.x25_line.proofs.Names.{is_command, poll_or_final, frame_of, FrameError, Undefined, NoInfoAllowed, TooLong, Phase, Down, Waiting, Up, Closed}
+use Rattle.x25_line.proofs.Names.{LinkSettings, LinkStation, Side, with_nothing, sends, ended, LinkStep, quiet, other, is_valid, acknowledged, hears_info}
+use Rattle.std.{proofs.lemmas.Bool.{eqb-false}, specs.Prelude.{◌==◌}}
 use Rattle.x25_line.proofs.DrainWeights.{more_if, times_more, seven_times, ready_weight, rej_weight, weight, read_weight, weights, to_take, station_weight}
 use Rattle.x25_line.proofs.DrainWeights.{asks_set_up, IsSpelled, AreSpelled, Weighs, W-sends, W-ended, W-info, W-peer, W-polls, W-rej}
+use Rattle.x25_line.proofs.{Names.{peer_is, goes_back, polls, rejects, alone, hears, take_step, heard}, StationSends.{AllWithin}}
+use Rattle.x25_link.proofs.EndLemmas.{true_false}
+use Rattle.x25_link.specs.{Hearing.{numbered, reject_of, row_of_frame, row_of}, Link.{declines, when_down, when_waiting}}
 
 -- ---- how many changes may come yet
 

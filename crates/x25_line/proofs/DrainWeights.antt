@@ -1,16 +1,13 @@
 -- What comes to a station weighs more than what it brings, as long as the station stays in its phase and hears no new number.
-use Rattle.std.proofs.Common.{◌≡◌, ℕ, suc, zero, ◌+◌, ◌-◌, ◌*◌, ◌%◌, ◌<◌, ◌≤◌, List, [], ◌∷◌, ◌++◌, length, Bool, true, false, not, if◌then◌else◌, Result, Ok}
-use Rattle.std.proofs.{Common.{Err, refl, sym, ap, subst, arith, length-append}, lemmas.Bool.{eqb-true, eqb-false, and_parts, not-true}}
-use Rattle.std.specs.Prelude.{◌==◌, slice_index_or}
-use Rattle.x25_frame.specs.{Frame.{PlainFrame, info, rr, rnr, rej, sabm, disc}, Spelling.{information_of, IsInRange, MayCarry, IsWithin}}
-use Rattle.x25_frame.specs.declared.error.FrameError.{FrameError}
-use Rattle.x25_link.specs.{declared.phase.Phase.{Phase}, Outgoing.{Outgoing}}
-use Rattle.x25_link.specs.Station.{LinkStation, Side, is_up, is_busy, wanted, with_near, sends, ready, next_frame, send_next, may_send, pumped, owes_ready}
-use Rattle.x25_link.specs.Station.{finished, ended}
-use Rattle.x25_link.specs.Hearing.{LinkStep, is_taken, takes, answers, rejects_gap, passes_over, hears_info, peer_is, goes_back, polls}
+use Rattle.x25_line.proofs.Names.{◌≡◌, ℕ, suc, zero, ◌+◌, ◌-◌, ◌*◌, ◌%◌, ◌<◌, ◌≤◌, List, [], ◌∷◌, ◌++◌, length, Bool, true, false, not, if◌then◌else◌, Result}
+use Rattle.x25_line.proofs.Names.{Ok, Err, refl, sym, ap, subst, arith, length-append, eqb-true, and_parts, PlainFrame, info, rr, rnr, rej, sabm, disc}
+use Rattle.x25_line.proofs.Names.{FrameError, Phase, LinkStation, Side, is_up, is_busy, wanted, sends, may_send, pumped, ended, LinkStep, hears_info, peer_is}
+use Rattle.std.{proofs.lemmas.Bool.{eqb-false, not-true}, specs.Prelude.{◌==◌, slice_index_or}}
+use Rattle.x25_frame.specs.Spelling.{information_of, IsInRange, MayCarry, IsWithin}
+use Rattle.x25_line.{proofs.Lists.{each_append}, proofs.Names.{goes_back, polls}, proofs.StationSends.{AllWithin}, specs.laws.StationClaims.{Each}}
 use Rattle.x25_link.proofs.EndLemmas.{open_is}
-use Rattle.x25_line.specs.laws.StationClaims.{Each}
-use Rattle.x25_line.proofs.{Lists.{each_append}, StationSends.{AllWithin}}
+use Rattle.x25_link.specs.{Hearing.{is_taken, takes, answers, rejects_gap, passes_over}, Outgoing.{Outgoing}}
+use Rattle.x25_link.specs.Station.{with_near, ready, next_frame, send_next, owes_ready, finished}
 
 -- ---- what frames weigh
 

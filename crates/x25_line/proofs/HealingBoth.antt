@@ -1,20 +1,15 @@
 -- Both ends fire, one of which may be busy, and everything arrives.
-use Rattle.std.proofs.Common.{◌≡◌, ℕ, List, [], ◌∷◌, ◌++◌, ◌⊎◌, inl, inr, length, Bool, Option, Some, None, true, false, refl, sym, ap, ◌∙◌, subst, arith}
-use Rattle.std.proofs.lemmas.Bool.{le-ltb, eqb-true, and_parts}
-use Rattle.std.specs.Prelude.{◌&&◌, ◌==◌}
-use Rattle.x25_frame.specs.{Frame.{PlainFrame}, laws.ReadingLaw.{ReadsSpelled}}
-use Rattle.x25_link.specs.{Outgoing.{waits}, Station.{LinkSettings, LinkStation, is_up, is_busy, wanted}, Hearing.{LinkStep, other}}
-use Rattle.x25_link.specs.{declared.error.LinkError.{LinkError}, Link.{take_step, timer_refusal, timer_step}, laws.RestLaw.{IsAtRest}, laws.AnswerLaw.{says}}
-use Rattle.x25_link.specs.laws.BusyLaw.{BusyLaws}
-use Rattle.x25_link.proofs.EndLemmas.{busy_is}
-use Rattle.x25_line.specs.laws.Stations.{Deliver, T1, LinkEvent, Near, Far}
-use Rattle.x25_line.specs.{laws.Sessions.{Entry, Sessions, begun_by, delivered, acts, swapped, after_step, unless, run}, laws.StationClaims.{AreJoined}}
-use Rattle.x25_line.specs.{Healing.{IsDelivery, HasTries, OneIsFree}, laws.LawsBelow.{HealingLaws}, laws.SessionClaims.{Each}}
-use Rattle.x25_line.proofs.{StationSteps.{not_both}, StationRuns.{joined_swapped}, HealingLines.{Reads, reads_none, Reports, NoFinal}}
+use Rattle.x25_line.proofs.Names.{◌≡◌, ℕ, List, [], ◌∷◌, ◌++◌, ◌⊎◌, inl, inr, length, Bool, Option, Some, None, true, false, refl, sym, ap, ◌∙◌, subst, arith}
+use Rattle.x25_line.proofs.Names.{le-ltb, eqb-true, and_parts, ◌&&◌, PlainFrame, ReadsSpelled, waits, LinkSettings, LinkStation, is_up, is_busy, wanted}
+use Rattle.x25_line.proofs.Names.{LinkStep, other, LinkError, take_step, timer_refusal, timer_step, IsAtRest, says, BusyLaws, Deliver, T1, LinkEvent, Near, Far}
+use Rattle.x25_line.proofs.Names.{Entry, Sessions, begun_by, delivered, acts, swapped, after_step, unless, run, AreJoined, IsDelivery, HasTries, HealingLaws}
+use Rattle.std.specs.Prelude.{◌==◌}
+use Rattle.x25_line.proofs.{HealingEnds.{after_firings, GoesOn, polls, stays, Fired, BothFired, both_fire}, HealingLines.{Reads, reads_none, Reports, NoFinal}}
+use Rattle.x25_line.proofs.HealingPhases.{AsksFirst, Phases, Beside, near_hears, far_hears, stays_free}
 use Rattle.x25_line.proofs.HealingSteps.{Reached, then_happens, timely_up, Sound, sound_swapped, sound_at, in_order_at, SentWhole, whole_at, IsDrained, counted}
-use Rattle.x25_line.proofs.HealingSteps.{all_heard, hears_well, deliveries_keep, reads_put}
-use Rattle.x25_line.proofs.HealingEnds.{after_firings, GoesOn, polls, stays, Fired, BothFired, both_fire}
-use Rattle.x25_line.proofs.{HealingPhases.{AsksFirst, Phases, Beside, near_hears, far_hears, stays_free}, sessions.SessionSteps.{whole_behind}}
+use Rattle.x25_line.proofs.{HealingSteps.{all_heard, hears_well, deliveries_keep, reads_put}, Names.{Each}, StationRuns.{joined_swapped}}
+use Rattle.x25_line.{proofs.StationSteps.{not_both}, proofs.sessions.SessionSteps.{whole_behind}, specs.Healing.{OneIsFree}}
+use Rattle.x25_link.proofs.EndLemmas.{busy_is}
 
 -- nothing waits at an end at rest, so it isn't busy
 rest_free : {s : LinkStation} → IsAtRest s → is_busy s ≡ false

@@ -1,17 +1,14 @@
 -- Whatever the two ends are at a quiet moment, once both have fired and all has come each is at rest or not Up.
-use Rattle.std.proofs.Common.{◌≡◌, List, [], ◌∷◌, ◌⊎◌, inl, inr, length, Bool, true, false, if◌then◌else◌, ℕ, suc, ◌<◌, Some, None, refl, sym, ap, ◌∙◌, subst}
-use Rattle.std.proofs.{Common.{arith}, lemmas.Bool.{ltb-true, ltb-false}}
-use Rattle.std.specs.Prelude.{nat_lt}
-use Rattle.x25_frame.specs.{Frame.{PlainFrame, sabm}, laws.ReadingLaw.{ReadsSpelled}}
-use Rattle.x25_link.specs.{declared.phase.Phase.{Phase}, declared.phase.Phase.TheVariants.{Down, Waiting, Up}, declared.phase.Reason.TheVariants.{Retries}}
-use Rattle.x25_link.specs.{Station.{LinkSettings, LinkStation, is_up, is_busy, wanted, with_nothing}, Hearing.{LinkStep, other}, Link.{timer_step, timer_runs}}
-use Rattle.x25_link.specs.{laws.SetUp.{Is}, laws.WindowMachine.{nothing}, laws.WindowLaw.{Follows, IsOut}, laws.RestLaw.{IsAtRest}, laws.AnswerLaw.{says}}
-use Rattle.x25_line.specs.{laws.Stations.{T1, LinkEvent}, laws.Sessions.{SessionEnd, Sessions, begun_by, acts, swapped, run}}
-use Rattle.x25_line.specs.{laws.StationClaims.{AreJoined, IsWhole, AreWhole}, Healing.{IsDelivery, HasTries}, laws.SessionClaims.{Each}}
-use Rattle.x25_line.specs.laws.LawsBelow.{HealingLaws}
-use Rattle.x25_line.proofs.{DrainWeights.{below_eight}, StationSteps.{not_both, out_not_up}, StationRuns.{joined_swapped}, HealingLines.{Reads}}
-use Rattle.x25_line.proofs.{StationEvents.{timer_up}, HealingSteps.{IsDrained, IsInOrderIfUp, stopped_rests, refused, fires_is, reads_put}}
-use Rattle.x25_line.proofs.{HealingSetUp.{RestsOrOut, AreOfSetUp, Parts, asked, asked_polling, polled, rests, Settles, settle}, StationAway.{is_up_phase}}
+use Rattle.x25_line.proofs.Names.{◌≡◌, List, [], ◌∷◌, ◌⊎◌, inl, inr, length, Bool, true, false, if◌then◌else◌, ℕ, suc, ◌<◌, Some, None, refl, sym, ap, ◌∙◌}
+use Rattle.x25_line.proofs.Names.{subst, arith, ltb-false, nat_lt, PlainFrame, sabm, ReadsSpelled, Phase, Down, Waiting, Up, Retries, LinkSettings, LinkStation}
+use Rattle.x25_line.proofs.Names.{is_up, is_busy, wanted, with_nothing, LinkStep, other, timer_step, timer_runs, Is, Follows, IsOut, IsAtRest, says, T1}
+use Rattle.x25_line.proofs.Names.{LinkEvent, SessionEnd, Sessions, begun_by, acts, swapped, run, AreJoined, IsWhole, AreWhole, IsDelivery, HasTries, Each}
+use Rattle.std.proofs.lemmas.Bool.{ltb-true}
+use Rattle.x25_line.proofs.{DrainWeights.{below_eight}, HealingLines.{Reads}}
+use Rattle.x25_line.proofs.HealingSetUp.{RestsOrOut, AreOfSetUp, Parts, asked, asked_polling, polled, rests, Settles, settle}
+use Rattle.x25_line.proofs.{HealingSteps.{IsDrained, IsInOrderIfUp, stopped_rests, refused, fires_is, reads_put}, Names.{HealingLaws}}
+use Rattle.x25_line.proofs.{StationAway.{is_up_phase}, StationEvents.{timer_up}, StationRuns.{joined_swapped}, StationSteps.{not_both, out_not_up}}
+use Rattle.x25_link.specs.laws.WindowMachine.{nothing}
 
 poll_whole : (n1 : ℕ) (busy : Bool) (n : ℕ) → n < 8 → IsWhole n1 [] (says busy true n true)
 poll_whole n1 true n small = record { in_range = small; carries = refl; within = tt; packet = tt }

@@ -1,11 +1,8 @@
 -- The frames that stand on a line, and those among them that matter while an end heals.
-use Rattle.std.proofs.{Common.{◌≡◌, ℕ, ◌+◌, ◌%◌, ◌≤◌, List, [], ◌∷◌, ◌++◌, false, Ok, refl, arith, length, ap, true}, lemmas.Bool.{and_left, and_right}}
-use Rattle.std.specs.Prelude.{◌&&◌, not}
-use Rattle.x25_bits.specs.declared.role.Role.{Role}
-use Rattle.x25_frame.specs.{Frame.{PlainFrame, info, rr, rnr, rej}, Spelling.{spelling_of}, Reading.{frame_of}, laws.ReadingLaw.{ReadsSpelled}}
-use Rattle.x25_link.specs.laws.AnswerLaw.{AreNext}
-use Rattle.x25_line.specs.{laws.StationClaims.{Each, AreWhole}, laws.Sessions.{Entry, sent_in}}
-use Rattle.x25_line.proofs.Lists.{each_append}
+use Rattle.x25_line.proofs.Names.{◌≡◌, ℕ, ◌+◌, ◌%◌, ◌≤◌, List, [], ◌∷◌, ◌++◌, false, Ok, refl, arith, length, ap, true, ◌&&◌, Role, PlainFrame, info, rr, rnr}
+use Rattle.std.{proofs.lemmas.Bool.{and_left, and_right}, specs.Prelude.{not}}
+use Rattle.x25_line.proofs.{Lists.{each_append}, Names.{rej, spelling_of, frame_of, ReadsSpelled, AreNext, AreWhole, Entry, sent_in}}
+use Rattle.x25_line.specs.laws.StationClaims.{Each}
 
 -- ---- what octets on a line read as
 

@@ -1,20 +1,15 @@
 -- A link that is set up once heals as one over sessions does: where both ends are Up, no end ever awaited UA, so timer T1 was timely.
-use Rattle.std.proofs.Common.{◌≡◌, List, ℕ, [], ◌∷◌, length, inl, inr, true, false, refl, sym, ap, ◌∙◌, subst, arith}
-use Rattle.x25_frame.specs.laws.ReadingLaw.{ReadsSpelled}
-use Rattle.x25_link.specs.{declared.phase.Phase.TheVariants.{Waiting}, Station.{LinkSettings, LinkStation, is_up}, laws.RestLaw.{IsAtRest}}
-use Rattle.x25_link.specs.laws.BusyLaw.{BusyLaws}
-use Rattle.x25_line.specs.laws.Stations.{Stations, Act, T1, LinkEvent, Near, Far, acts, stations_swapped, happens, run, start}
-use Rattle.x25_line.specs.{laws.StationClaims.{AreJoined, IsSetUpOnce}, laws.Line.{Line, line_swapped}, laws.SessionClaims.{octets_of}}
-use Rattle.x25_line.specs.{laws.Sessions.{Entry, Sessions, AreTimely, IsTimelyAt, from_set_up, swapped}, laws.WholeNumbers.{machine_run, machine_at_start}}
-use Rattle.x25_line.specs.{Healing.{HasTries}, laws.HealingPuts.{LinkMayHeal, SessionsFreeThroughout}}
-use Rattle.x25_line.specs.laws.HealingOnce.{IsHealed, RestShows, HealsUnlessBothBusy, FreeThroughout, PutsHeal}
-use Rattle.x25_line.specs.laws.LawsBelow.{HealingLaws}
-use Rattle.x25_line.proofs.{StationActs.{of_act}, StationEvents.{each_hands_one}, StationClaimLemmas.{idle_all, holds_order, holds_lists}}
-use Rattle.x25_line.proofs.StationSteps.{Joint, Holds, not_both, up_of}
-use Rattle.x25_line.proofs.StationRuns.{joint_swapped, event_joint, once_before, run_once, start_machine}
-use Rattle.x25_line.proofs.{sessions.SessionsForgotten.{Alike, happens_alike, runs_alike}, HealingRuns.{fit_from}, HealingEnds.{rest_or_out}}
+use Rattle.x25_line.proofs.Names.{◌≡◌, List, ℕ, [], ◌∷◌, length, inl, inr, true, false, refl, sym, ap, ◌∙◌, subst, arith, ReadsSpelled, Waiting, LinkSettings}
+use Rattle.x25_line.proofs.Names.{LinkStation, is_up, IsAtRest, BusyLaws, Stations, Act, T1, LinkEvent, Near, Far, stations_swapped, start, AreJoined}
+use Rattle.x25_line.proofs.Names.{IsSetUpOnce, Line, line_swapped, octets_of, Entry, Sessions, AreTimely, IsTimelyAt, from_set_up, swapped, machine_run}
+use Rattle.x25_line.proofs.{HealingEnds.{rest_or_out}, HealingRuns.{fit_from}, HealingSteps.{IsDrained, IsInOrderIfUp, stopped_rests}}
+use Rattle.x25_line.proofs.{Names.{machine_at_start, HasTries, HealingLaws}, SessionsHeal.{sessions_heal_unless_both_busy, puts_heal_sessions}}
+use Rattle.x25_line.proofs.{StationActs.{of_act}, StationClaimLemmas.{idle_all, holds_order, holds_lists}, StationEvents.{each_hands_one}}
+use Rattle.x25_line.proofs.{StationRuns.{joint_swapped, event_joint, once_before, run_once, start_machine}, StationSteps.{Joint, Holds, not_both, up_of}}
 use Rattle.x25_line.proofs.sessions.SessionUnasked.{IsFirst, first_lasts, begun_once, once_begun, first_alike, timely_unasked}
-use Rattle.x25_line.proofs.{HealingSteps.{IsDrained, IsInOrderIfUp, stopped_rests}, SessionsHeal.{sessions_heal_unless_both_busy, puts_heal_sessions}}
+use Rattle.x25_line.proofs.sessions.SessionsForgotten.{Alike, happens_alike, runs_alike}
+use Rattle.x25_line.specs.laws.HealingOnce.{IsHealed, RestShows, HealsUnlessBothBusy, FreeThroughout, PutsHeal}
+use Rattle.x25_line.specs.laws.{HealingPuts.{LinkMayHeal, SessionsFreeThroughout}, Stations.{acts, happens, run}}
 use Rattle.x25_line.specs.laws.Sessions as session
 
 -- ---- two ends that are Up were so all along

@@ -1,18 +1,15 @@
 -- How an end heals after its firing, where one of the two may be busy, told of two stations and the frames between them. Its poll is on the line, then
 -- the answer; then what isn't acknowledged goes again, or waits until the other end is heard to be busy no more.
-use Rattle.std.proofs.Common.{◌≡◌, ℕ, ◌+◌, ◌%◌, ◌≤◌, List, [], ◌∷◌, ◌++◌, ◌⊎◌, inl, inr, length, max, Bool, true, false, if◌then◌else◌, Ok, None, Some}
-use Rattle.std.proofs.{Common.{refl, sym, ap, ◌∙◌, subst, arith, length-append}, lemmas.Bool.{ltb-false, le-ltb, eq-eqb}}
+use Rattle.x25_line.proofs.Names.{◌≡◌, ℕ, ◌+◌, ◌%◌, ◌≤◌, List, [], ◌∷◌, ◌++◌, ◌⊎◌, inl, inr, length, max, Bool, true, false, if◌then◌else◌, Ok, None, Some}
+use Rattle.x25_line.proofs.Names.{refl, sym, ap, ◌∙◌, subst, arith, length-append, ltb-false, le-ltb, eq-eqb, PlainFrame, info, rr, rnr, rej, frame_of}
+use Rattle.x25_line.proofs.Names.{LinkSettings, LinkStation, is_up, is_busy, wanted, LinkStep, other, is_valid, take_step, says, AreNext, heard, Says, BusyLaws}
 use Rattle.std.specs.Prelude.{not}
-use Rattle.x25_frame.specs.{Frame.{PlainFrame, info, rr, rnr, rej}, Reading.{frame_of}}
-use Rattle.x25_link.specs.{Station.{LinkSettings, LinkStation, is_up, is_busy, wanted}, Hearing.{LinkStep, other, is_valid, is_taken}, Link.{take_step}}
-use Rattle.x25_link.specs.laws.AnswerLaw.{says, AreNext, Outcome, Answers, heard, goes_on_from, confirms, once_taken, busy_after, passed_over}
-use Rattle.x25_link.specs.laws.BusyLaw.{Says, BusyLaws, NoInfo}
-use Rattle.x25_line.specs.{laws.LawsBelow.{HealingLaws}, laws.StationClaims.{number_in}}
-use Rattle.x25_line.proofs.StationSteps.{not_both}
+use Rattle.x25_line.proofs.BusyLines.{silent_stays, none_behind, hears_busy, hears_more, tells_free, Told, told_on, told_first}
 use Rattle.x25_line.proofs.HealingLines.{LastTells, next_tells, tells_behind, Reports, reports_more, reports_new, reports_heard, Ahead, ahead_low, ahead_more}
-use Rattle.x25_line.proofs.HealingLines.{next_ahead, IsMild, Mild, mild_ahead, mild_more, held_mild, IsNoFinal, NoFinal}
-use Rattle.x25_line.proofs.HealingSteps.{number_of, HearsWell}
-use Rattle.x25_line.proofs.{BusyLines.{silent_stays, none_behind, hears_busy, hears_more, tells_free, Told, told_on, told_first}, StationAway.{is_up_phase}}
+use Rattle.x25_line.proofs.{HealingLines.{next_ahead, IsMild, Mild, mild_ahead, mild_more, held_mild, IsNoFinal, NoFinal}, HealingSteps.{number_of, HearsWell}}
+use Rattle.x25_line.proofs.{Names.{HealingLaws, number_in}, StationAway.{is_up_phase}, StationSteps.{not_both}}
+use Rattle.x25_link.specs.{Hearing.{is_taken}, laws.AnswerLaw.{Outcome, Answers, goes_on_from, confirms, once_taken, busy_after, passed_over}}
+use Rattle.x25_link.specs.laws.BusyLaw.{NoInfo}
 
 -- ---- what is on the line
 

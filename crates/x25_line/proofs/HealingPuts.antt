@@ -1,21 +1,17 @@
 -- Packets are put while an end heals: in recovery they wait, and behind it each goes in order, as one I frame more at the end of the line.
-use Rattle.std.proofs.Common.{◌≡◌, ℕ, ◌+◌, ◌≤◌, List, [], ◌∷◌, ◌++◌, inl, inr, length, Bool, true, false, if◌then◌else◌, Option, Some, None, refl, sym, ap, ◌∙◌}
-use Rattle.std.proofs.{Common.{subst, arith, length-append, append-nil}, lemmas.Bool.{lt-ltb, le-ltb, ltb-false}}
-use Rattle.std.specs.Prelude.{nat_le}
-use Rattle.x25_frame.specs.{Frame.{PlainFrame}, laws.ReadingLaw.{ReadsSpelled}}
-use Rattle.x25_link.specs.{declared.error.LinkError.{LinkError}, Outgoing.{waits, is_open}}
-use Rattle.x25_link.specs.{Station.{LinkSettings, LinkStation, Side, is_up, is_busy, may_send, send_next}, Hearing.{LinkStep, other}}
-use Rattle.x25_link.specs.Link.{put_step, put_refusal}
-use Rattle.x25_link.specs.{laws.AnswerLaw.{AreNext}, laws.BusyLaw.{Says, BusyLaws}}
-use Rattle.x25_link.proofs.EndLemmas.{open_is, closed_is, with_packet, put_once, busy_is}
-use Rattle.x25_line.specs.{laws.Stations.{Put, Deliver, LinkEvent, Near, Far}, laws.Sessions.{Sessions, after_step, unless, acts, swapped, run}}
-use Rattle.x25_line.specs.{laws.StationClaims.{AreJoined}, laws.HealingPuts.{IsDeliveryOrPut, AreFree, SessionsFreeThroughout}, laws.SessionClaims.{Each}}
-use Rattle.x25_line.specs.laws.LawsBelow.{HealingLaws}
-use Rattle.x25_line.proofs.{StationSteps.{not_both}, StationRuns.{joined_swapped}}
+use Rattle.x25_line.proofs.Names.{◌≡◌, ℕ, ◌+◌, ◌≤◌, List, [], ◌∷◌, ◌++◌, inl, inr, length, Bool, true, false, if◌then◌else◌, Option, Some, None, refl, sym, ap}
+use Rattle.x25_line.proofs.Names.{◌∙◌, subst, arith, length-append, append-nil, le-ltb, ltb-false, nat_le, PlainFrame, ReadsSpelled, LinkError, waits}
+use Rattle.x25_line.proofs.Names.{LinkSettings, LinkStation, Side, is_up, is_busy, may_send, LinkStep, other, put_step, put_refusal, AreNext, Says, BusyLaws}
+use Rattle.x25_line.proofs.Names.{Put, Deliver, LinkEvent, Near, Far, Sessions, after_step, unless, acts, swapped, run, AreJoined, Each, HealingLaws}
+use Rattle.std.proofs.lemmas.Bool.{lt-ltb}
+use Rattle.x25_line.proofs.{BusyLines.{silent_stays}, HealingBoth.{HealsBoth, HealsAt, both_turned, both_near, both_far}}
 use Rattle.x25_line.proofs.HealingLines.{Reads, ahead_more, next_ahead, Mild, mild_more, held_mild, no_final_more, next_no_final}
-use Rattle.x25_line.proofs.{HealingSteps.{Reached, then_happens, Sound, sound_swapped, sound_at, SentWhole, whole_at, reads_put}, BusyLines.{silent_stays}}
 use Rattle.x25_line.proofs.HealingPhases.{Phases, asks_more, SaysMore, answered_more, resent_more, withheld_more}
-use Rattle.x25_line.proofs.{HealingBoth.{HealsBoth, HealsAt, both_turned, both_near, both_far}, sessions.SessionSteps.{whole_behind}}
+use Rattle.x25_line.proofs.HealingSteps.{Reached, then_happens, Sound, sound_swapped, sound_at, SentWhole, whole_at, reads_put}
+use Rattle.x25_line.proofs.{StationRuns.{joined_swapped}, StationSteps.{not_both}, sessions.SessionSteps.{whole_behind}}
+use Rattle.x25_line.specs.laws.HealingPuts.{IsDeliveryOrPut, AreFree, SessionsFreeThroughout}
+use Rattle.x25_link.proofs.EndLemmas.{open_is, closed_is, with_packet, put_once, busy_is}
+use Rattle.x25_link.specs.{Outgoing.{is_open}, Station.{send_next}}
 
 -- ---- a station to which a packet is put
 

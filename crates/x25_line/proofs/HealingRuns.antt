@@ -1,14 +1,12 @@
 -- After all events an end has said all that it may, and each of its packets may be sent.
-use Rattle.std.proofs.Common.{◌≡◌, ℕ, ◌+◌, ◌*◌, ◌≤◌, ◌⊎◌, inl, inr, List, [], ◌∷◌, length, Bool, true, false, if◌then◌else◌, refl, sym, ap, subst, arith}
+use Rattle.x25_line.proofs.Names.{◌≡◌, ℕ, ◌+◌, ◌*◌, ◌≤◌, ◌⊎◌, inl, inr, List, [], ◌∷◌, length, Bool, true, false, if◌then◌else◌, refl, sym, ap, subst, arith}
+use Rattle.x25_line.proofs.Names.{nat_lt, frame_of, Phase, Down, Up, Retries, LinkSettings, LinkStation, Side, is_busy, with_nothing, fresh, ended, LinkStep}
+use Rattle.x25_line.proofs.Names.{quiet, other, alone, take_step, LinkEvent, Near, Far, Sessions, acts, swapped, run, IsStart, AreJoined, HealingLaws}
 use Rattle.std.proofs.lemmas.Bool.{and_right}
-use Rattle.std.specs.Prelude.{nat_lt}
-use Rattle.x25_frame.specs.Reading.{frame_of}
-use Rattle.x25_link.specs.{declared.phase.Phase.{Phase}, declared.phase.Phase.TheVariants.{Down, Up}, declared.phase.Reason.TheVariants.{Retries}}
-use Rattle.x25_link.specs.{Station.{LinkSettings, LinkStation, Side, is_busy, with_near, with_nothing, fresh, ended}, Hearing.{LinkStep, quiet, leaves, other}}
-use Rattle.x25_link.specs.{Link.{alone, puts, fires, asks_again, connects, disconnects, take_step}, laws.LinkLaws.{ended_lists}, laws.RestLaw.{HasSaidAll}}
-use Rattle.x25_line.specs.{laws.Stations.{LinkEvent, Near, Far}, laws.Sessions.{Sessions, acts, swapped, run, IsStart}, laws.StationClaims.{AreJoined}}
-use Rattle.x25_line.specs.laws.LawsBelow.{HealingLaws}
-use Rattle.x25_line.proofs.{StationSends.{AllWithin, within_push}, DrainSteps.{took}, sessions.Acts.{Keeps, act_stays}}
+use Rattle.x25_line.proofs.DrainSteps.{took}
+use Rattle.x25_line.proofs.{StationSends.{AllWithin, within_push}, sessions.Acts.{Keeps, act_stays}}
+use Rattle.x25_link.specs.{Hearing.{leaves}, Link.{puts, fires, asks_again, connects, disconnects}, Station.{with_near}, laws.LinkLaws.{ended_lists}}
+use Rattle.x25_link.specs.laws.RestLaw.{HasSaidAll}
 
 run_stays : {c d : LinkSettings} {P Q : LinkStation → Type 0} → Keeps c P → Keeps d Q → (es : List LinkEvent) (w : Sessions) → P w.near.station
     → Q w.far.station

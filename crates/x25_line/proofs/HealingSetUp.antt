@@ -1,20 +1,15 @@
 -- Two ends of which not both go on once they have fired: set-up, a poll or DM is all that comes, and each end comes to rest or isn't Up.
-use Rattle.std.proofs.Common.{◌≡◌, ℕ, ◌<◌, List, [], ◌∷◌, ◌++◌, ◌⊎◌, inl, inr, length, Bool, true, false, if◌then◌else◌, Ok, refl, sym, ap, ◌∙◌, arith}
-use Rattle.std.proofs.lemmas.Bool.{leb-true, le-ltb, eq-eqb, and_parts}
-use Rattle.std.specs.Prelude.{◌&&◌, nat_lt}
-use Rattle.x25_bits.specs.declared.role.Role.{Role}
-use Rattle.x25_frame.specs.{Frame.{PlainFrame, info, rr, rnr, rej, sabm, disc, ua, dm, frmr}, Spelling.{is_command, poll_or_final}}
-use Rattle.x25_frame.specs.laws.ReadingLaw.{ReadsSpelled}
-use Rattle.x25_link.specs.{declared.phase.Phase.{Phase}, declared.phase.Phase.TheVariants.{Down, Waiting, Up, Closed}, Outgoing.{waits}}
-use Rattle.x25_link.specs.Station.{LinkSettings, LinkStation, Side, is_up, is_busy, wanted, with_nothing, fresh, sends, ready, may_send, owes_ready, finished}
-use Rattle.x25_link.specs.{Station.{ended}, Hearing.{LinkStep, quiet, other, is_valid, acknowledged, peer_is, polls, rejects, row_of_frame}}
-use Rattle.x25_link.specs.{Link.{alone, hears, declines, when_down, when_waiting, take_step, timer_runs}, laws.SetUp.{waiting_after, waiting_sends}}
-use Rattle.x25_link.specs.{laws.WindowLaw.{IsOut}, laws.RestLaw.{IsAtRest}, laws.AnswerLaw.{says, asks}}
+use Rattle.x25_line.proofs.Names.{◌≡◌, ℕ, ◌<◌, List, [], ◌∷◌, ◌++◌, ◌⊎◌, inl, inr, length, Bool, true, false, if◌then◌else◌, Ok, refl, sym, ap, ◌∙◌, arith}
+use Rattle.x25_line.proofs.Names.{leb-true, le-ltb, eq-eqb, and_parts, ◌&&◌, nat_lt, Role, PlainFrame, info, rr, rnr, rej, sabm, disc, ua, dm, frmr, is_command}
+use Rattle.x25_line.proofs.Names.{poll_or_final, ReadsSpelled, Phase, Down, Waiting, Up, Closed, waits, LinkSettings, LinkStation, Side, is_up, is_busy, wanted}
+use Rattle.x25_line.proofs.Names.{with_nothing, fresh, sends, may_send, ended, LinkStep, quiet, other, is_valid, acknowledged, peer_is, polls, rejects, alone}
+use Rattle.x25_line.proofs.Names.{hears, take_step, timer_runs, waiting_after, waiting_sends, IsOut, IsAtRest, says, Deliver, LinkEvent, Entry, Meeting}
+use Rattle.x25_line.proofs.Names.{Sessions, begun_by, after_step, delivered, acts, swapped, run, AreJoined, IsWhole, AreWhole, IsDelivery, Each, HealingLaws}
+use Rattle.x25_line.proofs.{DrainWeights.{below_eight}, HealingLines.{Reads}, HealingSteps.{IsDrained, deliveries_keep, reads_put}, Lists.{each_append}}
+use Rattle.x25_line.proofs.{StationAway.{up_takes_part, is_up_phase}, StationRuns.{joined_swapped}, StationSteps.{not_both, out_not_up}}
 use Rattle.x25_link.proofs.EndLemmas.{none_open, not_open, pumped_stays}
-use Rattle.x25_line.specs.{laws.Stations.{Deliver, LinkEvent}, laws.Sessions.{Entry, Meeting, Sessions, begun_by, after_step, delivered, acts, swapped, run}}
-use Rattle.x25_line.specs.{laws.StationClaims.{AreJoined, IsWhole, AreWhole}, Healing.{IsDelivery}, laws.SessionClaims.{Each}, laws.LawsBelow.{HealingLaws}}
-use Rattle.x25_line.proofs.{Lists.{each_append}, DrainWeights.{below_eight}, StationSteps.{not_both, out_not_up}, StationRuns.{joined_swapped}}
-use Rattle.x25_line.proofs.{HealingLines.{Reads}, HealingSteps.{IsDrained, deliveries_keep, reads_put}, StationAway.{up_takes_part, is_up_phase}}
+use Rattle.x25_link.specs.{Hearing.{row_of_frame}, Link.{declines, when_down, when_waiting}}
+use Rattle.x25_link.specs.{Station.{ready, owes_ready, finished}, laws.AnswerLaw.{asks}}
 
 -- an end is at rest, or not Up
 abbrev pub RestsOrOut : LinkStation → Type 0

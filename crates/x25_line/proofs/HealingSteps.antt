@@ -1,17 +1,13 @@
 -- Two ends in the sessions that stand: worlds that events lead to, what holds of them where both ends are Up, and what deliveries keep.
-use Rattle.std.proofs.Common.{◌≡◌, ℕ, ◌+◌, ◌%◌, ◌≤◌, List, [], ◌∷◌, ◌++◌, length, true, false, Some, Ok, refl, sym, ap, ◌∙◌, subst, arith}
-use Rattle.std.proofs.lemmas.Bool.{le-leb}
-use Rattle.x25_frame.specs.{Frame.{PlainFrame, info, rr, rnr, rej}, Reading.{frame_of}, laws.ReadingLaw.{ReadsSpelled}}
-use Rattle.x25_window.specs.{code.Modulo.{resolved}, laws.Window.{Frame}}
-use Rattle.x25_link.specs.{Station.{LinkSettings, LinkStation, is_up}, Hearing.{other, is_valid}, Link.{timer_runs, timer_step}}
-use Rattle.x25_link.specs.{laws.WindowMachine.{Shows, ShowAll}, laws.WindowLaw.{IsSound}, laws.RestLaw.{HasSaidAll, IsAtRest}, laws.AnswerLaw.{heard}}
-use Rattle.x25_line.specs.laws.StationClaims.{AreJoined, number_in, AreWhole}
-use Rattle.x25_line.specs.laws.Sessions.{Entry, Sessions, sent_in, IsStart, after_step, acts, swapped, happens, run, IsTimely, IsTimelyAt}
-use Rattle.x25_line.specs.{laws.Sessions.{AreTimely}, laws.SessionClaims.{Each, Throughout}, Healing.{IsDelivery}, laws.LawsBelow.{HealingLaws}}
-use Rattle.x25_line.specs.{laws.Line.{Line, line_swapped}, laws.Stations.{Deliver, T1, LinkEvent, Near, Far}}
-use Rattle.x25_line.proofs.{Kept.{Kept, Kept-swapped, Way, hears_valid, Way-acked, resolved_is}, Frames.{Acks-le}, StationLines.{front_of, consed}}
-use Rattle.x25_line.proofs.{StationSteps.{AsUp, not_both}, sessions.SessionLines.{numbers}, sessions.SessionActs.{up_in_session}}
-use Rattle.x25_line.proofs.{sessions.SessionRuns.{HeldOf, held_swapped, throughout}, HealingRuns.{Fit, fit_from}, HealingLines.{Reads, reads_more}}
+use Rattle.x25_line.proofs.Names.{◌≡◌, ℕ, ◌+◌, ◌%◌, ◌≤◌, List, [], ◌∷◌, ◌++◌, length, true, false, Some, Ok, refl, sym, ap, ◌∙◌, subst, arith, le-leb}
+use Rattle.x25_line.proofs.Names.{PlainFrame, info, rr, rnr, rej, frame_of, ReadsSpelled, resolved, Frame, LinkSettings, LinkStation, is_up, other, is_valid}
+use Rattle.x25_line.proofs.Names.{timer_runs, timer_step, Shows, ShowAll, IsSound, IsAtRest, heard, AreJoined, number_in, AreWhole, Entry, Sessions, sent_in}
+use Rattle.x25_line.proofs.Names.{IsStart, after_step, acts, swapped, happens, run, IsTimely, IsTimelyAt, AreTimely, Each, Throughout, IsDelivery, HealingLaws}
+use Rattle.x25_line.proofs.{Frames.{Acks-le}, HealingLines.{Reads, reads_more}, HealingRuns.{Fit, fit_from}}
+use Rattle.x25_line.proofs.{Kept.{Kept, Kept-swapped, Way, hears_valid, Way-acked, resolved_is}, Names.{Line, line_swapped, Deliver, T1, LinkEvent, Near, Far}}
+use Rattle.x25_line.proofs.{StationLines.{front_of, consed}, StationSteps.{AsUp, not_both}, sessions.SessionActs.{up_in_session}}
+use Rattle.x25_line.proofs.sessions.{SessionLines.{numbers}, SessionRuns.{HeldOf, held_swapped, throughout}}
+use Rattle.x25_link.specs.laws.RestLaw.{HasSaidAll}
 
 -- ---- worlds that events lead to
 

@@ -1,15 +1,12 @@
 -- What each move of the window machine keeps, and so each list of moves.
-use Rattle.std.proofs.Common.{◌≡◌, ℕ, ◌+◌, ◌%◌, ◌<◌, ◌≤◌, List, [], ◌∷◌, ◌++◌, length, take, drop, remove, max, Option, Some, None, Bool, true, false, arith}
-use Rattle.std.proofs.{Common.{◌∙◌, sym, ap}, lemmas.Grind.{common_steps}, lemmas.List.{take-append-drop, take_all, take_more, length_push, append-nil}}
-use Rattle.std.proofs.lemmas.Option.{slice_get_within, get_or_from_slice_get}
-use Rattle.std.specs.List.{slice_get}
-use Rattle.x25_window.specs.{code.Modulo.{resolved}, laws.Window.{End, Frame, Numbered, Allows, after, frames_of, numbered}}
-use Rattle.x25_window.specs.laws.Window.EndStep.{HandDown, Send, Tell, Hear, Take}
-use Rattle.x25_line.specs.laws.Line.{Line, Move, MayTake, FrontMayBeTaken, AllowsMove, line_swapped, takes_item, front_arrived, moved}
-use Rattle.x25_line.specs.laws.Line.Move.{HandsDown, Sends, Tells, Arrives, Loses}
-use Rattle.x25_line.specs.laws.InWindow.{IsSentInWindow, IsNear, AllInWindow, Rising, WayInWindow, InWindow}
+use Rattle.x25_line.proofs.Names.{◌≡◌, ℕ, ◌+◌, ◌%◌, ◌<◌, ◌≤◌, List, [], ◌∷◌, ◌++◌, length, drop, remove, max, Option, Some, None, Bool, true, false, arith, ◌∙◌}
+use Rattle.x25_line.proofs.Names.{sym, ap, take-append-drop, take_all, length_push, slice_get_within, slice_get, resolved, End, Frame, Numbered, Allows, after}
+use Rattle.std.proofs.{Common.{take}, lemmas.Grind.{common_steps}, lemmas.List.{take_more, append-nil}, lemmas.Option.{get_or_from_slice_get}}
 use Rattle.x25_line.proofs.Frames.{Carries, Tops, Acks, slice_get-is, Tops-le, Tops-weaken, Tops-higher, Tops-grow, Tops-push, Tops-remove, Acks-le}
-use Rattle.x25_line.proofs.Frames.{Acks-higher, Acks-push, Acks-remove}
+use Rattle.x25_line.proofs.{Frames.{Acks-higher, Acks-push, Acks-remove}, Names.{frames_of, numbered, HandDown, Send, Tell, Hear, Take, Line, line_swapped}}
+use Rattle.x25_line.specs.laws.InWindow.{IsSentInWindow, IsNear, AllInWindow, Rising, WayInWindow, InWindow}
+use Rattle.x25_line.specs.laws.Line.{Move, MayTake, FrontMayBeTaken, AllowsMove, takes_item, front_arrived, moved}
+use Rattle.x25_line.specs.laws.Line.Move.{HandsDown, Sends, Tells, Arrives, Loses}
 
 -- the number stands for itself
 pub resolved_is : (a n : ℕ) → a ≤ n → n < a + 8 → resolved a (n % 8) ≡ n

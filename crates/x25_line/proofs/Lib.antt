@@ -1,3 +1,4 @@
+pub mod Names
 pub mod Choices
 pub mod Lists
 pub mod Losses

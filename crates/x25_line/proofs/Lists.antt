@@ -1,6 +1,5 @@
 -- What holds of each of a list, as more follows of each, and as the list grows.
-use Rattle.std.proofs.Common.{List, [], ◌∷◌, ◌++◌, map}
-use Rattle.x25_line.specs.laws.StationClaims.{Each}
+use Rattle.x25_line.{proofs.Names.{List, [], ◌∷◌, ◌++◌, map}, specs.laws.StationClaims.{Each}}
 
 -- what holds of all of both lists holds of all of one list of both
 pub each_append : {T : Type 0} (P : T → Type 0) (xs ys : List T) → Each P xs → Each P ys → Each P (xs ++ ys)

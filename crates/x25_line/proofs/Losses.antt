@@ -1,7 +1,6 @@
 -- What a line that loses or damages one is then, and what still holds of each on it.
-use Rattle.std.proofs.Common.{ℕ, zero, suc, List, [], ◌∷◌, length}
-use Rattle.x25_line.specs.{laws.Loss.{LessAt, nothing, gone, hurt, deeper, remove, replaced}, laws.StationClaims.{Each}, laws.Stations.{IsSeen}}
-use Rattle.x25_line.specs.{laws.Sessions.{Entry}, laws.PeerSessions.{IsSeenIn}, laws.SessionClaims.{octets_of}}
+use Rattle.x25_line.proofs.Names.{ℕ, zero, suc, List, [], ◌∷◌, length, LessAt, nothing, gone, hurt, deeper, replaced, IsSeen, Entry, IsSeenIn, octets_of}
+use Rattle.x25_line.specs.laws.{Loss.{remove}, StationClaims.{Each}}
 
 module _ {T : Type 0} {Damage : T → T → Type 0} where
   -- it loses none

@@ -1,19 +1,13 @@
 -- Two ends of one link that is set up once keep the way in both directions, whatever they send, hear and lose within the rules of a peer; and that
 -- says what holds of their order.
-use Rattle.std.proofs.Common.{◌≡◌, ℕ, zero, suc, ◌+◌, ◌%◌, ◌≤◌, arith, max, List, [], ◌∷◌, ◌++◌, length, drop, remove, Bool, true, false, if◌then◌else◌, Option}
-use Rattle.std.proofs.{Common.{Some, None, Result, Ok, Err, refl, sym, ap, ◌∙◌, subst, append-nil}, lemmas.Bool.{le-leb}}
-use Rattle.std.proofs.{lemmas.List.{take-append-drop, take_all}, lemmas.Option.{slice_get_within}}
-use Rattle.std.specs.Prelude.{nat_le}
-use Rattle.x25_frame.specs.{Frame.{PlainFrame, info, rr, rnr, rej}, declared.error.FrameError.{FrameError}}
-use Rattle.x25_frame.specs.declared.error.FrameError.TheVariants.{Short, BadFcs, BadAddress}
-use Rattle.x25_window.specs.{code.Modulo.{resolved}, laws.Window.{End, Frame, Numbered}}
-use Rattle.x25_link.specs.{declared.phase.Reason.{Reason}, declared.phase.Reason.TheVariants.{FrmrSent}, laws.WindowMachine.{Window}}
-use Rattle.x25_link.specs.laws.WindowLaw.{ending_of}
-use Rattle.x25_line.specs.{laws.Peer.{Peer, fresh_peer, numbered_to, told_to, hearing, IsWanted, taking, MaySay, MayMake}, laws.InWindow.{IsPrefix}}
+use Rattle.x25_line.proofs.Names.{◌≡◌, ℕ, zero, suc, ◌+◌, ◌%◌, ◌≤◌, arith, max, List, [], ◌∷◌, ◌++◌, length, drop, remove, Bool, true, false, if◌then◌else◌}
+use Rattle.x25_line.proofs.Names.{Option, Some, None, Result, Ok, Err, refl, sym, ap, ◌∙◌, subst, append-nil, le-leb, take-append-drop, take_all}
+use Rattle.x25_line.proofs.Names.{slice_get_within, nat_le, PlainFrame, info, rr, rnr, rej, FrameError, Short, BadFcs, resolved, End, Frame, Numbered, Reason}
+use Rattle.x25_line.proofs.Names.{FrmrSent, Window, ending_of, Peer, fresh_peer, numbered_to, told_to, hearing, IsWanted, taking, MaySay, MayMake, IsPrefix}
+use Rattle.x25_frame.specs.declared.error.FrameError.TheVariants.{BadAddress}
 use Rattle.x25_line.proofs.Kept.{Way, BothWays, hears_valid, Way-hand, Way-send, Way-tell, Way-told, Way-hears, Way-takes, Way-giver, Way-unheard, Way-passed}
-use Rattle.x25_line.proofs.Kept.{Way-acked}
-use Rattle.x25_line.proofs.Losses.{untouched}
-use Rattle.x25_line.specs.{laws.Loss.{LessAt, nothing, gone, hurt, deeper, Less}, laws.Said.{Said, Carried, Tells, Odd as OddSaid, said}}
+use Rattle.x25_line.proofs.{Kept.{Way-acked}, Losses.{untouched}, Names.{LessAt, nothing, gone, hurt, deeper, Less, Said, Carried, Tells, said}}
+use Rattle.x25_line.specs.laws.Said.{Odd as OddSaid}
 
 -- ---- what is told on a line, and the frames of the window machine that it stands for
 

@@ -1,19 +1,13 @@
 -- A station and any peer keep the way in both directions, whatever happens, and that says the claims.
-use Rattle.std.proofs.Common.{◌≡◌, ℕ, ◌≤◌, List, [], ◌∷◌, ◌++◌, length, false, Option, refl, sym, ap, ◌∙◌, subst, arith}
-use Rattle.x25_bits.specs.declared.role.Role.{Role}
-use Rattle.x25_frame.specs.{Reading.{frame_of}, laws.ReadingLaw.{ReadsSpelled}}
-use Rattle.x25_window.specs.code.Modulo.{resolved}
-use Rattle.x25_link.specs.{Station.{LinkSettings, fresh}, Hearing.{other}}
-use Rattle.x25_line.specs.{laws.Stations.{StationEnd, Act, Near, acts, IsSeen}, laws.StationClaims.{Each, InOrder, HandsOne}}
-use Rattle.x25_line.specs.{laws.LawsBelow.{Laws}, laws.Loss.{LessAt, nothing, gone, hurt, deeper}}
-use Rattle.x25_line.specs.laws.PeerJoined.{JoinedOnce, our_end, with_peer, HappensOnce, Ours, HandsDown, Sends, Hears, Loses, ReachedOnce, at_start}
-use Rattle.x25_line.specs.{laws.PeerJoined.{goes_on}, laws.PeerClaims.{WithAnyPeer, WithAnyLapbPeer, KeepsOrder, FindsNoFault}}
-use Rattle.x25_line.proofs.{Lists.{each_append}, Losses.{each_less}, sessions.Letters.{visible_said, visible_fine}, Kept.{Way}}
+use Rattle.x25_line.proofs.Names.{◌≡◌, ℕ, ◌≤◌, List, [], ◌∷◌, ◌++◌, length, false, Option, refl, sym, ap, ◌∙◌, subst, arith, Role, frame_of, ReadsSpelled}
+use Rattle.x25_line.proofs.Names.{resolved, LinkSettings, fresh, other, StationEnd, Act, Near, IsSeen, HandsOne, Laws, LessAt, nothing, gone, hurt, deeper}
+use Rattle.x25_line.proofs.Names.{JoinedOnce, our_end, Ours, HandsDown, Sends, Hears, ReachedOnce, at_start, goes_on, Said, Carried, Tells, said, Peer, MaySay}
+use Rattle.x25_line.proofs.{Kept.{Way}, Lists.{each_append}, Losses.{each_less}}
 use Rattle.x25_line.proofs.Order.{Told, only, only_append, Left, left_front, left_deeper, Hold, starts, hold_turned, handed, says, left, makes}
-use Rattle.x25_line.proofs.{StationClaimLemmas.{in_order}, StationSays.{machine_of, MayDo}, StationPeers.{Seen, seen_so, start_seen, peer_acts}}
-use Rattle.x25_line.proofs.StationEvents.{each_hands_one}
-use Rattle.x25_line.proofs.{Order.{in_order as peers_in_order, valid_front, by_frmr, no_fault}, StationRuns.{noted_before}}
-use Rattle.x25_line.specs.{laws.Said.{Said, Carried, Tells, Odd as OddSaid, said}, laws.Peer.{Peer, MaySay}}
+use Rattle.x25_line.proofs.{Order.{in_order as peers_in_order, valid_front, by_frmr, no_fault}, StationClaimLemmas.{in_order}, StationEvents.{each_hands_one}}
+use Rattle.x25_line.proofs.{StationPeers.{Seen, seen_so, start_seen, peer_acts}, StationRuns.{noted_before}, StationSays.{machine_of, MayDo}}
+use Rattle.x25_line.{proofs.sessions.Letters.{visible_said, visible_fine}, specs.laws.PeerClaims.{WithAnyPeer, WithAnyLapbPeer, KeepsOrder, FindsNoFault}}
+use Rattle.x25_line.specs.laws.{PeerJoined.{with_peer, HappensOnce, Loses}, Said.{Odd as OddSaid}, StationClaims.{Each, InOrder}, Stations.{acts}}
 
 -- ---- what is told on a line of octets
 

@@ -1,14 +1,10 @@
 -- Each of two stations is a peer of the other, after each list of events that doesn't set the link up anew.
-use Rattle.std.proofs.Common.{◌≡◌, ℕ, List, [], ◌∷◌, length, false, refl, sym, subst}
-use Rattle.std.specs.Prelude.{nat_le}
-use Rattle.x25_frame.specs.laws.ReadingLaw.{ReadsSpelled}
-use Rattle.x25_link.specs.{Station.{LinkSettings}, Link.{put_refusal}}
-use Rattle.x25_line.specs.laws.Stations.{StationEnd, Stations, Act, Put, Deliver, Lose, Damage, LinkEvent, Near, Far, after_step, delivered, is_visible, acts}
-use Rattle.x25_line.specs.{laws.Stations.{stations_swapped, happens, run}, laws.StationClaims.{AreJoined, IsSetUpOnce, Always}}
-use Rattle.x25_line.specs.{laws.StationPeers.{AreBothPeers}, laws.Peer.{Peer}, laws.LawsBelow.{Laws}}
-use Rattle.x25_line.specs.laws.PeerJoined.{our_end, with_peer, Ours, HandsDown, Sends, Hears, Loses, ReachedOnce, at_start, goes_on}
-use Rattle.x25_line.proofs.{Choices.{unless_both, if_both, own_both}, StationSays.{MayDo}, StationPeers.{Seen, seen_so, start_seen, peer_acts}}
-use Rattle.x25_line.proofs.{StationEvents.{each_hands_one}, StationRuns.{joined_swapped, there, here, once_before}}
+use Rattle.x25_line.proofs.Names.{◌≡◌, ℕ, List, [], ◌∷◌, length, false, refl, sym, subst, nat_le, ReadsSpelled, LinkSettings, put_refusal, StationEnd, Stations}
+use Rattle.x25_line.proofs.Names.{Act, Put, Deliver, Lose, Damage, LinkEvent, Near, Far, is_visible, stations_swapped, AreJoined, IsSetUpOnce, Peer, Laws}
+use Rattle.x25_line.proofs.{Choices.{unless_both, if_both, own_both}, Names.{our_end, Ours, HandsDown, Sends, Hears, ReachedOnce, at_start, goes_on}}
+use Rattle.x25_line.proofs.{StationEvents.{each_hands_one}, StationPeers.{Seen, seen_so, start_seen, peer_acts}}
+use Rattle.x25_line.{proofs.StationRuns.{joined_swapped, there, here, once_before}, proofs.StationSays.{MayDo}, specs.laws.PeerJoined.{with_peer, Loses}}
+use Rattle.x25_line.specs.laws.{StationClaims.{Always}, StationPeers.{AreBothPeers}, Stations.{after_step, delivered, acts, happens, run}}
 
 -- ---- what the station does that sees the peer
 

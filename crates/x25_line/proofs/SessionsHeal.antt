@@ -1,14 +1,11 @@
 -- The laws of healing: what rest shows; whatever the two ends are on a drained line, with one busy end, and while packets are put.
-use Rattle.std.proofs.Common.{◌≡◌, ℕ, List, [], ◌∷◌, inl, refl, sym, ap, ◌∙◌}
-use Rattle.x25_frame.specs.laws.ReadingLaw.{ReadsSpelled}
-use Rattle.x25_link.specs.{Station.{LinkSettings}, Hearing.{LinkStep}, Link.{take_step, timer_step, timer_refusal}}
-use Rattle.x25_link.specs.{laws.RestLaw.{IsAtRest}, laws.BusyLaw.{BusyLaws}}
-use Rattle.x25_line.specs.{laws.Stations.{Deliver, T1}, laws.Sessions.{Entry, Meeting, Sessions, begun_by, after_step, delivered, acts, swapped, run}}
-use Rattle.x25_line.specs.{laws.StationClaims.{AreJoined}, laws.SessionClaims.{Throughout, IdleHasArrived}, Healing.{EachRestShows, SessionsHealUnlessBothBusy}}
-use Rattle.x25_line.specs.{laws.LawsBelow.{HealingLaws}, laws.HealingPuts.{SessionsHaveArrived, PutsHealSessions}}
-use Rattle.x25_line.proofs.{Choices.{unless_by}, sessions.SessionHeld.{extended_nil}, sessions.TwoSessions.{idle_has_arrived}}
-use Rattle.x25_line.proofs.{HealingSteps.{IsDrained, Reached, at_reached, in_order_at, stopped_rests, deliveries_keep}}
-use Rattle.x25_line.proofs.{HealingEnds.{after_firings, rest_or_out}, HealingBoth.{HealsAt, begins, both_settle, deliveries_heal}, HealingPuts.{puts_run}}
+use Rattle.x25_line.proofs.Names.{◌≡◌, ℕ, List, [], ◌∷◌, inl, refl, sym, ap, ◌∙◌, ReadsSpelled, LinkSettings, LinkStep, take_step, timer_step, timer_refusal}
+use Rattle.x25_line.proofs.Names.{IsAtRest, BusyLaws, Deliver, T1, Entry, Meeting, Sessions, begun_by, after_step, delivered, acts, swapped, run, AreJoined}
+use Rattle.x25_line.proofs.{Choices.{unless_by}, HealingBoth.{HealsAt, begins, both_settle, deliveries_heal}, HealingEnds.{after_firings, rest_or_out}}
+use Rattle.x25_line.proofs.{HealingPuts.{puts_run}, HealingSteps.{IsDrained, Reached, at_reached, in_order_at, stopped_rests, deliveries_keep}}
+use Rattle.x25_line.proofs.{Names.{Throughout, HealingLaws}, sessions.SessionHeld.{extended_nil}, sessions.TwoSessions.{idle_has_arrived}}
+use Rattle.x25_line.specs.{Healing.{EachRestShows, SessionsHealUnlessBothBusy}, laws.HealingPuts.{SessionsHaveArrived, PutsHealSessions}}
+use Rattle.x25_line.specs.laws.SessionClaims.{IdleHasArrived}
 
 -- ---- firings and deliveries hand nothing down
 

@@ -1,20 +1,15 @@
 -- What follows of each act of a station that was set up once, where it is known of a few kinds of steps.
-use Rattle.std.proofs.Common.{◌≡◌, ℕ, suc, ◌≤◌, List, [], ◌∷◌, inl, inr, length, Bool, true, false, if◌then◌else◌, Option, Some, None, Result, refl}
-use Rattle.std.proofs.{Common.{sym, ap}, Common.{◌∙◌, subst}, lemmas.Bool.{leb-true}}
-use Rattle.std.specs.Prelude.{nat_le, nat_lt}
-use Rattle.x25_frame.specs.{Frame.{PlainFrame, sabm}, Reading.{frame_of}, declared.error.FrameError.{FrameError}}
-use Rattle.x25_link.specs.{declared.phase.Phase.{Phase}, declared.phase.Phase.TheVariants.{Down, Waiting, Up, Closed}}
-use Rattle.x25_link.specs.{declared.phase.Reason.TheVariants.{Retries}, Station.{LinkSettings, LinkStation, is_up, with_nothing}, Hearing.{LinkStep, other}}
-use Rattle.x25_link.specs.Link.{take_step, put_step, put_refusal, timer_step, timer_refusal, timer_runs, connect_step, connect_refusal, disconnect_step}
-use Rattle.x25_link.specs.{Link.{disconnect_refusal, abandon_step}, laws.WindowMachine.{Window, nothing}, laws.SetUp.{Is, TakesPart}}
-use Rattle.x25_link.specs.laws.WindowLaw.{Stays, Follows, IsOut, StaysOut}
-use Rattle.x25_line.specs.laws.Stations.{Stations, Act, Put, Deliver, T1, Connect, Disconnect, Abandon, Probe, Lose, Damage, after_step, unless, delivered}
-use Rattle.x25_line.specs.{laws.Stations.{is_visible, IsSeen, acts}, laws.WholeNumbers.{place_taken}, laws.Said.{sabm_of, said}, laws.LawsBelow.{Laws}}
-use Rattle.x25_line.specs.laws.Loss.{LessAt, replaced}
-use Rattle.x25_line.proofs.{Choices.{unless_by, if_by}, Losses.{removes, replaces}, StationLines.{AreParting}}
-use Rattle.x25_line.proofs.StationSteps.{out_not_up, AsUp, IsAway, FitsEnd, up_of, not_both, stays_out, in_vain, Parts, ends_parts, declining_parting}
-use Rattle.x25_line.proofs.StationHears.{sabm_or_not, sets_none_up}
+use Rattle.x25_line.proofs.Names.{◌≡◌, ℕ, suc, ◌≤◌, List, [], ◌∷◌, inl, inr, length, Bool, true, false, if◌then◌else◌, Option, Some, None, Result, refl, sym}
+use Rattle.x25_line.proofs.Names.{ap, ◌∙◌, subst, leb-true, nat_le, nat_lt, PlainFrame, sabm, frame_of, FrameError, Phase, Down, Waiting, Up, Closed, Retries}
+use Rattle.x25_line.proofs.Names.{LinkSettings, LinkStation, is_up, with_nothing, LinkStep, other, take_step, put_step, put_refusal, timer_step, timer_refusal}
+use Rattle.x25_line.proofs.Names.{timer_runs, connect_step, connect_refusal, disconnect_step, disconnect_refusal, abandon_step, Window, Is, TakesPart, Stays}
+use Rattle.x25_line.proofs.Names.{Follows, IsOut, StaysOut, Stations, Act, Put, Deliver, T1, Connect, Disconnect, Abandon, Probe, Lose, Damage, is_visible}
+use Rattle.x25_line.proofs.{Choices.{unless_by, if_by}, Losses.{removes, replaces}, Names.{IsSeen, sabm_of, said, Laws, LessAt, replaced}}
 use Rattle.x25_line.proofs.StationAway.{closed_takes, waits_on, waiting_parting, quiet_by, up_takes_part, connects_from, second_false}
+use Rattle.x25_line.proofs.{StationHears.{sabm_or_not, sets_none_up}, StationLines.{AreParting}}
+use Rattle.x25_line.proofs.StationSteps.{out_not_up, AsUp, IsAway, FitsEnd, up_of, not_both, stays_out, in_vain, Parts, ends_parts, declining_parting}
+use Rattle.x25_line.specs.laws.{Stations.{after_step, unless, delivered, acts}, WholeNumbers.{place_taken}}
+use Rattle.x25_link.specs.laws.WindowMachine.{nothing}
 
 -- What is known of the near end of w, whose machine's end is e, and of each kind of step: of a station that is Up, as octets come
 -- (`takes`), a packet is handed down (`puts`), or nothing is brought (`rests`); steps that part, with octets taken off the line

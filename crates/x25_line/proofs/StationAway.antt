@@ -1,16 +1,11 @@
 -- What a station does that is Closed, that awaits UA or that sends FRMR, as far as the laws of a link don't say it in these words.
-use Rattle.std.proofs.Common.{◌≡◌, ℕ, zero, suc, List, [], ◌∷◌, length, Bool, true, false, if◌then◌else◌, Some, None, Result, Ok, Err, refl, sym, ap}
-use Rattle.std.proofs.Common.{◌∙◌, subst}
-use Rattle.std.specs.Prelude.{◌&&◌, ◌||◌}
-use Rattle.x25_frame.specs.{Frame.{PlainFrame, info, rr, rnr, rej, ua, dm, frmr}, Spelling.{is_command, poll_or_final}, Reading.{frame_of}}
-use Rattle.x25_frame.specs.{declared.error.FrameError.{FrameError}, declared.error.FrameError.TheVariants.{Undefined, NoInfoAllowed, TooLong}}
-use Rattle.x25_link.specs.{declared.phase.Phase.{Phase}, declared.phase.Phase.TheVariants.{Down, Up, Closed}, declared.phase.Reason.TheVariants.{FrmrSent}}
-use Rattle.x25_link.specs.{declared.phase.Notes.{Notes}, laws.NoteLaw.{IsQuiet}}
-use Rattle.x25_link.specs.Station.{LinkSettings, LinkStation, Side, is_up, sends, pumped, pumped_once, ended}
-use Rattle.x25_link.specs.Hearing.{LinkStep, quiet, other, rejects, is_valid, acknowledged, hears_info, peer_is, goes_back, polls}
-use Rattle.x25_link.specs.{Link.{alone, closed_by, hears, take_step, connect_refusal}, laws.SetUp.{waiting_after, waiting_sends, waiting_up, TakesPart}}
-use Rattle.x25_link.specs.laws.WindowLaw.{window_of, ending_of, IsOut, StaysOut}
+use Rattle.x25_line.proofs.Names.{◌≡◌, ℕ, zero, suc, List, [], ◌∷◌, length, Bool, true, false, if◌then◌else◌, Some, None, Result, Ok, Err, refl, sym, ap, ◌∙◌}
+use Rattle.x25_line.proofs.Names.{subst, ◌&&◌, ◌||◌, PlainFrame, info, rr, rnr, rej, ua, dm, frmr, is_command, poll_or_final, frame_of, FrameError, Undefined}
+use Rattle.x25_line.proofs.Names.{NoInfoAllowed, TooLong, Phase, Down, Up, Closed, FrmrSent, LinkSettings, LinkStation, Side, is_up, sends, pumped, ended}
+use Rattle.x25_line.proofs.Names.{LinkStep, quiet, other, rejects, is_valid, acknowledged, hears_info, peer_is, goes_back, polls, alone, closed_by, hears}
+use Rattle.x25_line.proofs.Names.{take_step, connect_refusal, waiting_after, waiting_sends, waiting_up, TakesPart, window_of, ending_of, IsOut, StaysOut}
 use Rattle.x25_line.proofs.{StationLines.{AreParting}, StationSteps.{out_not_up, not_both}}
+use Rattle.x25_link.specs.{Station.{pumped_once}, declared.phase.Notes.{Notes}, laws.NoteLaw.{IsQuiet}}
 
 -- ---- a station that isn't Up sends nothing at the end of a step
 

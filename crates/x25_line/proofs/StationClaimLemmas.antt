@@ -1,16 +1,13 @@
 -- What holds of two stations says the claims.
-use Rattle.std.proofs.Common.{◌≡◌, ◌==◌, ℕ, ◌-◌, zero, suc, ◌≤◌, List, [], ◌∷◌, ◌++◌, inl, inr, length, take, drop, true, false, refl, sym, ap, ◌∙◌, arith}
-use Rattle.std.proofs.{lemmas.Bool.{eqb-true, and_parts}, lemmas.List.{take-append-drop, take_all}}
-use Rattle.std.specs.Prelude.{◌&&◌}
-use Rattle.x25_frame.specs.laws.ReadingLaw.{ReadsSpelled}
-use Rattle.x25_window.specs.laws.Window.{End, Frame}
-use Rattle.x25_link.specs.{Outgoing.{waits}, Station.{LinkSettings, LinkStation, is_up, lists_of, no_packets}, Link.{is_idle}}
-use Rattle.x25_line.specs.{laws.InWindow.{IsPrefix}, laws.Line.{Line}, laws.Stations.{StationEnd, Stations, start}}
-use Rattle.x25_line.specs.laws.WholeNumbers.{machine_run, machine_at_start, MachineGoesAlong}
-use Rattle.x25_line.specs.laws.StationClaims.{AreJoined, Always, InOrder, BothInOrder, HasItsLists, BothHaveTheirLists, BothNoteTheirEnds, IsBehind}
-use Rattle.x25_line.specs.{laws.StationClaims.{AreInWindow, NoFrmrSent, AllSentAreWhole}, laws.LawsBelow.{Laws}}
-use Rattle.x25_line.proofs.{Kept.{Way, Way-acked, InWindow-from_Kept}, StationSteps.{FitsEnd, up_of, Joint, Holds, not_both}}
-use Rattle.x25_line.proofs.StationRuns.{run_once, start_machine}
+use Rattle.x25_line.proofs.Names.{◌≡◌, ◌==◌, ℕ, ◌-◌, zero, suc, ◌≤◌, List, [], ◌∷◌, ◌++◌, inl, inr, length, drop, true, false, refl, sym, ap, ◌∙◌, arith}
+use Rattle.x25_line.proofs.Names.{eqb-true, and_parts, take-append-drop, take_all, ◌&&◌, ReadsSpelled, End, Frame, waits, LinkSettings, LinkStation, is_up}
+use Rattle.x25_line.proofs.Names.{is_idle, IsPrefix, Line, StationEnd, Stations, start, machine_run, machine_at_start, AreJoined, Laws}
+use Rattle.std.proofs.Common.{take}
+use Rattle.x25_line.proofs.Kept.{Way, Way-acked, InWindow-from_Kept}
+use Rattle.x25_line.proofs.{StationRuns.{run_once, start_machine}, StationSteps.{FitsEnd, up_of, Joint, Holds, not_both}}
+use Rattle.x25_line.specs.laws.StationClaims.{Always, InOrder, BothInOrder, HasItsLists, BothHaveTheirLists, BothNoteTheirEnds, IsBehind, AreInWindow}
+use Rattle.x25_line.specs.laws.{StationClaims.{NoFrmrSent, AllSentAreWhole}, WholeNumbers.{MachineGoesAlong}}
+use Rattle.x25_link.specs.Station.{lists_of, no_packets}
 
 -- beginnings of one list, the shorter is one of the longer
 take_of_take : (a r : ℕ) (xs : List (List ℕ)) → a ≤ r → take a (take r xs) ≡ take a xs

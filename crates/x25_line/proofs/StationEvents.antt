@@ -1,12 +1,9 @@
 -- What one event hands up and down, and whether it notes LinkUp, by cases of the event.
-use Rattle.std.proofs.Common.{◌≡◌, ℕ, List, [], ◌∷◌, length, Bool, true, false, if◌then◌else◌, Option, Some, None, refl, sym, ap, ◌∙◌, append-nil}
-use Rattle.std.specs.Prelude.{nat_le, nat_lt, ◌||◌}
-use Rattle.x25_link.specs.{declared.error.LinkError.{LinkError}, Station.{LinkSettings, LinkStation, is_up}, Hearing.{LinkStep}}
-use Rattle.x25_link.specs.Link.{put_step, put_refusal, timer_step, timer_refusal, connect_step, connect_refusal, disconnect_step, disconnect_refusal}
-use Rattle.x25_link.specs.Link.{abandon_step}
-use Rattle.x25_line.specs.laws.Stations.{Stations, Act, Put, Deliver, T1, Connect, Disconnect, Abandon, Probe, Lose, Damage, Near, Far, after_step, unless}
-use Rattle.x25_line.specs.{laws.Stations.{own_act, delivered, is_visible, acts, stations_swapped}, laws.StationClaims.{HandsOne, EachEventHandsOne}}
-use Rattle.x25_line.proofs.Choices.{unless_by, if_by}
+use Rattle.x25_line.proofs.Names.{◌≡◌, ℕ, List, [], ◌∷◌, length, Bool, true, false, if◌then◌else◌, Option, Some, None, refl, sym, ap, ◌∙◌, append-nil, nat_le}
+use Rattle.x25_line.proofs.Names.{nat_lt, ◌||◌, LinkError, LinkSettings, LinkStation, is_up, LinkStep, put_step, put_refusal, timer_step, timer_refusal}
+use Rattle.x25_line.proofs.Names.{connect_step, connect_refusal, disconnect_step, disconnect_refusal, abandon_step, Stations, Act, Put, Deliver, T1, Connect}
+use Rattle.x25_line.proofs.{Choices.{unless_by, if_by}, Names.{Disconnect, Abandon, Probe, Lose, Damage, Near, Far, is_visible, stations_swapped, HandsOne}}
+use Rattle.x25_line.specs.laws.{StationClaims.{EachEventHandsOne}, Stations.{after_step, unless, own_act, delivered, acts}}
 
 -- a step that hands nothing up, to which nothing was handed down, and that doesn't note LinkUp
 record HandsNothing (w v : Stations) : Type 0 where

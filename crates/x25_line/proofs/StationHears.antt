@@ -1,15 +1,11 @@
 -- What a station that is Up makes of what comes, as an end that keeps the rules may: of the station and that end alone, with no line.
-use Rattle.std.proofs.Common.{◌≡◌, ◌≤◌, ◌%◌, ℕ, List, [], ◌∷◌, ◌++◌, ◌+◌, ◌⊎◌, inl, inr, length, Bool, true, false, if◌then◌else◌, Option, Some, None, Result}
-use Rattle.std.proofs.{Common.{Ok, Err, refl, sym, ap, ◌∙◌, arith, append-nil}, lemmas.List.{length_push}}
-use Rattle.std.specs.Prelude.{option_to_list}
-use Rattle.x25_frame.specs.{Frame.{PlainFrame, info, rr, rnr, rej, sabm}, declared.error.FrameError.{FrameError}, declared.error.FrameError.TheVariants.{Short}}
-use Rattle.x25_window.specs.{code.Modulo.{resolved}, laws.Window.{after}, laws.Window.EndStep.{Hear, Take}}
-use Rattle.x25_link.specs.{declared.phase.Reason.{Reason}, declared.phase.Reason.TheVariants.{Disc, FrmrSent, Reset, Local}}
-use Rattle.x25_link.specs.Station.{LinkSettings, LinkStation}
-use Rattle.x25_link.specs.{Hearing.{LinkStep}, laws.WindowMachine.{Window, Input, receives}}
-use Rattle.x25_link.specs.laws.WindowLaw.{window_of, brought_by, after_input, MayHandUp, ending_of, Stays, IsSound, sets_up}
-use Rattle.x25_line.specs.{laws.Said.{Said, Tells, said, sabm_of, disc_of}, laws.Peer.{Peer, MayHear, MayMake, hearing, taking, IsWanted}}
-use Rattle.x25_line.proofs.{StationSays.{machine_of}, StationSends.{AllWithin}, StationSteps.{no_packet_of}}
+use Rattle.x25_line.proofs.Names.{◌≡◌, ◌≤◌, ◌%◌, ℕ, List, [], ◌∷◌, ◌++◌, ◌+◌, ◌⊎◌, inl, inr, length, Bool, true, false, if◌then◌else◌, Option, Some, None}
+use Rattle.x25_line.proofs.Names.{Result, Ok, Err, refl, sym, ap, ◌∙◌, arith, append-nil, length_push, option_to_list, PlainFrame, info, rr, rnr, rej, sabm}
+use Rattle.x25_line.proofs.Names.{FrameError, Short, resolved, after, Hear, Take, Reason, Disc, FrmrSent, Reset, Local, LinkSettings, LinkStation, LinkStep}
+use Rattle.x25_line.proofs.Names.{Window, Input, window_of, brought_by, after_input, MayHandUp, ending_of, Stays, IsSound, Said, Tells, said, sabm_of, disc_of}
+use Rattle.x25_line.proofs.{Names.{Peer, MayHear, MayMake, hearing, taking, IsWanted}, StationSays.{machine_of}, StationSends.{AllWithin}}
+use Rattle.x25_line.proofs.StationSteps.{no_packet_of}
+use Rattle.x25_link.specs.laws.{WindowLaw.{sets_up}, WindowMachine.{receives}}
 
 -- what is read is SABM, or is counted as none
 pub sabm_or_not : (r : Result PlainFrame FrameError) → ((p : Bool) × (r ≡ Ok (sabm p))) ⊎ (sabm_of (said r) ≡ 0)

@@ -1,18 +1,13 @@
 -- The octets on a line, and the frames of the window machine that they show.
-use Rattle.std.proofs.Common.{◌≡◌, ℕ, ◌%◌, List, [], ◌∷◌, ◌++◌, ◌⊎◌, inl, inr, length, map, Bool, true, false, not, if◌then◌else◌, Option}
-use Rattle.std.proofs.Common.{Some, None, Result, Ok, Err, refl, sym, ap, ◌∙◌, subst}
-use Rattle.std.proofs.lemmas.List.Elements.{Contains-append_left, Contains-append_right, Contains-append_cases}
-use Rattle.std.specs.{Prelude.{◌||◌, nat_lt, option_to_list}, List.{Contains}}
-use Rattle.x25_bits.specs.{FrameCheck.Sealed.{is_sealed}, declared.role.Role.{Role}}
-use Rattle.x25_frame.specs.{Frame.{PlainFrame, info, sabm, disc, ua, dm, frmr}, Spelling.{spelling_of, information_of, IsInRange, MayCarry, IsWithin}}
-use Rattle.x25_frame.specs.{Reading.{frame_of, addressed_frame}, declared.error.FrameError.{FrameError}}
-use Rattle.x25_frame.specs.{declared.error.FrameError.TheVariants.{Short, BadFcs, Undefined, NoInfoAllowed, TooLong}, laws.ReadingLaw.{ReadsSpelled}}
-use Rattle.x25_window.specs.laws.Window.{Numbered, Frame}
-use Rattle.x25_link.specs.laws.WindowMachine.{ShowsItem, Shows, ShowAll}
-use Rattle.x25_line.specs.laws.Loss.{LessAt, nothing, gone, hurt, deeper}
-use Rattle.x25_line.specs.{laws.Stations.{is_visible, IsSeen}, laws.StationClaims.{number_in, numbered_on, NoFrmr, Each, IsHandedDown, IsWhole, AreWhole}}
-use Rattle.x25_line.specs.laws.WholeNumbers.{first_of, one_more, behind, place_of, taken_out}
-use Rattle.x25_line.proofs.Lists.{each_map, each_over}
+use Rattle.x25_line.proofs.Names.{◌≡◌, ℕ, ◌%◌, List, [], ◌∷◌, ◌++◌, ◌⊎◌, inl, inr, length, map, Bool, true, false, not, if◌then◌else◌, Option, Some, None}
+use Rattle.x25_line.proofs.Names.{Result, Ok, Err, refl, sym, ap, ◌∙◌, subst, Contains-append_cases, ◌||◌, nat_lt, option_to_list, Contains, Role, PlainFrame}
+use Rattle.x25_line.proofs.Names.{info, sabm, disc, ua, dm, frmr, spelling_of, frame_of, FrameError, Short, BadFcs, Undefined, NoInfoAllowed, TooLong}
+use Rattle.x25_line.proofs.Names.{ReadsSpelled, Numbered, Frame, ShowsItem, Shows, ShowAll, LessAt, nothing, gone, hurt, deeper, is_visible, IsSeen, number_in}
+use Rattle.std.proofs.lemmas.List.Elements.{Contains-append_left, Contains-append_right}
+use Rattle.x25_bits.specs.FrameCheck.Sealed.{is_sealed}
+use Rattle.x25_frame.specs.{Reading.{addressed_frame}, Spelling.{information_of, IsInRange, MayCarry, IsWithin}}
+use Rattle.x25_line.proofs.{Lists.{each_map, each_over}, Names.{numbered_on, NoFrmr, IsWhole, AreWhole, first_of, place_of, taken_out}}
+use Rattle.x25_line.specs.laws.{StationClaims.{Each, IsHandedDown}, WholeNumbers.{one_more, behind}}
 
 -- ---- frames by frames
 

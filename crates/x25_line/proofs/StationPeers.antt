@@ -1,19 +1,14 @@
 -- Each act of a station, as long as it does not note LinkUp, is what a peer may do.
-use Rattle.std.proofs.Common.{◌≡◌, ℕ, ◌+◌, ◌≤◌, List, [], ◌∷◌, ◌++◌, inl, inr, length, false, Option, Some, None, Result, refl, sym, ap, ◌∙◌, subst, arith}
-use Rattle.std.proofs.Common.{append-nil}
-use Rattle.std.specs.Prelude.{option_to_list}
-use Rattle.x25_frame.specs.{Frame.{PlainFrame}, Reading.{frame_of}, laws.ReadingLaw.{ReadsSpelled}, declared.error.FrameError.{FrameError}}
-use Rattle.x25_window.specs.{laws.Window.{after}, laws.Window.EndStep.{HandDown}}
-use Rattle.x25_link.specs.{declared.phase.Reason.{Reason}, declared.phase.Reason.TheVariants.{FrmrSent, Reset}, Station.{LinkSettings, LinkStation, is_up}}
-use Rattle.x25_link.specs.{Hearing.{LinkStep, other}, Link.{take_step, put_step}, laws.WindowMachine.{Window, Input, hands_down, nothing}}
-use Rattle.x25_link.specs.laws.WindowLaw.{window_of, after_input, ending_of, brought_by, Stays, Ends, Follows}
-use Rattle.x25_line.specs.{laws.Stations.{Stations, Act, after_step, acts, start}, laws.LawsBelow.{Laws}, laws.Said.{said, sabm_of}}
-use Rattle.x25_line.specs.{laws.Peer.{Peer, fresh_peer, MayHear}, laws.PeerClaims.{IsNoFrmr}, laws.SessionClaims.{Each}}
-use Rattle.x25_line.proofs.{Lists.{each_append}, StationLines.{parts_of}, StationSends.{AllWithin, within_push}}
+use Rattle.x25_line.proofs.Names.{◌≡◌, ℕ, ◌+◌, ◌≤◌, List, [], ◌∷◌, ◌++◌, inl, inr, length, false, Option, Some, None, Result, refl, sym, ap, ◌∙◌, subst, arith}
+use Rattle.x25_line.proofs.Names.{append-nil, option_to_list, PlainFrame, frame_of, ReadsSpelled, FrameError, after, HandDown, Reason, FrmrSent, Reset}
+use Rattle.x25_line.proofs.Names.{LinkSettings, LinkStation, is_up, LinkStep, other, take_step, put_step, Window, Input, window_of, after_input, ending_of}
+use Rattle.x25_line.proofs.{Lists.{each_append}, Names.{brought_by, Stays, Follows, Stations, Act, start, Laws, said, sabm_of, Peer, fresh_peer, MayHear, Each}}
+use Rattle.x25_line.proofs.{StationActs.{OfSteps, of_act}, StationAway.{is_up_phase, frmr_three}, StationHears.{passes, Hears, stays_hears, left_by, by_reset}}
+use Rattle.x25_line.proofs.{StationLines.{parts_of}, StationRuns.{fresh_sound}}
+use Rattle.x25_line.proofs.{StationSays.{machine_of, MayDo, AllFree, parting_free, frmr_free, free_all, runs_said}, StationSends.{AllWithin, within_push}}
 use Rattle.x25_line.proofs.StationSteps.{AsUp, IsAway, FitsEnd, no_packet_of, Leaves, Noted, left_up, stays_out, in_vain, Parts, ends_parts, empty_lists}
-use Rattle.x25_line.proofs.{StationRuns.{fresh_sound}, StationAway.{is_up_phase, frmr_three}}
-use Rattle.x25_line.proofs.{StationSays.{machine_of, MayDo, AllFree, parting_free, frmr_free, free_all, runs_said}, StationActs.{OfSteps, of_act}}
-use Rattle.x25_line.proofs.StationHears.{passes, Hears, stays_hears, left_by, by_reset}
+use Rattle.x25_line.specs.laws.{PeerClaims.{IsNoFrmr}, Stations.{after_step, acts}}
+use Rattle.x25_link.specs.laws.{WindowLaw.{Ends}, WindowMachine.{hands_down, nothing}}
 
 -- the near end of w, with settings d, as a peer of which R is known
 pub record Seen (d : LinkSettings) (Fine : Type 0) (R : List (List ℕ) → Peer → List (List ℕ) → Type 0) (w : Stations) : Type 0 where

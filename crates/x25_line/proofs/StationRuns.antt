@@ -1,22 +1,17 @@
 -- Each event keeps what holds of two stations, so each run does.
-use Rattle.std.proofs.Common.{◌≡◌, ℕ, ◌≤◌, List, [], ◌∷◌, ◌++◌, inl, length, map, drop, Bool, true, false, if◌then◌else◌, Option, Some, None, refl, sym, ap}
-use Rattle.std.proofs.{Common.{◌∙◌, subst}, Common.{arith, append-nil}}
-use Rattle.std.specs.Prelude.{option_to_list}
-use Rattle.x25_frame.specs.{Spelling.{spelling_of}, Reading.{frame_of}, laws.ReadingLaw.{ReadsSpelled}}
-use Rattle.x25_window.specs.{laws.Window.{fresh_end, after}, laws.Window.EndStep.{HandDown}}
-use Rattle.x25_link.specs.{declared.phase.Phase.TheVariants.{Waiting}, declared.phase.Reason.{Reason}, declared.phase.Reason.TheVariants.{Retries}}
-use Rattle.x25_link.specs.{laws.NoteLaw.{Tells}, Station.{LinkSettings, is_up}, Outgoing.{no_packet}, Hearing.{LinkStep, other}, Link.{take_step, put_step}}
-use Rattle.x25_link.specs.{laws.WindowMachine.{nothing, ShowAll}, laws.WindowLaw.{IsSound, Follows}}
-use Rattle.x25_line.specs.laws.Stations.{Stations, Act, Deliver, LinkEvent, Near, Far, after_step, acts, stations_swapped, happens, run, fresh_station, start}
-use Rattle.x25_line.specs.{laws.WholeNumbers.{place_of, gone_from, machine_acts, machine_happens, machine_run, machine_at_start}, laws.LawsBelow.{Laws}}
-use Rattle.x25_line.specs.laws.StationClaims.{AreJoined, IsSetUpOnce, number_in, numbered_on, MachineReaches, at_start, near_moves, far_moves, NotesUp}
-use Rattle.x25_line.specs.{laws.StationClaims.{HandsOne}, laws.Line.{Line, moved, line_swapped}, laws.Line.Move.{HandsDown}}
-use Rattle.x25_line.proofs.Kept.{Way, Kept-moved, Kept-swapped}
-use Rattle.x25_line.proofs.StationLines.{IsOrderly, AreOrderly, shows_less, visible_is, whole_more, either_way}
-use Rattle.x25_line.proofs.{Losses.{each_less}, StationSends.{AllWithin, within_push}}
+use Rattle.x25_line.proofs.Names.{◌≡◌, ℕ, ◌≤◌, List, [], ◌∷◌, ◌++◌, inl, length, map, drop, Bool, true, false, if◌then◌else◌, Option, Some, None, refl, sym, ap}
+use Rattle.x25_line.proofs.Names.{◌∙◌, subst, arith, append-nil, option_to_list, spelling_of, frame_of, ReadsSpelled, after, HandDown, Waiting, Reason, Retries}
+use Rattle.x25_line.proofs.Names.{LinkSettings, is_up, LinkStep, other, take_step, put_step, ShowAll, IsSound, Follows, Stations, Act, Deliver, LinkEvent, Near}
+use Rattle.x25_line.proofs.Names.{Far, stations_swapped, start, place_of, machine_run, machine_at_start, Laws, AreJoined, IsSetUpOnce, number_in, numbered_on}
+use Rattle.x25_line.proofs.{Kept.{Way, Kept-moved, Kept-swapped}, Losses.{each_less}, Names.{MachineReaches, near_moves, HandsOne, Line, line_swapped}}
+use Rattle.x25_line.proofs.{StationActs.{OfSteps, of_act}, StationAway.{first_false}, StationEvents.{each_hands_one}}
+use Rattle.x25_line.proofs.{StationLines.{IsOrderly, AreOrderly, shows_less, visible_is, whole_more, either_way}, StationSends.{AllWithin, within_push}}
 use Rattle.x25_line.proofs.StationSteps.{AsUp, NotesOnce, Joint, Leads, StepLeads, Noted, left_up, stays_out, in_vain, left_joint, stands_still, stays_joint}
-use Rattle.x25_line.proofs.{StationSteps.{not_both, quiet_joint, parts_joint, ends_joint}, StationSteps.{read_joint, away_joint}, StationActs.{OfSteps, of_act}}
-use Rattle.x25_line.proofs.{StationAway.{first_false}, StationEvents.{each_hands_one}}
+use Rattle.x25_line.{proofs.StationSteps.{not_both, quiet_joint, parts_joint, ends_joint, read_joint, away_joint}, specs.laws.Line.{moved}}
+use Rattle.x25_line.specs.laws.{Line.Move.{HandsDown}, StationClaims.{at_start, far_moves, NotesUp}, Stations.{after_step, acts, happens, run, fresh_station}}
+use Rattle.x25_line.specs.laws.WholeNumbers.{gone_from, machine_acts, machine_happens}
+use Rattle.x25_link.specs.{Outgoing.{no_packet}, laws.NoteLaw.{Tells}, laws.WindowMachine.{nothing}}
+use Rattle.x25_window.specs.laws.Window.{fresh_end}
 
 reached_swapped : {k j : ℕ} {l : Line (List ℕ)} → MachineReaches k j l → MachineReaches j k (line_swapped l)
 reached_swapped at_start = at_start

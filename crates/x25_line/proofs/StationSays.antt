@@ -1,16 +1,14 @@
 -- What an end may do that keeps the rules of a peer; and what a station sends, which is that.
-use Rattle.std.proofs.Common.{◌≡◌, ℕ, ◌+◌, ◌≤◌, List, [], ◌∷◌, ◌++◌, length, map, Bool, Some, None, Ok, refl, sym, ap, ◌∙◌, subst, arith}
-use Rattle.std.proofs.{Common.{append_assoc, append-nil}, lemmas.List.{map-append}}
-use Rattle.std.specs.List.{slice_get}
-use Rattle.x25_bits.specs.declared.role.Role.{Role}
-use Rattle.x25_frame.specs.{Frame.{PlainFrame, info, rr, rnr, rej, frmr}, Spelling.{spelling_of}, Reading.{frame_of}, laws.ReadingLaw.{ReadsSpelled}}
-use Rattle.x25_link.specs.{Station.{LinkSettings}, Hearing.{other}, declared.phase.Reason.TheVariants.{FrmrSent}, laws.WindowLaw.{ending_of}}
-use Rattle.x25_link.specs.laws.WindowMachine.{Window, ShowsItem, Shows, ShowAll, IsSent, Runs, rests, goes_on}
-use Rattle.x25_line.specs.{laws.Loss.{LessAt}, laws.Stations.{IsSeen}}
-use Rattle.x25_line.specs.{laws.StationClaims.{Each, number_in}, laws.Peer.{Peer, MaySend, MayHear, numbered_to, told_to}}
+use Rattle.x25_line.proofs.Names.{◌≡◌, ℕ, ◌+◌, ◌≤◌, List, [], ◌∷◌, ◌++◌, length, map, Bool, Some, None, Ok, refl, sym, ap, ◌∙◌, subst, arith, append_assoc}
+use Rattle.x25_line.proofs.Names.{append-nil, slice_get, Role, PlainFrame, info, rr, rnr, rej, frmr, spelling_of, frame_of, ReadsSpelled, LinkSettings, other}
+use Rattle.x25_line.proofs.Names.{FrmrSent, ending_of, Window, ShowsItem, Shows, ShowAll, Runs, rests, LessAt, IsSeen, number_in, Peer, MayHear, numbered_to}
+use Rattle.std.proofs.lemmas.List.{map-append}
+use Rattle.x25_line.proofs.{Lists.{each_map}, Names.{told_to, Allows, after, frames_of, numbered, Send, Tell}}
 use Rattle.x25_line.proofs.StationLines.{IsGood, IsPart, good_reads, part_reads}
-use Rattle.x25_line.proofs.{StationSends.{AllWithin, Item, item_at, single_of, tell_good, send_good, not_none}, Lists.{each_map}}
-use Rattle.x25_window.specs.{laws.Window.{EndStep, Allows, after, frame_of as machine_frame, frames_of, numbered}, laws.Window.EndStep.{Send, Tell}}
+use Rattle.x25_line.{proofs.StationSends.{AllWithin, Item, item_at, single_of, tell_good, send_good, not_none}, specs.laws.Peer.{MaySend}}
+use Rattle.x25_line.specs.laws.StationClaims.{Each}
+use Rattle.x25_link.specs.laws.WindowMachine.{IsSent, goes_on}
+use Rattle.x25_window.specs.laws.Window.{EndStep, frame_of as machine_frame}
 
 -- the peer as an end of the window machine, with a station's k
 abbrev pub machine_of : ℕ → Peer → Window

@@ -1,14 +1,13 @@
 -- A run of a station that only sends is moves of the window machine that it allows, and its frames show those of the machine.
-use Rattle.std.proofs.Common.{◌≡◌, ℕ, zero, suc, ◌+◌, ◌%◌, ◌<◌, ◌≤◌, max, List, [], ◌∷◌, ◌++◌, length, Option, Some, None, refl, sym, ap, ◌∙◌, subst, arith}
-use Rattle.std.proofs.{Common.{append_assoc, append-nil}, lemmas.Option.{slice_get_within, get_or_from_slice_get}}
-use Rattle.std.specs.List.{slice_get}
-use Rattle.x25_frame.specs.Frame.{PlainFrame, info, rr, rnr, rej}
-use Rattle.x25_window.specs.{code.Modulo.{resolved}, laws.Window.{EndStep, Numbered, Frame, Allows, after, frame_of, frames_of, numbered}}
-use Rattle.x25_window.specs.laws.Window.EndStep.{Send, Tell}
-use Rattle.x25_link.specs.laws.WindowMachine.{Window, ShowsItem, Shows, ShowAll, IsSent, Runs, rests, goes_on}
-use Rattle.x25_line.specs.{laws.Line.{Line, steps}, laws.Line.Move.{Sends, Tells}, laws.StationClaims.{MachineReaches, near_moves, Each, IsHandedDown}}
-use Rattle.x25_line.specs.laws.WholeNumbers.{given}
-use Rattle.x25_line.proofs.{Kept.{Kept, Kept-moved, resolved_is}, Lists.{each_append}, StationLines.{shows_append, IsGood, AllGood, AllHandedDown}}
+use Rattle.x25_line.proofs.Names.{◌≡◌, ℕ, zero, suc, ◌+◌, ◌%◌, ◌<◌, ◌≤◌, max, List, [], ◌∷◌, ◌++◌, length, Option, Some, None, refl, sym, ap, ◌∙◌, subst, arith}
+use Rattle.x25_line.proofs.Names.{append_assoc, append-nil, slice_get_within, slice_get, PlainFrame, info, rr, rnr, rej, resolved, Numbered, Frame, Allows}
+use Rattle.x25_line.proofs.Names.{after, frames_of, numbered, Send, Tell, Window, ShowsItem, Shows, ShowAll, Runs, rests, Line, MachineReaches, near_moves}
+use Rattle.std.proofs.lemmas.Option.{get_or_from_slice_get}
+use Rattle.x25_line.proofs.{Kept.{Kept, Kept-moved, resolved_is}, Lists.{each_append}, Names.{given}}
+use Rattle.x25_line.{proofs.StationLines.{shows_append, IsGood, AllGood, AllHandedDown}, specs.laws.Line.{steps}, specs.laws.Line.Move.{Sends, Tells}}
+use Rattle.x25_line.specs.laws.StationClaims.{Each, IsHandedDown}
+use Rattle.x25_link.specs.laws.WindowMachine.{IsSent, goes_on}
+use Rattle.x25_window.specs.laws.Window.{EndStep, frame_of}
 
 -- ---- packets
 

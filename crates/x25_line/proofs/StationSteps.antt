@@ -1,27 +1,21 @@
 -- What holds of two stations and the window machine behind the line, and that a step of the near end keeps it.
-use Rattle.std.proofs.Common.{◌≡◌, ℕ, ◌+◌, ◌%◌, List, [], ◌∷◌, ◌++◌, ◌⊎◌, inl, inr, length, map, remove, Bool, true, false, Option, Some, None, Result, Ok, Err}
-use Rattle.std.proofs.{Common.{refl, sym, ap, ◌∙◌, subst, arith, append-nil}, lemmas.Bool.{le-leb}, lemmas.List.{replicate_more}}
-use Rattle.std.specs.Prelude.{option_to_list, ◌||◌}
-use Rattle.x25_frame.specs.{Frame.{PlainFrame, info, rr, rnr, rej, sabm, disc, ua, dm}, Spelling.{spelling_of}, Reading.{frame_of}}
-use Rattle.x25_frame.specs.{laws.ReadingLaw.{ReadsSpelled}, declared.error.FrameError.{FrameError}}
-use Rattle.x25_frame.specs.declared.error.FrameError.TheVariants.{Short, BadFcs, BadAddress}
-use Rattle.x25_window.specs.{laws.Window.{End, Numbered, Frame, after}, laws.Window.EndStep.{Hear, Take}}
-use Rattle.x25_link.specs.{declared.phase.Phase.{Phase}, declared.phase.Phase.TheVariants.{Waiting, Up}, declared.phase.Reason.{Reason}}
-use Rattle.x25_link.specs.{declared.phase.Reason.TheVariants.{Retries, Disc, FrmrSent, Reset}, laws.NoteLaw.{IsQuiet, Tells}, Outgoing.{Outgoing, no_packet}}
-use Rattle.x25_link.specs.{Station.{LinkSettings, LinkStation, is_up, lists_of, no_packets}, Hearing.{LinkStep, other}}
-use Rattle.x25_link.specs.laws.WindowMachine.{Window, Input, receives, Shows, ShowAll}
-use Rattle.x25_link.specs.laws.WindowLaw.{IsSound, window_of, brought_by, after_input, MayHandUp, if_valid, ending_of, ends_in, AreLast, Stays, Ends, Follows}
-use Rattle.x25_link.specs.laws.WindowLaw.{IsOut, AreDeclining}
-use Rattle.x25_line.specs.{laws.Line.{Line, MayTake, FrontMayBeTaken, arrived, front_arrived, takes_item}, laws.Line.Move.{Arrives, Loses}}
-use Rattle.x25_line.specs.{laws.Stations.{StationEnd, Stations, after_step}, laws.Said.{sabm_of, said}}
-use Rattle.x25_line.specs.laws.StationClaims.{AreJoined, NotesItsEnd, MachineReaches, near_moves, number_in, numbered_on, Each, NoFrmr, IsWhole, AreWhole}
-use Rattle.x25_line.specs.laws.WholeNumbers.{given, first_of, taken_out, counted, machine_after}
-use Rattle.x25_line.proofs.{Lists.{each_append}, Kept.{Kept, Way, Kept-moved, hears_valid}}
+use Rattle.x25_line.proofs.Names.{◌≡◌, ℕ, ◌+◌, ◌%◌, List, [], ◌∷◌, ◌++◌, ◌⊎◌, inl, inr, length, map, remove, Bool, true, false, Option, Some, None, Result, Ok}
+use Rattle.x25_line.proofs.Names.{Err, refl, sym, ap, ◌∙◌, subst, arith, append-nil, le-leb, option_to_list, ◌||◌, PlainFrame, info, rr, rnr, rej, sabm, disc}
+use Rattle.x25_line.proofs.Names.{ua, dm, spelling_of, frame_of, ReadsSpelled, FrameError, Short, BadFcs, End, Numbered, Frame, after, Hear, Take, Phase}
+use Rattle.x25_line.proofs.Names.{Waiting, Up, Reason, Retries, Disc, FrmrSent, Reset, LinkSettings, LinkStation, is_up, LinkStep, other, Window, Input, Shows}
+use Rattle.x25_line.proofs.Names.{ShowAll, IsSound, window_of, brought_by, after_input, MayHandUp, ending_of, Stays, Follows, IsOut, AreDeclining, Line}
+use Rattle.x25_line.proofs.Names.{StationEnd, Stations, sabm_of, said, AreJoined, MachineReaches, near_moves, number_in, numbered_on, NoFrmr, IsWhole, AreWhole}
+use Rattle.std.proofs.lemmas.List.{replicate_more}
+use Rattle.x25_frame.specs.declared.error.FrameError.TheVariants.{BadAddress}
+use Rattle.x25_line.proofs.{Kept.{Kept, Way, Kept-moved, hears_valid}, Lists.{each_append}, Names.{given, first_of, taken_out}}
 use Rattle.x25_line.proofs.StationLines.{shows_append, shows_first, Front, front_of, carried_of, IsOrderly, AreOrderly, consed, numbered_append, AreParting}
-use Rattle.x25_line.proofs.StationLines.{IsPart}
-use Rattle.x25_line.proofs.StationLines.{parts_of, no_frmr_append, good_no_frmr, parting_no_frmr, good_numbered, good_orderly, parting_numbered}
+use Rattle.x25_line.proofs.StationLines.{IsPart, parts_of, no_frmr_append, good_no_frmr, parting_no_frmr, good_numbered, good_orderly, parting_numbered}
 use Rattle.x25_line.proofs.StationLines.{parting_orderly, whole_more, good_whole, parting_whole, first_more}
 use Rattle.x25_line.proofs.StationSends.{AllWithin, Sent, sent_given, runs_sent}
+use Rattle.x25_line.specs.laws.{Line.{MayTake, FrontMayBeTaken, arrived, front_arrived, takes_item}, Line.Move.{Arrives, Loses}}
+use Rattle.x25_line.specs.laws.{StationClaims.{NotesItsEnd, Each}, Stations.{after_step}, WholeNumbers.{counted, machine_after}}
+use Rattle.x25_link.specs.{Outgoing.{Outgoing, no_packet}, Station.{lists_of, no_packets}, laws.NoteLaw.{IsQuiet, Tells}}
+use Rattle.x25_link.specs.laws.{WindowLaw.{if_valid, ends_in, AreLast, Ends}, WindowMachine.{receives}}
 
 -- a phase out of the session isn't Up
 pub out_not_up : (p : Phase) → IsOut p → is_up p ≡ false

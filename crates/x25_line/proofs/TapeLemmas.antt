@@ -1,16 +1,12 @@
 -- A tape of which nothing is told is one of a station and a peer that keeps the rules.
-use Rattle.std.proofs.Common.{◌≡◌, ◌==◌, ◌⊎◌, inl, inr, ℕ, ◌+◌, ◌-◌, ◌%◌, ◌<◌, ◌≤◌, arith, max, List, [], ◌∷◌, ◌++◌, length, Bool, true, false, if◌then◌else◌}
-use Rattle.std.proofs.{Common.{Option, Some, None, refl, sym, ap, ◌∙◌, subst}, lemmas.Bool.{eqb-true, leb-true, ltb-true, and_parts}, lemmas.List.{length_push}}
-use Rattle.std.specs.{Prelude.{nat_le, nat_lt, ◌&&◌}, List.{slice_get}}
-use Rattle.x25_frame.specs.{Reading.{frame_of}, laws.ReadingLaw.{ReadsSpelled}}
-use Rattle.x25_window.specs.code.Modulo.{resolved}
-use Rattle.x25_link.specs.{Station.{LinkSettings}, Hearing.{other}}
-use Rattle.x25_line.specs.{laws.LawsBelow.{Laws}, laws.Peer.{Peer, MayNumber, MayAcknowledge, numbered_to, told_to, MaySay, hearing, IsWanted, taking, MayMake}}
-use Rattle.x25_line.specs.laws.PeerJoined.{JoinedOnce, Ours, HandsDown, Sends, Hears, ReachedOnce, at_start, goes_on}
-use Rattle.x25_line.specs.laws.Said.{Said, Carried, Tells, Odd, said}
+use Rattle.x25_line.proofs.Names.{◌≡◌, ◌==◌, ◌⊎◌, inl, inr, ℕ, ◌+◌, ◌-◌, ◌%◌, ◌<◌, ◌≤◌, arith, max, List, [], ◌∷◌, ◌++◌, length, Bool, true, false}
+use Rattle.x25_line.proofs.Names.{if◌then◌else◌, Option, Some, None, refl, sym, ap, ◌∙◌, subst, eqb-true, leb-true, and_parts, length_push, nat_le, nat_lt}
+use Rattle.x25_line.proofs.Names.{◌&&◌, slice_get, frame_of, ReadsSpelled, resolved, LinkSettings, other, Laws, Peer, numbered_to, told_to, MaySay, hearing}
+use Rattle.x25_line.proofs.Names.{IsWanted, taking, MayMake, JoinedOnce, Ours, HandsDown, Sends, Hears, ReachedOnce, at_start, goes_on, Said, Carried, Tells}
+use Rattle.std.proofs.lemmas.Bool.{ltb-true}
+use Rattle.x25_line.proofs.{Frames.{slice_get-last}, Names.{Odd, said}, PeerOrder.{keeps_order}, StationHears.{low_resolved}}
+use Rattle.x25_line.specs.laws.{Peer.{MayNumber, MayAcknowledge}, PeerClaims.{KeepsOrder, OnAnySilentTape}, Tape.{Acts, Shows, Comes}}
 use Rattle.x25_line.specs.laws.Tape.{same_octets, is_item, judges_ack, then_ack, judges_item, judges_number, judges_said, notes, notes_said, IsSilent, Begins}
-use Rattle.x25_line.specs.{laws.Tape.{Acts, Shows, Comes}, laws.PeerClaims.{KeepsOrder, OnAnySilentTape}}
-use Rattle.x25_line.proofs.{StationHears.{low_resolved}, Frames.{slice_get-last}, PeerOrder.{keeps_order}}
 
 -- ---- packets that are the same
 

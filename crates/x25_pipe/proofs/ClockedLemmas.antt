@@ -1,28 +1,15 @@
 -- The pipe heeds a step with the pull behind it, as one who obeys a clock heeds both in turn.
-use Rattle.std.proofs.Common.{◌≡◌, ◌≤◌, ◌+◌, ℕ, List, [], ◌∷◌, ◌++◌, append-nil, Option, Some, None, refl, sym, ap, subst, ◌∙◌, arith}
-use Rattle.x25_layer.specs.Calls.{PullsAll}
+use Rattle.x25_pipe.proofs.Names.{◌≡◌, ◌≤◌, ◌+◌, ℕ, List, [], ◌++◌, Option, Some, None, refl, sym, ap, ◌∙◌, arith, PullsAll, Settings, layer_settings}
+use Rattle.x25_pipe.proofs.Names.{StationEntry, Station, Outcome, Did, Refused, StationEvent, Due, Times, Deadlines, Seen, heeded, after_due, command_for, Act}
+use Rattle.std.proofs.Common.{append-nil}
+use Rattle.x25_clock.specs.laws.{ClockLaw.{Watched, comes, heeds as heeds_event, seen_of}, PullLaw.{PullIsHeeded, seen_pulled}}
+use Rattle.x25_clock.specs.laws.WaitLaw.{Happens, IsAsked, by_command, all_done}
 use Rattle.x25_layer.specs.code.FitsLayer.{awaited_at}
-use Rattle.x25_station.specs.Command.{Command}
-use Rattle.x25_station.specs.Config.{Settings, layer_settings}
-use Rattle.x25_station.specs.Entry.{StationEntry}
-use Rattle.x25_station.specs.Pulling.{pulled_of}
-use Rattle.x25_station.specs.Station.{Station}
-use Rattle.x25_station.specs.Station.Told.{is_at_rest}
-use Rattle.x25_station.specs.Step.{Step, Outcome, Did, Refused, requests}
-use Rattle.x25_station.specs.Timer.{tells_link, timer_pulled}
+use Rattle.x25_pipe.{proofs.Names.{act_of, event_act, event_for, pulled_behind}, specs.Timed.{seen_at}}
+use Rattle.x25_pipe.specs.laws.ClockedLaw.{watched_in, with_pull, done_with_pull, EventIsDone, DueIsDone}
+use Rattle.x25_station.specs.{Command.{Command}, Pulling.{pulled_of}, Station.Told.{is_at_rest}, Step.{Step, requests}, Timer.{tells_link, timer_pulled}}
 use Rattle.x25_station.specs.laws.SettledLaw.{IsSettled, SettledBy, StaysSettled, GoesOn, PullsGoOn}
 use Rattle.x25_station.specs.laws.TimerLaw as timer
-use Rattle.x25_station.specs.laws.TimerLaw.{StationEvent}
-use Rattle.x25_clock.specs.declared.due.Due.{Due}
-use Rattle.x25_clock.specs.declared.times.Times.{Times}
-use Rattle.x25_clock.specs.Clock.{Deadlines, Seen, heeded, after_due}
-use Rattle.x25_clock.specs.Due.{command_for}
-use Rattle.x25_clock.specs.laws.ClockLaw.{Watched, comes, heeds as heeds_event, seen_of}
-use Rattle.x25_clock.specs.laws.PullLaw.{PullIsHeeded, seen_pulled}
-use Rattle.x25_clock.specs.laws.WaitLaw.{Happens, IsAsked, by_command, all_done}
-use Rattle.x25_pipe.specs.Pipe.{Act, act_of, event_act, event_for, pulled_behind}
-use Rattle.x25_pipe.specs.Timed.{seen_at}
-use Rattle.x25_pipe.specs.laws.ClockedLaw.{watched_in, with_pull, done_with_pull, EventIsDone, DueIsDone}
 
 -- ---- what is seen of a step with its pull
 

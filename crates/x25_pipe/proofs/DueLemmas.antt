@@ -1,24 +1,15 @@
 -- What is due at one moment is asked so often at most: each time one moment less is past.
-use Rattle.std.proofs.Common.{◌≡◌, ℕ, zero, suc, ◌+◌, ◌^◌, ◌<◌, ◌≤◌, ◌==◌, List, [], ◌∷◌, length, map, Bool, true, false, not, if◌then◌else◌, nat_lt, Option}
-use Rattle.std.proofs.Common.{Some, None, refl, sym, ap, subst, ◌∙◌, arith}
-use Rattle.std.proofs.lemmas.Bool.{true≢false, eq-eqb, lt-leb, ltb-true}
-use Rattle.std.proofs.lemmas.Option.{none-some, same_Some}
-use Rattle.x25_circuit.specs.declared.awaits.Awaits.{Awaits}
-use Rattle.x25_circuit.specs.declared.awaits.Awaits.TheVariants.{Nothing, Acceptance, ResetConfirmation, ClearConfirmation}
-use Rattle.x25_station.specs.Config.{Settings}
-use Rattle.x25_station.specs.declared.timer.Timer.{Timer}
-use Rattle.x25_station.specs.declared.timer.Timer.TheVariants.{Off, Begins, GoesOn}
-use Rattle.x25_clock.specs.declared.due.Due.{Due}
-use Rattle.x25_clock.specs.declared.due.Due.TheVariants as due
-use Rattle.x25_clock.specs.declared.times.Times.{Times}
-use Rattle.x25_clock.specs.declared.wait.Wait.{Wait}
-use Rattle.x25_clock.specs.Due.{command_for}
-use Rattle.x25_clock.specs.Clock.{Deadlines, Seen, most_due, nothing_awaited, channels_from, deadline, is_past, number_of, time_of, t1_after, running}
-use Rattle.x25_clock.specs.Clock.{wait_after, heeded, overdue_of, asked_for, due_on, unless_on, due_of, renewed, renewed_on, after_due}
-use Rattle.x25_pipe.specs.Pipe.{Act, asked_act, event_act, event_for, event_in, nothing_act}
-use Rattle.x25_pipe.specs.Timed.{Timed, TimedTurn, new_timed, writes, and_then, seen_at, heeds, act_turn, insist_turn, told_due, due_first, due_turns}
-use Rattle.x25_pipe.specs.Timed.{answer_turn, time_said, mark_turn, timed_turn, timed_turns}
+use Rattle.x25_pipe.proofs.Names.{◌≡◌, ℕ, zero, suc, ◌+◌, ◌<◌, ◌≤◌, ◌==◌, List, [], ◌∷◌, length, map, Bool, true, false, if◌then◌else◌, nat_lt, Option, Some}
+use Rattle.x25_pipe.proofs.Names.{None, refl, sym, ap, subst, ◌∙◌, arith, lt-leb, Settings, Due, Times, command_for, Deadlines, Seen, heeded, due_of, after_due}
+use Rattle.x25_pipe.proofs.Names.{Act, asked_act, event_act, event_for, event_in, nothing_act, Timed, TimedTurn, new_timed, insist_turn, told_due, due_first}
+use Rattle.std.proofs.{Common.{◌^◌, not}, lemmas.Bool.{true≢false, eq-eqb, ltb-true}, lemmas.Option.{none-some, same_Some}}
+use Rattle.x25_circuit.specs.declared.awaits.{Awaits.{Awaits}, Awaits.TheVariants.{Nothing, Acceptance, ResetConfirmation, ClearConfirmation}}
+use Rattle.x25_clock.specs.Clock.{most_due, nothing_awaited, channels_from, deadline, is_past, number_of, time_of, t1_after, running, wait_after, overdue_of}
+use Rattle.x25_clock.specs.{Clock.{asked_for, due_on, unless_on, renewed, renewed_on}, declared.wait.Wait.{Wait}}
+use Rattle.x25_pipe.{proofs.Names.{due_turns, answer_turn, time_said, timed_turn, timed_turns}, specs.Timed.{seen_at, act_turn}}
 use Rattle.x25_pipe.specs.laws.ClockedLaw.{NothingIsDue}
+use Rattle.x25_station.specs.declared.timer.{Timer.{Timer}, Timer.TheVariants.{Off, Begins, GoesOn}}
+use Rattle.x25_clock.specs.declared.due.Due.TheVariants as due
 
 -- ---- how many moments are past
 

@@ -1,18 +1,8 @@
 -- A turn that is made in parts.
-use Rattle.std.proofs.Common.{◌≡◌, ◌∙◌, ℕ, Bool, List, ◌++◌, Option, ap, sym, subst}
-use Rattle.std.specs.Prelude.{◌||◌}
-use Rattle.std.proofs.lemmas.List.{append-nil}
-use Rattle.std.proofs.Math.Bool.{or-false}
-use Rattle.x25_io.specs.code.Written.{AppendsPrefix}
-use Rattle.x25_station.specs.Config.{Settings}
-use Rattle.x25_station.specs.Station.{Station}
-use Rattle.x25_pipe.specs.declared.pipe.Pipe.{Pipe}
-use Rattle.x25_pipe.specs.Pipe.{Turn, quiet, and_then, sayings_text, has_refusal}
-use Rattle.x25_pipe.specs.code.Stands.{Stands}
-use Rattle.x25_pipe.specs.code.Leaves.{Leaves}
-use Rattle.x25_io.proofs.ToldLemmas.{prefix_more, told_prefix}
-use Rattle.x25_pipe.proofs.SayingLemmas.{parts_text, parts_refused}
-use Rattle.x25_pipe.proofs.StandLemmas.{StandsAt, BeginsAt}
+use Rattle.x25_pipe.proofs.Names.{◌≡◌, ◌∙◌, ℕ, Bool, List, ◌++◌, Option, ap, sym, subst, ◌||◌, append-nil, or-false, AppendsPrefix, Settings, Station, Pipe}
+use Rattle.x25_io.proofs.ToldLemmas.{told_prefix}
+use Rattle.x25_pipe.proofs.{Names.{Turn, and_then, sayings_text, has_refusal, Stands, prefix_more}, SayingLemmas.{parts_text, parts_refused}}
+use Rattle.x25_pipe.{proofs.StandLemmas.{StandsAt, BeginsAt}, specs.Pipe.{quiet}, specs.code.Leaves.{Leaves}}
 
 module _ (c : Settings) (old now next : Option (List ℕ)) (s u : Pipe) (told : List ℕ) (refused : Bool) (whole : Turn) where
   -- nothing of it is left

@@ -1,10 +1,9 @@
 -- What a line asks for.
-use Rattle.std.proofs.Common.{◌≡◌, ◌∙◌, ◌≤◌, ◌<◌, ℕ, Bool, List, length, if◌then◌else◌, Option, None, ap, sym}
-use Rattle.std.proofs.lemmas.Bool.{le-leb, lt-leb}
-use Rattle.x25_bits.specs.declared.role.Role.{Role}
+use Rattle.x25_pipe.proofs.Names.{◌≡◌, ◌∙◌, ◌≤◌, ◌<◌, ℕ, Bool, List, length, if◌then◌else◌, Option, None, ap, sym, lt-leb, Role, event_in}
+use Rattle.std.proofs.lemmas.Bool.{le-leb}
 use Rattle.x25_decode.specs.Decoding.{sent_in}
 use Rattle.x25_io.specs.HeldLine.{most_line}
-use Rattle.x25_pipe.specs.Pipe.{event_in, read_event}
+use Rattle.x25_pipe.specs.Pipe.{read_event}
 
 -- a line that isn't too long is read
 event_read : (wide : Bool) (end : Role) (line : List ℕ) (sent : Option (Role × List ℕ)) → length line ≤ most_line → sent_in line ≡ sent

@@ -1,22 +1,12 @@
 -- A moment and its decimal text, and the time in a line.
-use Rattle.std.proofs.Common.{◌≡◌, ◌∙◌, ◌<◌, ◌≤◌, ◌^◌, ℕ, true, List, [], ◌∷◌, length, Option, Some, None, Result, Ok, Err, Bor, nat_lt, ap, refl, sym, subst}
-use Rattle.std.proofs.Common.{arith, rules, decimal, if◌then◌else◌}
-use Rattle.std.specs.Prelude.{cond, ◌&&◌, MatchResult}
-use Rattle.std.specs.Char.{is_ascii_digit}
-use Rattle.std.specs.List.{list_all}
-use Rattle.std.specs.Str.{IsAscii, IsUtf8, bytes_eq}
+use Rattle.x25_pipe.proofs.Names.{◌≡◌, ◌∙◌, ◌<◌, ◌≤◌, ℕ, true, List, [], ◌∷◌, length, Option, Some, None, Result, nat_lt, ap, refl, sym, subst, arith}
+use Rattle.std.proofs.{Common.{◌^◌, Ok, Err, Bor, rules, decimal}, lemmas.Bool.{and_parts, and_from, lt-ltb, le-leb, ltb-true}, lemmas.Bool.Decides.{nat_tests}}
+use Rattle.std.proofs.lemmas.{Fmt.{decimal_is_IsNumeral, digits_decimal, parse-decimal}, Option.{cond_some, same_Some}, Slice.Eq.{bytes_eq-Decides}}
+use Rattle.std.proofs.lemmas.{Str.{IsUtf8-from_ascii}, Str.Ascii.{IsAscii-nil, IsAscii-cons}, Str.Parse.{IsNumeralModel, numerals_by_value}}
+use Rattle.std.specs.{Char.{is_ascii_digit}, List.{list_all}, Prelude.{cond, ◌&&◌, MatchResult}, Result.{result_ok}, Str.{IsAscii, IsUtf8, bytes_eq}}
 use Rattle.std.specs.Str.Parse.{ParsesUnsigned, digits_value}
-use Rattle.std.specs.Result.{result_ok}
-use Rattle.std.proofs.lemmas.Bool.{and_parts, and_from, lt-ltb, le-leb, lt-leb, ltb-true}
-use Rattle.std.proofs.lemmas.Bool.Decides.{nat_tests}
-use Rattle.std.proofs.lemmas.Fmt.{decimal_is_IsNumeral, digits_decimal, parse-decimal}
-use Rattle.std.proofs.lemmas.Option.{cond_some, same_Some}
-use Rattle.std.proofs.lemmas.Slice.Eq.{bytes_eq-Decides}
-use Rattle.std.proofs.lemmas.Str.{IsUtf8-from_ascii}
-use Rattle.std.proofs.lemmas.Str.Ascii.{IsAscii-nil, IsAscii-cons}
-use Rattle.std.proofs.lemmas.Str.Parse.{IsNumeralModel, numerals_by_value}
 use Rattle.x25_io.specs.HeldLine.{most_line}
-use Rattle.x25_pipe.specs.Timed.{moment_in, time_in, time_said}
+use Rattle.x25_pipe.{proofs.Names.{if◌then◌else◌, lt-leb, time_said}, specs.Timed.{moment_in, time_in}}
 
 -- what is read is below 2^64, and written so
 pub moment_found : (text : List ℕ) (n : ℕ) → moment_in text ≡ Some n → (n < 2 ^ 64) × (text ≡ decimal n)

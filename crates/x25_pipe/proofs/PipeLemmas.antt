@@ -1,21 +1,11 @@
 -- A whole input.
-use Rattle.std.proofs.Common.{◌≡◌, ℕ, false, List, [], Option, refl, sym, subst}
-use Rattle.x25_io.specs.Lines.{lines_of}
-use Rattle.x25_io.specs.code.Written.{AppendsPrefix}
-use Rattle.x25_station.specs.Config.{Settings}
-use Rattle.x25_station.specs.Station.{new_station}
-use Rattle.x25_io.specs.HeldLine.{HoldsLine}
+use Rattle.x25_pipe.proofs.Names.{◌≡◌, ℕ, false, List, [], Option, refl, sym, subst, lines_of, AppendsPrefix, Settings, FitsStation, sayings_text, has_refusal}
+use Rattle.x25_io.proofs.{TakerLemmas.{between}, ToldLemmas.{none_told}}
+use Rattle.x25_io.specs.{HeldLine.{HoldsLine}, code.LinesLead.{LinesLead}}
 use Rattle.x25_io.specs.declared.held_line.HeldLine.{HeldLine}
-use Rattle.x25_io.specs.code.LinesLead.{LinesLead}
-use Rattle.x25_io.proofs.TakerLemmas.{between}
-use Rattle.x25_io.proofs.ToldLemmas.{none_told}
-use Rattle.x25_station.specs.code.FitsStation.{FitsStation}
-use Rattle.x25_pipe.specs.Pipe.{sayings_text, has_refusal, turns, standing_turn, piped, text_of}
-use Rattle.x25_pipe.specs.code.Stands.{Stands}
-use Rattle.x25_pipe.specs.code.Stream.{Answers}
-use Rattle.x25_pipe.specs.declared.pipe.Pipe.{Pipe}
-use Rattle.x25_pipe.proofs.SayingLemmas.{parts_text, parts_refused}
-use Rattle.x25_pipe.proofs.StandLemmas.{StandsAt, BeginsAt, begins_before}
+use Rattle.x25_pipe.proofs.{Names.{turns, Stands, Pipe}, SayingLemmas.{parts_text, parts_refused}, StandLemmas.{StandsAt, BeginsAt, begins_before}}
+use Rattle.x25_pipe.specs.{Pipe.{standing_turn, piped, text_of}, code.Stream.{Answers}}
+use Rattle.x25_station.specs.Station.{new_station}
 
 -- a station that never was up
 pub stands_first : (c : Settings) (written : Option (List ℕ)) (p : Pipe) → FitsStation c p.station new_station → p.end ≡ c.role → p.output ≡ [] → p.is_refused

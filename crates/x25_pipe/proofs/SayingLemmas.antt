@@ -1,15 +1,10 @@
 -- The text of what is said, one saying after another.
-use Rattle.std.proofs.Common.{◌≡◌, ◌∙◌, ◌+◌, ◌<◌, ℕ, Bool, List, [], ◌∷◌, ◌++◌, length, take, drop, map, get_or, append_assoc, ap, refl, sym}
-use Rattle.std.specs.Prelude.{◌||◌}
-use Rattle.std.proofs.lemmas.Grind.{flat_map-append}
-use Rattle.std.proofs.lemmas.List.{append-nil, map-append, take_more, take-append-drop}
+use Rattle.x25_pipe.proofs.Names.{◌≡◌, ◌∙◌, ◌+◌, ◌<◌, ℕ, Bool, List, [], ◌∷◌, ◌++◌, length, map, append_assoc, ap, refl, sym, ◌||◌, append-nil, Role}
+use Rattle.std.proofs.{Common.{take, drop, get_or}, Math.Bool.{or_assoc}, lemmas.Grind.{flat_map-append}, lemmas.List.{map-append, take_more, take-append-drop}}
 use Rattle.std.proofs.lemmas.List.Folds.{list_any-append}
-use Rattle.std.proofs.Math.Bool.{or_assoc}
-use Rattle.x25_bits.specs.declared.role.Role.{Role}
 use Rattle.x25_console.specs.Telling.{entries_text}
-use Rattle.x25_station.specs.Entry.{StationEntry}
+use Rattle.x25_pipe.{proofs.Names.{StationEntry, saying_line, sayings_text, has_refusal}, specs.Pipe.{Saying, enters, is_refusal}}
 use Rattle.x25_transcript.specs.EntryText.{entry_line}
-use Rattle.x25_pipe.specs.Pipe.{Saying, enters, saying_line, sayings_text, is_refusal, has_refusal}
 
 pub text-append : (end : Role) (xs ys : List Saying) → sayings_text end (xs ++ ys) ≡ sayings_text end xs ++ sayings_text end ys
 text-append end xs ys = flat_map-append (saying_line end) xs ys

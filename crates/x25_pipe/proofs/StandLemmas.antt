@@ -1,43 +1,24 @@
 -- How it stands after a turn.
-use Rattle.std.proofs.Common.{◌≡◌, ◌∙◌, ◌==◌, ℕ, Bool, true, false, List, [], ◌∷◌, ◌++◌, map, Option, Some, None, Result, Ok, MatchResult, ap, sym, subst, refl}
-use Rattle.std.proofs.lemmas.Result.{MatchResult-weaker}
-use Rattle.std.specs.Prelude.{◌||◌}
-use Rattle.std.proofs.lemmas.List.{append-nil, map-append}
-use Rattle.std.proofs.Math.Bool.{or-false, or-true}
-use Rattle.x25_bits.specs.declared.role.Role.{Role}
+use Rattle.x25_pipe.proofs.Names.{◌≡◌, ◌∙◌, ◌==◌, ℕ, Bool, true, false, List, [], ◌∷◌, ◌++◌, map, Option, Some, None, Result, ap, sym, subst, refl, ◌||◌}
+use Rattle.x25_pipe.proofs.Names.{append-nil, or-false, Role, AppendsPrefix, PullsAll, StationEntry, StationEvent, FitsStation, Settings, layer_settings}
+use Rattle.x25_pipe.proofs.Names.{Station, Outcome, Did, Refused, prefix_more, saying_line, sayings_text, has_refusal, Turn, and_then, pulled_behind, Act}
+use Rattle.std.proofs.{Common.{Ok, MatchResult}, Math.Bool.{or-true}, lemmas.List.{map-append}, lemmas.Result.{MatchResult-weaker}}
 use Rattle.x25_clock.specs.laws.ClockLaw.{comes}
-use Rattle.x25_io.specs.code.Written.{AppendsPrefix, Tells}
-use Rattle.x25_io.specs.declared.fault.Fault.{Fault}
-use Rattle.x25_layer.specs.Calls.{PullsAll, LayerOutcome, Accepted, Declined, layer_outcome}
-use Rattle.x25_layer.specs.laws.Rounds.{Answered, Went, Refuses, calls}
-use Rattle.x25_frame.specs.Frame.{PlainFrame}
+use Rattle.x25_console.specs.Telling.{nothing_line, refusal_line}
+use Rattle.x25_frame.specs.{Frame.{PlainFrame}, Spelling.{spelling_of}}
+use Rattle.x25_io.specs.{code.Written.{Tells}, declared.fault.Fault.{Fault}}
+use Rattle.x25_layer.specs.{Calls.{LayerOutcome, Accepted, Declined, layer_outcome}, laws.Rounds.{Answered, Went, Refuses, calls}}
 use Rattle.x25_link.specs.Link.{alone}
-use Rattle.x25_frame.specs.Spelling.{spelling_of}
-use Rattle.x25_station.specs.declared.error.StationError.{StationError}
-use Rattle.x25_station.specs.declared.error.StationError.TheVariants.{NoMemory}
+use Rattle.x25_pipe.proofs.{Names.{act_of, asked_act, event_act, event_in, nothing_act, turn, Stands, Pipe}, SayingLemmas.{parts_text, parts_refused}}
+use Rattle.x25_pipe.specs.Pipe.{Saying, enters, sends, refuses, reads_nothing, said, step_told, and_pulls, with_pulls, timer_with_pulls, asked_turn, event_turn}
+use Rattle.x25_pipe.specs.{Pipe.{mark_turn, marked}, code.Stands.{Acted, IsActed, Stood, Turns, IsStep, IsError, answer_told}}
+use Rattle.x25_station.specs.{Config.{link_settings}, Error.{number_of}, Pulling.{pulled, pulled_of}, Station.{view_of, waiting_after}}
+use Rattle.x25_station.specs.{Step.{Step, did, requests, entries_of_outcome}, Timer.{standing, timer_pulled}, code.Pulls.{Pulls}}
+use Rattle.x25_station.specs.declared.{error.StationError.{StationError}, error.StationError.TheVariants.{NoMemory}, timer.Timer.{Timer}}
 use Rattle.x25_station.specs.declared.station.Station as code
 use Rattle.x25_station.specs.declared.step.Step as code_step
-use Rattle.x25_station.specs.Entry.{StationEntry}
-use Rattle.x25_station.specs.declared.timer.Timer.{Timer}
-use Rattle.x25_station.specs.Pulling.{pulled, pulled_of}
-use Rattle.x25_station.specs.Timer.{standing, timer_pulled}
 use Rattle.x25_station.specs.laws.TimerLaw as timer
-use Rattle.x25_station.specs.laws.TimerLaw.{StationEvent}
-use Rattle.x25_station.specs.code.Pulls.{Pulls}
 use Rattle.x25_station.specs.code.FitsStation as fits
-use Rattle.x25_station.specs.code.FitsStation.{FitsStation}
-use Rattle.x25_station.specs.Config.{Settings, link_settings, layer_settings}
-use Rattle.x25_station.specs.Error.{number_of}
-use Rattle.x25_station.specs.Station.{Station, view_of, waiting_after}
-use Rattle.x25_station.specs.Step.{Step, Outcome, Did, Refused, did, requests, entries_of_outcome}
-use Rattle.x25_console.specs.Telling.{nothing_line, refusal_line}
-use Rattle.x25_io.proofs.ToldLemmas.{prefix_more}
-use Rattle.x25_pipe.specs.Pipe.{Saying, enters, sends, refuses, reads_nothing, saying_line, sayings_text, has_refusal, Turn, and_then, said, step_told}
-use Rattle.x25_pipe.specs.Pipe.{pulled_behind, and_pulls, with_pulls, timer_with_pulls}
-use Rattle.x25_pipe.specs.Pipe.{Act, act_of, asked_act, asked_turn, event_act, event_in, event_turn, mark_turn, marked, nothing_act, turn}
-use Rattle.x25_pipe.specs.code.Stands.{Acted, IsActed, Stands, Stood, Turns, IsStep, IsError, answer_told}
-use Rattle.x25_pipe.specs.declared.pipe.Pipe.{Pipe}
-use Rattle.x25_pipe.proofs.SayingLemmas.{parts_text, parts_refused}
 
 -- how it stands, by the turn that led there
 abbrev pub StandsAt : Settings → Option (List ℕ) → Option (List ℕ) → Pipe → List ℕ → Bool → Turn → Type 0

@@ -1,17 +1,9 @@
 -- An input, line by line.
-use Rattle.std.proofs.Common.{◌≡◌, ◌∙◌, ℕ, false, List, [], ◌∷◌, ◌++◌, Option, append_assoc, ap, sym, subst, refl}
+use Rattle.x25_pipe.proofs.Names.{◌≡◌, ◌∙◌, ℕ, false, List, [], ◌∷◌, ◌++◌, Option, append_assoc, ap, sym, subst, refl, append-nil, AppendsPrefix, Settings}
 use Rattle.std.specs.Io.KnownBytes.{Appends}
-use Rattle.std.proofs.lemmas.List.{append-nil}
-use Rattle.x25_io.specs.code.Written.{AppendsPrefix}
-use Rattle.x25_station.specs.Config.{Settings}
-use Rattle.x25_station.specs.Station.{Station}
-use Rattle.x25_pipe.specs.Pipe.{Turn, quiet, and_then, turn, turns, sayings_text, has_refusal}
-use Rattle.x25_pipe.specs.code.Stands.{Stands}
-use Rattle.x25_pipe.specs.code.Leaves.{Leaves}
-use Rattle.x25_pipe.specs.code.Stream.{WritesLines}
-use Rattle.x25_pipe.specs.declared.pipe.Pipe.{Pipe}
 use Rattle.x25_pipe.proofs.LeaveLemmas.{none_left, part_done, part_failed}
-use Rattle.x25_pipe.proofs.StandLemmas.{StandsAt, BeginsAt}
+use Rattle.x25_pipe.proofs.{Names.{Station, Turn, and_then, turn, turns, sayings_text, has_refusal, Stands, Pipe}, StandLemmas.{StandsAt, BeginsAt}}
+use Rattle.x25_pipe.specs.{Pipe.{quiet}, code.Leaves.{Leaves}, code.Stream.{WritesLines}}
 
 turns_more : (c : Settings) (line : List ℕ) (lines : List (List ℕ)) (w : Station) → turns c (line ∷ lines) w ≡ and_then (turns c lines) (turn c line w)
 unfolding turns

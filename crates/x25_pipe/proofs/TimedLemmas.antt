@@ -1,31 +1,16 @@
 -- How a station that has a clock stands after a turn, and a turn that is made in parts.
-use Rattle.std.proofs.Common.{◌≡◌, ◌∙◌, ◌<◌, ◌-◌, ℕ, zero, suc, Bool, false, List, [], ◌∷◌, ◌++◌, Option, Some, None, Result, MatchResult, append_assoc, ap}
-use Rattle.std.proofs.Common.{refl, sym, subst, arith}
-use Rattle.std.specs.Prelude.{◌||◌, map}
-use Rattle.std.specs.Io.KnownBytes.{Appends}
-use Rattle.std.proofs.lemmas.List.{append-nil}
-use Rattle.std.proofs.lemmas.Result.{MatchResult-weaker}
-use Rattle.std.proofs.Math.Bool.{or_assoc, or-false}
-use Rattle.x25_clock.specs.declared.due.Due.{Due}
-use Rattle.x25_clock.specs.declared.times.Times.{Times}
-use Rattle.x25_clock.specs.Clock.{Deadlines, Seen, after_due, due_of, heeded, nothing_awaited, plain}
-use Rattle.x25_io.specs.HeldLine.{HoldsLine}
-use Rattle.x25_io.specs.Lines.{lines_of}
-use Rattle.x25_io.specs.declared.fault.Fault.{Fault}
-use Rattle.x25_io.specs.declared.held_line.HeldLine.{HeldLine}
-use Rattle.x25_io.specs.code.LinesLead.{LinesLead}
-use Rattle.x25_io.specs.code.Written.{AppendsPrefix}
-use Rattle.x25_io.proofs.TakerLemmas.{between}
-use Rattle.x25_io.proofs.ToldLemmas.{prefix_more, told_prefix}
-use Rattle.x25_station.specs.Config.{Settings}
+use Rattle.x25_pipe.proofs.Names.{◌≡◌, ◌∙◌, ◌<◌, ℕ, zero, suc, Bool, false, List, [], ◌∷◌, ◌++◌, Option, Some, None, Result, append_assoc, ap, refl, sym, subst}
+use Rattle.x25_pipe.proofs.Names.{arith, ◌||◌, append-nil, or-false, Due, Times, Deadlines, Seen, after_due, due_of, heeded, lines_of, AppendsPrefix}
+use Rattle.x25_pipe.proofs.Names.{prefix_more, Settings, FitsStation, Timed, TimedTurn, answer_turn, due_first, due_turns, insist_turn, new_timed, time_said}
+use Rattle.std.{proofs.Common.{◌-◌, MatchResult}, proofs.Math.Bool.{or_assoc}, proofs.lemmas.Result.{MatchResult-weaker}, specs.Io.KnownBytes.{Appends}}
+use Rattle.x25_clock.specs.Clock.{nothing_awaited, plain}
+use Rattle.x25_io.proofs.{TakerLemmas.{between}, ToldLemmas.{told_prefix}}
+use Rattle.x25_io.specs.{HeldLine.{HoldsLine}, code.LinesLead.{LinesLead}}
+use Rattle.x25_io.specs.declared.{fault.Fault.{Fault}, held_line.HeldLine.{HeldLine}}
+use Rattle.x25_pipe.proofs.{Names.{timed_turn, timed_turns, told_due}, PipeLemmas.{stands_first}}
+use Rattle.x25_pipe.specs.{Timed.{and_then, mark_turn, timed, timed_text, writes}, code.TimedStands.{StandsTimed, StandsTimedAt, StoodTimed}}
+use Rattle.x25_pipe.specs.{code.TimedStream.{AnswersTimed, LeavesTimed, WritesTimed}, declared.timed.TimedPipe.{TimedPipe}}
 use Rattle.x25_station.specs.Station.{new_station}
-use Rattle.x25_station.specs.code.FitsStation.{FitsStation}
-use Rattle.x25_pipe.specs.Timed.{Timed, TimedTurn, and_then, answer_turn, due_first, due_turns, insist_turn, mark_turn, new_timed, time_said, timed, timed_text}
-use Rattle.x25_pipe.specs.Timed.{timed_turn, timed_turns, told_due, writes}
-use Rattle.x25_pipe.specs.code.TimedStands.{StandsTimed, StandsTimedAt, StoodTimed}
-use Rattle.x25_pipe.specs.code.TimedStream.{AnswersTimed, LeavesTimed, WritesTimed}
-use Rattle.x25_pipe.specs.declared.timed.TimedPipe.{TimedPipe}
-use Rattle.x25_pipe.proofs.PipeLemmas.{stands_first}
 
 -- the clock heeds the same
 pub heeded_alike : (times times' : Times) (now now' : ℕ) (x x' : Seen) (d d' : Deadlines) → times ≡ times' → now ≡ now' → x ≡ x' → d ≡ d'

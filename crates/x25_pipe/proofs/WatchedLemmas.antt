@@ -1,35 +1,21 @@
 -- What a pipe does with its clock, line by line, as moments of one who has a clock.
-use Rattle.std.proofs.Common.{◌≡◌, ◌≤◌, ◌+◌, ◌-◌, ◌==◌, ℕ, zero, suc, length, List, [], ◌∷◌, ◌++◌, Bool, true, false, if◌then◌else◌, nat_lt, Option, Some, None}
-use Rattle.std.proofs.Common.{refl, sym, ap, subst, ◌∙◌, arith}
-use Rattle.std.proofs.lemmas.Bool.{ltb-false}
+use Rattle.x25_pipe.proofs.Names.{◌≡◌, ◌≤◌, ◌+◌, ◌==◌, ℕ, zero, suc, length, List, [], ◌∷◌, ◌++◌, Bool, true, false, if◌then◌else◌, nat_lt, Option, Some, None}
+use Rattle.x25_pipe.proofs.Names.{refl, sym, ap, subst, ◌∙◌, arith, PullsAll, Settings, layer_settings, StationEntry, Station, Outcome, Did, Refused}
+use Rattle.x25_pipe.proofs.Names.{StationEvent, Due, Times, due_of, after_due, command_for, act_of, asked_act, event_act, event_for, event_in, nothing_act}
+use Rattle.x25_pipe.proofs.Names.{pulled_behind, Timed, TimedTurn, answer_turn, due_first, due_turns, insist_turn, new_timed, time_said, timed_turn}
+use Rattle.std.proofs.{Common.{◌-◌}, lemmas.Bool.{ltb-false}}
 use Rattle.x25_circuit.specs.Calling.{SaysReady}
-use Rattle.x25_layer.specs.Layer.{Layer}
-use Rattle.x25_layer.specs.Calls.{Asks as asks_on, PullsAll, outcome_in}
-use Rattle.x25_layer.specs.laws.Rounds.{Refuses, went}
+use Rattle.x25_clock.specs.{Clock.{most_due}, laws.ClockLaw.{Moment, Happens, IsDue, Watched, heeds as heeds_event, watched_by, watched_from}}
+use Rattle.x25_layer.specs.{Calls.{Asks as asks_on, outcome_in}, laws.Rounds.{Refuses, went}}
+use Rattle.x25_link.specs.{Link.{alone}, Outgoing.{waits}, Station.{is_up}}
+use Rattle.x25_pipe.{proofs.Names.{timed_turns, told_due}, specs.Timed.{act_turn}, specs.laws.ClockedLaw.{watched_in, with_pull, EventIsDone, PipeIsWatched}}
+use Rattle.x25_station.specs.{Command.{Requests}, Config.{link_settings}, Station.{view_of}, Step.{commands, did, entries_of_outcome}}
+use Rattle.x25_station.specs.{declared.error.StationError.{StationError}, laws.SettledLaw.{IsSettled, SettledBy, NewIsSettled, StaysSettled}}
+use Rattle.x25_station.specs.laws.TimerLaw.{Asks}
 use Rattle.x25_layer.specs.declared.error.LayerError.TheVariants as layer_error
-use Rattle.x25_link.specs.Link.{alone}
-use Rattle.x25_link.specs.Outgoing.{waits}
-use Rattle.x25_link.specs.Station.{is_up}
-use Rattle.x25_station.specs.declared.error.StationError.{StationError}
 use Rattle.x25_station.specs.declared.error.StationError.TheVariants as station_error
-use Rattle.x25_station.specs.Command.{Requests}
-use Rattle.x25_station.specs.Config.{Settings, link_settings, layer_settings}
-use Rattle.x25_station.specs.Entry.{StationEntry}
-use Rattle.x25_station.specs.Station.{Station, view_of}
-use Rattle.x25_station.specs.Step.{Step, Outcome, Did, Refused, commands, did, entries_of_outcome}
-use Rattle.x25_station.specs.laws.SettledLaw.{IsSettled, SettledBy, NewIsSettled, StaysSettled}
 use Rattle.x25_station.specs.laws.TimerLaw as timer
-use Rattle.x25_station.specs.laws.TimerLaw.{StationEvent, Asks}
-use Rattle.x25_clock.specs.declared.due.Due.{Due}
-use Rattle.x25_clock.specs.declared.times.Times.{Times}
-use Rattle.x25_clock.specs.Clock.{Deadlines, due_of, after_due, most_due}
-use Rattle.x25_clock.specs.Due.{command_for}
-use Rattle.x25_clock.specs.laws.ClockLaw.{Moment, Happens, IsDue, Watched, seen_of, heeds as heeds_event, watched_by, watched_from}
 use Rattle.x25_clock.specs.laws.WaitLaw as wait
-use Rattle.x25_pipe.specs.Pipe.{Act, act_of, asked_act, event_act, event_for, event_in, nothing_act, pulled_behind, with_pulls}
-use Rattle.x25_pipe.specs.Timed.{Timed, TimedTurn, act_turn, answer_turn, due_first, due_turns, insist_turn, new_timed, seen_at, time_said, timed_turn}
-use Rattle.x25_pipe.specs.Timed.{timed_turns, told_due}
-use Rattle.x25_pipe.specs.laws.ClockedLaw.{watched_in, with_pull, EventIsDone, PipeIsWatched}
 
 -- some moments lead from one to the other
 record Leads (c : Settings) (times : Times) (w v : Watched) : Type 0 where

@@ -1,23 +1,11 @@
 -- One state, with nothing on the way.
-use Rattle.std.proofs.Common.{Bool, true, false, ◌≡◌, ◌==◌, if◌then◌else◌, IfSome, refl, sym, ap, ap₂, subst, ◌∙◌}
-use Rattle.std.proofs.Common.{List, [], ◌∷◌, Option, Some, None, get_or, length, set}
-use Rattle.std.specs.List.{refill}
-use Rattle.std.proofs.lemmas.Bool.{eqb-true}
-use Rattle.std.proofs.lemmas.Option.{none-some, same_Some}
-use Rattle.x25_possible.specs.Channel.{at_once, is_polite, sends, takes}
-use Rattle.x25_possible.specs.code.Steps.{IsAlone, IsStep, IsTaken, all_of, alone, alone_in, alone_sends, alone_takes, and_then, flow_in, flow_sends}
-use Rattle.x25_possible.specs.code.Steps.{flow_takes}
-use Rattle.x25_possible.specs.code.Steps.{goes, goes_by, grows, is_known, is_large, is_numbered, may_send, one_of, quietly, rude_from, sends_to, sent_to}
-use Rattle.x25_possible.specs.code.Steps.{settles}
-use Rattle.x25_possible.specs.code.Steps.{settles_by, shown_to, shows_to, small, small_in, spot_at, standing, Stepped, told_by, trimmed, trims}
-use Rattle.x25_possible.specs.declared.packet.Packet.{Packet}
-use Rattle.x25_possible.specs.declared.phase.Phase.{Phase}
-use Rattle.x25_possible.specs.declared.phase.Phase.TheVariants.{Idle, Talks}
-use Rattle.x25_possible.specs.declared.phase.Talk.{Talk}
-use Rattle.x25_possible.specs.declared.set.Knowledge.TheVariants.{Known}
-use Rattle.x25_possible.specs.declared.set.Set.{Set}
-use Rattle.x25_possible.specs.declared.spots.Spot.{Spot}
-use Rattle.x25_possible.proofs.SetLemmas.{is_so}
+use Rattle.x25_possible.proofs.Names.{Bool, true, false, ◌≡◌, ◌==◌, if◌then◌else◌, refl, sym, ap, ap₂, subst, ◌∙◌, List, [], ◌∷◌, Option, Some, None, length}
+use Rattle.x25_possible.proofs.Names.{eqb-true, none-some, same_Some, at_once, is_polite, sends, takes, all_of, and_then, goes, goes_by, grows, is_known}
+use Rattle.x25_possible.proofs.Names.{is_large, may_send, quietly, rude_from, sends_to, sent_to, settles, settles_by, shown_to, shows_to, spot_at, standing}
+use Rattle.std.{proofs.Common.{IfSome, get_or, set}, specs.List.{refill}}
+use Rattle.x25_possible.proofs.{Names.{told_by, trimmed, trims, Packet, Phase, Idle, Talks, Talk, Known, Set, Spot}, SetLemmas.{is_so}}
+use Rattle.x25_possible.specs.code.Steps.{IsAlone, IsStep, IsTaken, alone, alone_in, alone_sends, alone_takes, flow_in, flow_sends, flow_takes, is_numbered}
+use Rattle.x25_possible.specs.code.Steps.{one_of, small, small_in, Stepped}
 
 small_is : (s p : Phase) → small s ≡ Some p → (s ≡ p) × (is_large p ≡ false)
 small_is s p e = go (is_large s) refl e

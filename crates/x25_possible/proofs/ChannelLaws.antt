@@ -1,26 +1,16 @@
 -- The choices of a channel are favourites of its rules.
-use Rattle.std.proofs.Common.{◌≡◌, inl, inr, List, [], ◌∷◌, refl, sym, ap, ap₂, subst, ◌∙◌, Option, Some, None, Bool, true, false}
-use Rattle.std.proofs.Common.{ℕ, ◌+◌, ◌-◌, ◌%◌, ◌≤◌, arith, nat_le, nat_lt, ◌==◌, ◌&&◌, not, if◌then◌else◌, le_refl, le_trans, lt_of_lt_of_le}
-use Rattle.std.proofs.Common.{cond}
-use Rattle.std.proofs.lemmas.Bool.{both_ways, not-true, and_parts, and_from, eqb-true, leb-true, ltb-true, eq-eqb, le-leb, lt-ltb}
-use Rattle.std.proofs.lemmas.Option.{none-some, same_Some, cond_some}
-use Rattle.x25_possible.specs.laws.Possible.{IsIn, AreFavourites}
-use Rattle.x25_bits.specs.declared.role.Role.{Role}
-use Rattle.x25_possible.specs.Channel.{nth, may_ack, may_number, may_follow, may_talk, fits, limits_of, talked, heard, hears, sends_as, takes, sends}
-use Rattle.x25_possible.specs.Channel.{idle_sends, resets_sends, clears_sends, idle_takes, calls_takes}
-use Rattle.x25_possible.specs.Channel.{ending_sends, silent_sends, talk_sends, talking_as, talk_takes, resets_takes, clears_takes, restarts_takes}
-use Rattle.x25_possible.specs.Channel.{is_one_message, dropped, dropped_in_call, talk_at_once, clears_at_once, restarts_at_once, told_of, pr_of, at_once, one}
-use Rattle.x25_possible.specs.Channel.{channel_rules, channel_choices, lowered}
-use Rattle.x25_possible.specs.declared.packet.Packet.{Packet}
-use Rattle.x25_possible.specs.declared.packet.Packet.TheVariants.{Call, Accept, Clear, ClearConf, Reset}
-use Rattle.x25_possible.specs.declared.packet.Packet.TheVariants.{Restart, RestartConf, Data, Rr, Rnr, Interrupt, InterruptConf}
-use Rattle.x25_possible.specs.declared.packet.Packet.TheVariants.{Elsewhere}
-use Rattle.x25_possible.specs.declared.phase.Phase.{Phase}
-use Rattle.x25_possible.specs.declared.phase.Limits.{Limits}
-use Rattle.x25_possible.specs.declared.packet.Terms.{Terms}
-use Rattle.x25_possible.specs.declared.phase.Phase.TheVariants.{Idle, Calls, Talks, Resets, WasReset, Clears}
-use Rattle.x25_possible.specs.declared.phase.Phase.TheVariants.{WasCleared, Restarts, WasRestarted}
-use Rattle.x25_possible.specs.declared.phase.Talk.{Talk}
+use Rattle.x25_possible.proofs.Names.{◌≡◌, inl, inr, List, [], ◌∷◌, refl, sym, ap, ap₂, subst, ◌∙◌, Option, Some, None, Bool, true, false, ℕ, ◌+◌, ◌-◌, ◌≤◌}
+use Rattle.x25_possible.proofs.Names.{arith, nat_le, ◌==◌, ◌&&◌, not, if◌then◌else◌, both_ways, and_parts, eqb-true, leb-true, none-some, same_Some, IsIn, Role}
+use Rattle.x25_possible.proofs.Names.{takes, sends, at_once, one, channel_rules, channel_choices, Packet, Data, Phase, Idle, Calls, Talks, Resets, Clears}
+use Rattle.std.proofs.{Common.{◌%◌, nat_lt, le_refl, le_trans, lt_of_lt_of_le, cond}, lemmas.Bool.{not-true, and_from, ltb-true, eq-eqb, le-leb, lt-ltb}}
+use Rattle.std.proofs.lemmas.Option.{cond_some}
+use Rattle.x25_possible.{proofs.Names.{Restarts, Talk}, specs.Channel.{restarts_at_once, told_of, pr_of, lowered}}
+use Rattle.x25_possible.specs.Channel.{nth, may_ack, may_number, may_follow, may_talk, fits, limits_of, talked, heard, hears, sends_as, idle_sends}
+use Rattle.x25_possible.specs.Channel.{resets_sends, clears_sends, idle_takes, calls_takes, ending_sends, silent_sends, talk_sends, talking_as, talk_takes}
+use Rattle.x25_possible.specs.Channel.{resets_takes, clears_takes, restarts_takes, is_one_message, dropped, dropped_in_call, talk_at_once, clears_at_once}
+use Rattle.x25_possible.specs.declared.packet.Packet.TheVariants.{Call, Accept, Clear, ClearConf, Reset, Restart, RestartConf, Rr, Rnr, Interrupt}
+use Rattle.x25_possible.specs.declared.{packet.Packet.TheVariants.{InterruptConf, Elsewhere}, packet.Terms.{Terms}, phase.Limits.{Limits}}
+use Rattle.x25_possible.specs.{declared.phase.Phase.TheVariants.{WasReset, WasCleared, WasRestarted}, laws.Possible.{AreFavourites}}
 
 -- ---- numbers
 
@@ -187,18 +177,10 @@ sends_good s u x r g h = subst (λ w. IsGoodSend r (sends w x)) (sym g.2) (same_
 
 heard_lowered : (low : ℕ) (k : Talk) (x : Packet) → heard (record k { told = low }) x ≡ record (heard k x) { told = low }
 heard_lowered low k (Data q m ps pr size) = refl
-heard_lowered low k (Rr pr) = refl
-heard_lowered low k (Rnr pr) = refl
-heard_lowered low k Interrupt = refl
-heard_lowered low k InterruptConf = refl
 heard_lowered low k x = refl
 
 heard_told : (k : Talk) (x : Packet) → (heard k x).told ≡ k.told
 heard_told k (Data q m ps pr size) = refl
-heard_told k (Rr pr) = refl
-heard_told k (Rnr pr) = refl
-heard_told k Interrupt = refl
-heard_told k InterruptConf = refl
 heard_told k x = refl
 
 -- in a stretch, or out of it
@@ -480,11 +462,7 @@ heard_at_once k (Accept said) u e = sym (same_Some (Talks (heard k (Accept said)
 heard_at_once k x u e = absurd (none-some u e)
 
 out_still : (t : ℕ) (k : Talk) (y : Packet) → k.is_out ≡ true → may_talk t k y ≡ true → (talked t k y).is_out ≡ true
-out_still t k (Data q m ps pr size) out may = out
-out_still t k (Rr pr) out may = out
-out_still t k (Rnr pr) out may = out
 out_still t k Interrupt out may = refl
-out_still t k InterruptConf out may = out
 out_still t k y out may = out
 
 talk_again : (t : ℕ) (k : Talk) (x y : Packet) (u : Phase) → talk_at_once k x ≡ Some u → may_talk t k y ≡ true
@@ -505,18 +483,10 @@ talk_again t k x y u e may = absurd (none-some u e)
 swap_numbers : (t : ℕ) (k : Talk) (a n : ℕ) (y : Packet)
     → talked t (record k { acked = a; taken = n }) y ≡ record (talked t k y) { acked = a; taken = n }
 swap_numbers t k a n (Data q m ps pr size) = refl
-swap_numbers t k a n (Rr pr) = refl
-swap_numbers t k a n (Rnr pr) = refl
-swap_numbers t k a n Interrupt = refl
-swap_numbers t k a n InterruptConf = refl
 swap_numbers t k a n y = refl
 
 talked_acked : (t : ℕ) (k : Talk) (y : Packet) → ((talked t k y).acked ≡ k.acked) × ((talked t k y).taken ≡ k.taken)
 talked_acked t k (Data q m ps pr size) = (refl, refl)
-talked_acked t k (Rr pr) = (refl, refl)
-talked_acked t k (Rnr pr) = (refl, refl)
-talked_acked t k Interrupt = (refl, refl)
-talked_acked t k InterruptConf = (refl, refl)
 talked_acked t k y = (refl, refl)
 
 taken_by : ℕ → ℕ → ℕ
@@ -539,10 +509,6 @@ swap_hears t k pr y =
     ∙ ap (λ n. record (talked t k y) { acked = nth (talked t k y).acked pr; taken = n }) (sym same.1)
 
 swap_interrupt : (t : ℕ) (k : Talk) (y : Packet) → may_talk t k y ≡ true → talked t (heard k Interrupt) y ≡ heard (talked t k y) Interrupt
-swap_interrupt t k (Data q m ps pr size) may = refl
-swap_interrupt t k (Rr pr) may = refl
-swap_interrupt t k (Rnr pr) may = refl
-swap_interrupt t k Interrupt may = refl
 swap_interrupt t k InterruptConf may =
     let owed = ltb-true 0 k.owed may in
     let same : k.owed + 1 - 1 ≡ k.owed - 1 + 1 = omega arith in
@@ -551,11 +517,7 @@ swap_interrupt t k y may = refl
 
 swap_conf : (t : ℕ) (k : Talk) (y : Packet) → k.is_out ≡ true → may_talk t k y ≡ true
     → talked t (heard k InterruptConf) y ≡ heard (talked t k y) InterruptConf
-swap_conf t k (Data q m ps pr size) out may = refl
-swap_conf t k (Rr pr) out may = refl
-swap_conf t k (Rnr pr) out may = refl
 swap_conf t k Interrupt out may = absurd (both_ways k.is_out (not-true k.is_out may) out)
-swap_conf t k InterruptConf out may = refl
 swap_conf t k y out may = refl
 
 swaps : (t : ℕ) (k : Talk) (x y : Packet) (u : Phase) → talk_at_once k x ≡ Some u → may_talk t k y ≡ true

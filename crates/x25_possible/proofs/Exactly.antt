@@ -1,9 +1,7 @@
 -- The judge of any rules tells exactly.
-use Rattle.std.proofs.Common.{◌≡◌, inl, inr, List, [], ◌∷◌, ◌++◌, flat_map, refl, sym, subst, ◌∙◌, Option, Some, None}
-use Rattle.x25_possible.specs.laws.Possible.{Rules, Item, Own, Other, Stands, Begins, Sends, Shows, Takes, Place, at, Choices}
-use Rattle.x25_possible.specs.laws.Possible.{settled, settled_by, grown, after_own, after_other, possible, IsIn, AreFavourites}
-use Rattle.x25_possible.specs.laws.Possible.{TellsExactly, rules_of, patient}
-use Rattle.x25_possible.proofs.Lists.{in_all, from_all, none_in}
+use Rattle.x25_possible.proofs.Names.{◌≡◌, inl, inr, List, [], ◌∷◌, ◌++◌, flat_map, refl, sym, subst, ◌∙◌, Option, Some, None, Item, Own, Other, Stands, Place}
+use Rattle.x25_possible.proofs.{Lists.{in_all, from_all, none_in}, Names.{at, settled, grown, after_own, after_other, possible, IsIn}}
+use Rattle.x25_possible.specs.laws.Possible.{Rules, Begins, Sends, Shows, Takes, Choices, settled_by, AreFavourites, TellsExactly, rules_of, patient}
 
 -- From a state, with such a way, it comes to this place by what it takes at once.
 pub data Leads {S I : Type 0} (c : Choices S I) : S → List I → Place S I → Type 0 where

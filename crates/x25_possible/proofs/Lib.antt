@@ -1,3 +1,4 @@
+mod Names
 mod Lists
 mod Exactly
 mod ChannelLaws

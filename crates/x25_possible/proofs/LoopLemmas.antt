@@ -1,17 +1,9 @@
 -- Loops over a list of states, one by one.
-use Rattle.std.proofs.Common.{Bool, true, false, ◌≡◌, ℕ, suc, ◌+◌, ◌<◌, ◌≤◌, ◌&&◌, nat_le, if◌then◌else◌}
-use Rattle.std.proofs.Common.{List, [], ◌∷◌, drop, length, get_or, sym, ap, ◌∙◌, Option, Some, None, arith, refl, not}
-use Rattle.std.proofs.Common.{drop_of_length-le}
-use Rattle.std.proofs.Math.Seq.{drop-cons}
-use Rattle.std.proofs.lemmas.Bool.{false_from_ne_true, false≢true, leb-true, le-leb}
-use Rattle.x25_bits.specs.declared.role.Role.{Role}
-use Rattle.x25_possible.specs.Channel.{at_once, found, is_polite, takes}
-use Rattle.x25_possible.specs.code.Steps.{kept, is_large, spot_at, settles_by, settles}
-use Rattle.x25_possible.specs.code.Steps.{all_of, and_then, found_from, made, are_at_end, settles_found}
-use Rattle.x25_possible.specs.code.Steps.{are_polite, may_send, rude_from}
-use Rattle.x25_possible.specs.declared.packet.Packet.{Packet}
-use Rattle.x25_possible.specs.declared.phase.Phase.{Phase}
-use Rattle.x25_possible.specs.declared.spots.Spot.{Spot}
+use Rattle.x25_possible.proofs.Names.{Bool, true, false, ◌≡◌, ℕ, suc, ◌+◌, ◌<◌, ◌≤◌, ◌&&◌, nat_le, if◌then◌else◌, List, [], ◌∷◌, drop, length, sym, ap, ◌∙◌}
+use Rattle.x25_possible.proofs.Names.{Option, Some, None, arith, refl, not, drop_of_length-le, leb-true, Role, at_once, is_polite, takes, kept, is_large}
+use Rattle.x25_possible.proofs.Names.{spot_at, settles_by, settles, all_of, and_then, are_at_end, may_send, rude_from, Packet, Phase, Spot}
+use Rattle.std.proofs.{Common.{get_or}, Math.Seq.{drop-cons}, lemmas.Bool.{false_from_ne_true, false≢true, le-leb}}
+use Rattle.x25_possible.specs.{Channel.{found}, code.Steps.{found_from, made, settles_found, are_polite}}
 
 -- the one that is looked at, and the rest
 pub here : {X : Type 0} (xs : List X) (i : ℕ) (d : X) → i < length xs → drop i xs ≡ get_or xs i d ∷ drop (i + 1) xs

@@ -1,25 +1,11 @@
 -- No manners are told of an end that keeps them.
-use Rattle.std.proofs.Common.{Bool, true, false, ◌≡◌, ℕ, ◌+◌, ◌==◌, ◌||◌, nat_le, nat_lt, not, if◌then◌else◌, refl, sym, ap, subst, ◌∙◌}
-use Rattle.std.proofs.Common.{List, Some, is_some, arith}
-use Rattle.std.proofs.Math.Bool.{or-true}
-use Rattle.std.proofs.lemmas.Bool.{and_parts, and_from, both_ways, ltb-true, lt-ltb}
-use Rattle.std.proofs.lemmas.Option.{none-some}
-use Rattle.x25_bits.specs.declared.role.Role.{Role}
-use Rattle.x25_possible.specs.Channel.{at_once, channel_choices, channel_rules, heard, is_polite, lowered, sends, sends_as, talks_politely}
-use Rattle.x25_possible.specs.code.Steps.{may_send, sends_to}
-use Rattle.x25_possible.specs.laws.Possible.{Item, Place, Stands}
-use Rattle.x25_possible.specs.laws.Sets.{AreCounted, Fits, IsRude, placed}
-use Rattle.x25_possible.specs.declared.packet.Packet.{Packet}
-use Rattle.x25_possible.specs.declared.packet.Packet.TheVariants.{Data}
-use Rattle.x25_possible.specs.declared.phase.Phase.{Phase}
-use Rattle.x25_possible.specs.declared.phase.Phase.TheVariants.{Idle, Calls, Talks, Resets, Clears, Restarts}
-use Rattle.x25_possible.specs.declared.phase.Talk.{Talk}
-use Rattle.x25_possible.specs.declared.set.Set.{Set}
-use Rattle.x25_possible.proofs.ChannelLaws.{IsAsGood, IsHigher, channel_favourites, clears_same, dropped_in_call_is, dropped_is}
-use Rattle.x25_possible.proofs.ChannelLaws.{from_one, heard_at_once, heard_higher, restarts_same}
-use Rattle.x25_possible.proofs.Exactly.{Leads, Stays, Steps, covered, leads_sends}
-use Rattle.x25_possible.proofs.SetLemmas.{sends_exactly}
-use Rattle.x25_possible.proofs.StepLemmas.{from_map}
+use Rattle.x25_possible.proofs.Names.{Bool, true, false, ◌≡◌, ℕ, ◌+◌, ◌==◌, ◌||◌, nat_le, not, if◌then◌else◌, refl, sym, ap, subst, ◌∙◌, List, Some, arith}
+use Rattle.x25_possible.proofs.Names.{and_parts, both_ways, none-some, Role, at_once, channel_choices, channel_rules, is_polite, sends, may_send, sends_to}
+use Rattle.x25_possible.proofs.Names.{Item, Place, Stands, AreCounted, Fits, IsRude, placed, Packet, Data, Phase, Idle, Calls, Talks, Resets, Clears, Restarts}
+use Rattle.std.proofs.{Common.{nat_lt, is_some}, Math.Bool.{or-true}, lemmas.Bool.{and_from, ltb-true, lt-ltb}}
+use Rattle.x25_possible.proofs.ChannelLaws.{IsAsGood, IsHigher, channel_favourites, clears_same, dropped_in_call_is, dropped_is, from_one, heard_at_once}
+use Rattle.x25_possible.proofs.{ChannelLaws.{heard_higher, restarts_same}, Exactly.{Leads, Stays, Steps, covered, leads_sends}, Names.{Talk, Set}}
+use Rattle.x25_possible.{proofs.SetLemmas.{sends_exactly}, proofs.StepLemmas.{from_map}, specs.Channel.{heard, lowered, sends_as, talks_politely}}
 
 -- ---- where one is polite, one that is as good, and one that has taken more, is too
 

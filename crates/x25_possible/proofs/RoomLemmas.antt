@@ -1,34 +1,19 @@
 -- Where there is room a set stays known, and tells whatever room there is.
-use Rattle.std.proofs.Common.{Bool, true, false, ◌≡◌, ◌⊎◌, inl, inr, ℕ, suc, ◌+◌, ◌-◌, ◌<◌, ◌≤◌, ◌==◌, ◌||◌, nat_le, ◌&&◌, not, if◌then◌else◌, refl, sym, ap}
-use Rattle.std.proofs.Common.{subst, ◌∙◌}
-use Rattle.std.proofs.Common.{List, [], ◌∷◌, ◌++◌, map, drop, length, flat_map, Option, Some, None, arith, append-nil, length-drop, drop_of_length-le}
-use Rattle.std.proofs.lemmas.Bool.{both_ways, eqb-true, leb-true, leb-false}
-use Rattle.std.proofs.lemmas.List.{drop_at, length-append}
-use Rattle.std.proofs.lemmas.Option.{none-some, same_Some}
-use Rattle.x25_bits.specs.declared.role.Role.{Role}
-use Rattle.x25_possible.specs.Channel.{at_once, channel_choices, channel_rules, dropped, found, one, sends, takes}
-use Rattle.x25_possible.specs.laws.Possible.{Item, Own, IsIn, IsUnexplained, Place, after_other, after_own, grown, possible, settled}
-use Rattle.x25_possible.specs.laws.Sets.{AreCounted, Fits, HasRoomToSend, HasRoomToShow, IsBroken, IsCounted, IsUntold, OfSome, StaysKnown, placed}
-use Rattle.x25_possible.specs.code.Steps.{all_of, and_then, anew, anew_at, are_answered, are_at_end, awaits, breaks, broken_to, hidden_by, caught_up, located}
-use Rattle.x25_possible.specs.code.Steps.{lost, may_find, is_awaiting}
-use Rattle.x25_possible.specs.code.Steps.{explained, finds, found_from, found_in, found_to, is_lost, is_some, settles_found, go_all, goes, goes_by, grow_all}
-use Rattle.x25_possible.specs.code.Steps.{grows, is_blind, is_known, is_large, is_there, kept, known_by}
-use Rattle.x25_possible.specs.code.Steps.{latest_from, makes_known, next_of, quietly, rude_from, sends_to, sent, sent_to, settles, settles_by, shown, shown_to}
-use Rattle.x25_possible.specs.code.Steps.{shows_to, spot_at, standing, told_by, trimmed, trimmed_to, trims, unexplained, without_room}
-use Rattle.x25_possible.specs.declared.packet.Packet.{Packet}
-use Rattle.x25_possible.specs.declared.packet.Packet.TheVariants.{Data}
-use Rattle.x25_possible.specs.declared.phase.Phase.{Phase}
-use Rattle.x25_possible.specs.declared.phase.Phase.TheVariants.{Idle}
-use Rattle.x25_possible.specs.declared.set.Knowledge.{Knowledge}
-use Rattle.x25_possible.specs.declared.set.Knowledge.TheVariants.{Blind, Lost, Ready, Doubt, Likely, Known}
-use Rattle.x25_possible.specs.declared.set.Set.{Set}
-use Rattle.x25_possible.specs.declared.set.Told.TheVariants.{Broken}
-use Rattle.x25_possible.specs.declared.spots.Spot.{Spot}
-use Rattle.x25_possible.proofs.ChannelLaws.{IsAsGood, channel_favourites, in_one}
-use Rattle.x25_possible.proofs.Exactly.{leads_in, tells_exactly}
-use Rattle.x25_possible.proofs.Lists.{from_all, in_all}
+use Rattle.x25_possible.proofs.Names.{Bool, true, false, ◌≡◌, ◌⊎◌, inl, inr, ℕ, suc, ◌+◌, ◌-◌, ◌<◌, ◌≤◌, ◌==◌, ◌||◌, nat_le, ◌&&◌, not, if◌then◌else◌, refl}
+use Rattle.x25_possible.proofs.Names.{sym, ap, subst, ◌∙◌, List, [], ◌∷◌, ◌++◌, map, drop, length, flat_map, Option, Some, None, arith, drop_of_length-le}
+use Rattle.x25_possible.proofs.Names.{both_ways, eqb-true, leb-true, none-some, same_Some, Role, at_once, channel_choices, channel_rules, one, sends, takes}
+use Rattle.x25_possible.proofs.Names.{Item, Own, IsIn, IsUnexplained, Place, after_other, after_own, grown, possible, settled, AreCounted, Fits, IsBroken}
+use Rattle.x25_possible.proofs.Names.{IsUntold, placed, all_of, and_then, anew, are_at_end, go_all, goes, goes_by, grow_all, grows, is_blind, is_known}
+use Rattle.x25_possible.proofs.Names.{is_large, kept, quietly, rude_from, sends_to, sent_to, settles, settles_by, shown_to, shows_to, spot_at, standing}
+use Rattle.x25_possible.proofs.Names.{told_by, trimmed, trims, Packet, Data, Phase, Idle, Blind, Known, Set, Broken, Spot}
+use Rattle.std.proofs.{Common.{append-nil, length-drop}, lemmas.Bool.{leb-false}, lemmas.List.{drop_at, length-append}}
+use Rattle.x25_possible.proofs.{ChannelLaws.{IsAsGood, channel_favourites, in_one}, Exactly.{leads_in, tells_exactly}, Lists.{from_all, in_all}}
 use Rattle.x25_possible.proofs.SetLemmas.{blind_known, is_so, known, trimmed_known}
-use Rattle.x25_possible.proofs.StepLemmas.{all_mapped, grown_inside, in_map, keeps, settled_apart, settled_once}
+use Rattle.x25_possible.{proofs.StepLemmas.{all_mapped, grown_inside, in_map, keeps, settled_apart, settled_once}, specs.Channel.{dropped, found}}
+use Rattle.x25_possible.specs.code.Steps.{anew_at, are_answered, awaits, breaks, broken_to, hidden_by, caught_up, located, lost, may_find, is_awaiting}
+use Rattle.x25_possible.specs.code.Steps.{explained, finds, found_from, found_in, found_to, is_lost, is_some, settles_found, is_there, known_by, latest_from}
+use Rattle.x25_possible.specs.{code.Steps.{makes_known, next_of, sent, shown, trimmed_to, unexplained, without_room}, declared.set.Knowledge.{Knowledge}}
+use Rattle.x25_possible.specs.{declared.set.Knowledge.TheVariants.{Lost, Likely}, laws.Sets.{HasRoomToSend, HasRoomToShow, IsCounted, OfSome, StaysKnown}}
 
 -- ---- its states are counted
 
@@ -134,11 +119,7 @@ counted_trimmed s all = go (is_awaiting s && are_at_end (length s.way.items) s.s
 
 counted_hidden : (k was : Knowledge) (s : Set) → AreCounted s.spots.items → AreCounted (hidden_by was k s).spots.items
 counted_hidden k Blind s all = all
-counted_hidden k Lost s all = none_counted
-counted_hidden k Ready s all = none_counted
-counted_hidden k Doubt s all = none_counted
-counted_hidden k Likely s all = none_counted
-counted_hidden k Known s all = none_counted
+counted_hidden k was s all = none_counted
 
 counted_lost : (s : Set) → AreCounted s.spots.items → AreCounted (lost s).spots.items
 counted_lost s all = counted_hidden Lost s.knowledge s all

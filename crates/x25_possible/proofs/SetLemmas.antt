@@ -1,30 +1,15 @@
 -- A set of states, packet by packet, and what is told of its end.
-use Rattle.std.proofs.Common.{Bool, true, false, ◌≡◌, ◌⊎◌, inl, inr, ℕ, suc, ◌==◌, ◌&&◌, ◌||◌, if◌then◌else◌, refl, sym, ap, subst, ◌∙◌}
-use Rattle.std.proofs.Common.{List, [], ◌∷◌, ◌++◌, map, length, flat_map, Option, Some, None, arith}
-use Rattle.std.proofs.lemmas.Bool.{both_ways, eqb-true}
-use Rattle.std.proofs.lemmas.Option.{none-some}
-use Rattle.x25_bits.specs.declared.role.Role.{Role}
-use Rattle.x25_possible.specs.Channel.{channel_choices, channel_rules, is_polite}
-use Rattle.x25_possible.specs.laws.Possible.{Place, Item, Own, Other, IsIn, IsUnexplained, possible, after_own, after_other, TellsExactly}
-use Rattle.x25_possible.specs.laws.Sets.{placed, AreSame, Fits, IsBroken, IsRude, IsUntold, SendsExactly, ShowsExactly}
-use Rattle.x25_possible.specs.code.Steps.{anew, are_answered, are_at_end, awaits, breaks, explained, finds, go_all}
-use Rattle.x25_possible.specs.code.Steps.{grow_all, is_blind, is_known, known_by, blind_by, latest_from, lost, makes_known, may_send, quietly, rude_from}
-use Rattle.x25_possible.specs.code.Steps.{sends_to, sent, sent_to, hidden_by, is_awaiting, shown, shown_to, shows_to, standing, Stepped, told_by, trimmed}
-use Rattle.x25_possible.specs.code.Steps.{trimmed_to}
-use Rattle.x25_possible.specs.code.Steps.{trims, unexplained, without_room}
-use Rattle.x25_possible.specs.declared.packet.Packet.{Packet}
-use Rattle.x25_possible.specs.declared.phase.Phase.{Phase}
-use Rattle.x25_possible.specs.declared.phase.Phase.TheVariants.{Idle}
-use Rattle.x25_possible.specs.declared.set.Knowledge.{Knowledge}
-use Rattle.x25_possible.specs.declared.set.Knowledge.TheVariants.{Blind, Lost, Ready, Doubt, Likely, Known}
-use Rattle.x25_possible.specs.declared.set.Set.{Set}
-use Rattle.x25_possible.specs.declared.set.Told.{Told}
-use Rattle.x25_possible.specs.declared.set.Told.TheVariants.{Nothing, Broken}
-use Rattle.x25_possible.specs.declared.spots.Spot.{Spot}
-use Rattle.x25_possible.proofs.ChannelLaws.{IsAsGood, channel_favourites}
-use Rattle.x25_possible.proofs.Exactly.{tells_exactly}
-use Rattle.x25_possible.proofs.Lists.{in_all, from_all, none_in}
+use Rattle.x25_possible.proofs.Names.{Bool, true, false, ◌≡◌, ◌⊎◌, inl, inr, ℕ, suc, ◌==◌, ◌&&◌, ◌||◌, if◌then◌else◌, refl, sym, ap, subst, ◌∙◌, List, [], ◌∷◌}
+use Rattle.x25_possible.proofs.Names.{◌++◌, map, length, flat_map, Option, Some, None, arith, both_ways, eqb-true, none-some, Role, channel_choices}
+use Rattle.x25_possible.proofs.Names.{channel_rules, is_polite, Place, Item, Own, Other, IsIn, IsUnexplained, possible, after_own, after_other, placed, Fits}
+use Rattle.x25_possible.proofs.Names.{IsBroken, IsRude, IsUntold, anew, are_at_end, go_all, grow_all, is_blind, is_known, may_send, quietly, rude_from}
+use Rattle.x25_possible.proofs.Names.{sends_to, sent_to, shown_to, shows_to, standing, told_by, trimmed, trims, Packet, Phase, Idle, Blind, Known, Set, Broken}
+use Rattle.x25_possible.proofs.{ChannelLaws.{IsAsGood, channel_favourites}, Exactly.{tells_exactly}, Lists.{in_all, from_all, none_in}, Names.{Spot}}
 use Rattle.x25_possible.proofs.StepLemmas.{Adds, all_go, all_grow, trims_to}
+use Rattle.x25_possible.specs.code.Steps.{are_answered, awaits, breaks, explained, finds, known_by, blind_by, latest_from, lost, makes_known, sent, hidden_by}
+use Rattle.x25_possible.specs.{code.Steps.{is_awaiting, shown, Stepped, trimmed_to, unexplained, without_room}, declared.set.Knowledge.{Knowledge}}
+use Rattle.x25_possible.specs.declared.set.{Knowledge.TheVariants.{Lost}, Told.{Told}, Told.TheVariants.{Nothing}}
+use Rattle.x25_possible.specs.laws.{Possible.{TellsExactly}, Sets.{AreSame, SendsExactly, ShowsExactly}}
 
 -- ---- the same places
 
@@ -79,11 +64,7 @@ known role way qs = standing role way qs Known
 
 of_known : (k : Knowledge) → known_by k ≡ true → k ≡ Known
 of_known Known h = refl
-of_known Likely h = absurd (both_ways false refl h)
-of_known Ready h = absurd (both_ways false refl h)
-of_known Doubt h = absurd (both_ways false refl h)
-of_known Blind h = absurd (both_ways false refl h)
-of_known Lost h = absurd (both_ways false refl h)
+of_known k h = absurd (both_ways false refl h)
 
 pub is_so : (s : Set) → is_known s ≡ true → s ≡ known s.role s.way.items s.spots.items
 is_so s h = ap (λ k. standing s.role s.way.items s.spots.items k) (of_known s.knowledge h)
@@ -125,11 +106,7 @@ trimmed_blind s = ap blind_by (trimmed_as s)
 -- one that has lost its states has none listed
 hidden_blind : (k was : Knowledge) (s : Set) → blind_by k ≡ true → is_blind s ≡ blind_by was → blind_by (hidden_by was k s).knowledge ≡ true
 hidden_blind k Blind s dark e = e
-hidden_blind k Lost s dark e = dark
-hidden_blind k Ready s dark e = dark
-hidden_blind k Doubt s dark e = dark
-hidden_blind k Likely s dark e = dark
-hidden_blind k Known s dark e = dark
+hidden_blind k was s dark e = dark
 
 lost_blind : (s : Set) → is_blind (trimmed (lost s)) ≡ true
 lost_blind s = trimmed_blind (lost s) ∙ hidden_blind Lost s.knowledge s refl refl
@@ -160,12 +137,8 @@ not_told None h = h
 not_told (Some s) h = h
 
 pub blind_known : (k : Knowledge) → blind_by k ≡ true → known_by k ≡ true → ⊥
-blind_known Blind e h = both_ways false refl h
-blind_known Lost e h = both_ways false refl h
-blind_known Ready e h = both_ways false refl h
-blind_known Doubt e h = both_ways false refl h
-blind_known Likely e h = both_ways false refl h
 blind_known Known e h = both_ways false refl e
+blind_known k e h = both_ways false refl h
 
 still_lit : (b : Bool) (k : Knowledge) → blind_by k ≡ false → blind_by (if b then Known else k) ≡ false
 still_lit true k lit = refl

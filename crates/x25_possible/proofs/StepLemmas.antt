@@ -1,24 +1,13 @@
 -- Lists of states, as their definition has them, and the places that are possible.
-use Rattle.std.proofs.Common.{Bool, true, false, ◌≡◌, ◌↔◌, ◌⊎◌, inl, inr, ℕ, ◌+◌, ◌-◌, ◌<◌, ◌≤◌, ◌==◌, ◌&&◌, ◌||◌, nat_le}
-use Rattle.std.proofs.Common.{List, [], ◌∷◌, ◌++◌, map, drop, length, refl, sym, ap, ap₂, subst, ◌∙◌, Option, Some, None, arith}
-use Rattle.std.proofs.Common.{length-drop, drop_of_length-le, flat_map, append-nil, if◌then◌else◌}
-use Rattle.std.proofs.lemmas.Bool.{and_parts, both_ways, eqb-true, leb-true, leb-false}
-use Rattle.std.proofs.lemmas.List.{drop-drop, drop_at, drop-append-le}
-use Rattle.std.proofs.lemmas.Option.{none-some, same_Some}
-use Rattle.x25_bits.specs.declared.role.Role.{Role}
-use Rattle.x25_possible.specs.Channel.{channel_choices, at_once, takes, sends, one}
-use Rattle.x25_possible.specs.laws.Possible.{Place, at, IsIn, settled, settled_by, grown, after_own, after_other}
-use Rattle.x25_possible.specs.laws.Sets.{placed}
-use Rattle.x25_possible.specs.code.Steps.{same_limits, same_terms, is_same, is_there, kept, and_then, is_large, spot_at, settles_by}
-use Rattle.x25_possible.specs.code.Steps.{settles, all_of, goes_by, goes, go_all, grows, grow_all, are_at_end, anew_at, anew}
-use Rattle.x25_possible.specs.declared.packet.Packet.{Packet}
-use Rattle.x25_possible.specs.declared.packet.Terms.{Terms}
-use Rattle.x25_possible.specs.declared.phase.Limits.{Limits}
-use Rattle.x25_possible.specs.declared.phase.Phase.{Phase}
-use Rattle.x25_possible.specs.declared.phase.Phase.TheVariants.{Idle, Calls, WasCalled, Resets, WasReset, Clears, WasCleared, Restarts}
-use Rattle.x25_possible.specs.declared.phase.Phase.TheVariants.{WasRestarted}
-use Rattle.x25_possible.specs.declared.spots.Spot.{Spot}
+use Rattle.x25_possible.proofs.Names.{Bool, true, false, ◌≡◌, ◌⊎◌, inl, inr, ℕ, ◌+◌, ◌-◌, ◌<◌, ◌≤◌, ◌==◌, ◌&&◌, ◌||◌, nat_le, List, [], ◌∷◌, ◌++◌, map, drop}
+use Rattle.x25_possible.proofs.Names.{length, refl, sym, ap, ap₂, subst, ◌∙◌, Option, Some, None, arith, drop_of_length-le, flat_map, if◌then◌else◌, and_parts}
+use Rattle.x25_possible.proofs.Names.{both_ways, eqb-true, leb-true, none-some, same_Some, Role, channel_choices, at_once, takes, sends, one, Place, at, IsIn}
+use Rattle.x25_possible.proofs.Names.{settled, grown, after_own, after_other, placed, kept, and_then, is_large, spot_at, settles_by, settles, all_of, goes_by}
+use Rattle.x25_possible.proofs.Names.{goes, go_all, grows, grow_all, are_at_end, anew, Packet, Phase, Idle, Calls, Resets, Clears, Restarts, Spot}
+use Rattle.std.proofs.{Common.{◌↔◌, length-drop, append-nil}, lemmas.Bool.{leb-false}, lemmas.List.{drop-drop, drop_at, drop-append-le}}
 use Rattle.x25_possible.proofs.Lists.{in_left, in_right, in_either}
+use Rattle.x25_possible.specs.{code.Steps.{same_limits, same_terms, is_same, is_there, anew_at}, declared.packet.Terms.{Terms}, declared.phase.Limits.{Limits}}
+use Rattle.x25_possible.specs.{declared.phase.Phase.TheVariants.{WasCalled, WasReset, WasCleared, WasRestarted}, laws.Possible.{settled_by}}
 
 pub in_map : {X Y : Type 0} (f : X → Y) (xs : List X) (x : X) → IsIn x xs → IsIn (f x) (map f xs)
 in_map f [] x h = absurd h

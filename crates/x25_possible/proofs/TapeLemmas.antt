@@ -1,23 +1,12 @@
 -- No rule is told of an end that keeps the rules, over a whole tape.
-use Rattle.std.proofs.Common.{false, ◌≡◌, ◌⊎◌, inl, inr, refl, sym, ap, subst, ◌∙◌}
-use Rattle.std.proofs.Common.{ℕ, ◌≤◌, List, [], ◌∷◌, drop, drop_of_length-le, flat_map, length, map, arith}
-use Rattle.x25_bits.specs.declared.role.Role.{Role}
-use Rattle.x25_possible.specs.Channel.{channel_choices, channel_rules}
-use Rattle.x25_possible.specs.laws.Possible.{Item, Own, Other, IsUnexplained, Stands, Sends, Shows, Takes, at, possible, settled}
-use Rattle.x25_possible.specs.laws.Sets.{AreCounted, AreSame, Fits, FoundStayUntold, GuiltyAreTold, InnocentsStayUntold, IsBroken, IsRude}
-use Rattle.x25_possible.specs.laws.Sets.{IsUntold, PoliteStayUntold, placed}
-use Rattle.x25_possible.specs.code.Steps.{behind, blind_by, is_blind, played, quietly, sends_to, shows_to, standing}
-use Rattle.x25_possible.specs.declared.packet.Packet.{Packet}
-use Rattle.x25_possible.specs.declared.phase.Phase.{Phase}
-use Rattle.x25_possible.specs.declared.phase.Phase.TheVariants.{Idle}
-use Rattle.x25_possible.specs.declared.set.Knowledge.TheVariants.{Blind}
-use Rattle.x25_possible.specs.declared.set.Set.{Set}
-use Rattle.x25_possible.specs.declared.set.Told.{Told}
-use Rattle.x25_possible.specs.declared.set.Told.TheVariants.{Nothing, Rude, Broken}
-use Rattle.x25_possible.specs.declared.spots.Spot.{Spot}
-use Rattle.x25_possible.proofs.MannerLemmas.{polite_told}
+use Rattle.x25_possible.proofs.Names.{false, ◌≡◌, ◌⊎◌, inl, inr, refl, sym, ap, subst, ◌∙◌, ℕ, ◌≤◌, List, [], ◌∷◌, drop, drop_of_length-le, flat_map, length}
+use Rattle.x25_possible.proofs.Names.{map, arith, Role, channel_choices, channel_rules, Item, Own, Other, IsUnexplained, Stands, at, possible, settled}
+use Rattle.x25_possible.proofs.Names.{AreCounted, Fits, IsBroken, IsRude, IsUntold, placed, is_blind, quietly, sends_to, shows_to, standing, Packet, Phase}
+use Rattle.x25_possible.proofs.{MannerLemmas.{polite_told}, Names.{Idle, Blind, Set, Broken, Spot}}
 use Rattle.x25_possible.proofs.RoomLemmas.{counted_idle, counted_sends, counted_shows, guilty_told}
 use Rattle.x25_possible.proofs.SetLemmas.{blind_known, sends_exactly, sends_role, sends_stay, shows_exactly, shows_role, shows_stay}
+use Rattle.x25_possible.specs.{code.Steps.{behind, blind_by, played}, declared.set.Told.{Told}, laws.Possible.{Sends, Shows, Takes}}
+use Rattle.x25_possible.specs.laws.Sets.{AreSame, FoundStayUntold, GuiltyAreTold, InnocentsStayUntold, PoliteStayUntold}
 
 -- ---- what was sent before is explained too
 
@@ -52,9 +41,8 @@ dark_shows s x e =
     ap (λ k. shows_to x (standing s.role s.way.items s.spots.items k)) e ∙ sym (ap (λ k. standing s.role s.way.items s.spots.items k) e)
 
 is_untold : (t : Told) → (IsBroken t → ⊥) → IsUntold t
-is_untold Nothing h = tt
-is_untold (Rude s) h = tt
 is_untold (Broken s) h = h tt
+is_untold t h = tt
 
 module _ (states : List Phase) (role : Role) where
   abbrev StandsSo : List (Item Packet) → Phase → List Packet → Type 0

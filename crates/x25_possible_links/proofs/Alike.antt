@@ -1,29 +1,15 @@
 -- Places of an end that are all of a kind, as either end sends.
-use Rattle.std.proofs.Common.{◌≡◌, ◌⊎◌, inl, inr, ℕ, ◌≤◌, ◌==◌, Bool, true, false, List, [], ◌∷◌, ◌++◌, drop, length, flat_map}
-use Rattle.std.proofs.Common.{not, take, Some, None, Option, refl, sym, ap, map, ◌∙◌, subst, if◌then◌else◌}
-use Rattle.std.proofs.lemmas.Bool.{and_parts, both_ways, cond_both, eqb-true, not-true}
-use Rattle.x25_possible.specs.laws.Possible.{IsIn, Place, at}
-use Rattle.x25_possible_links.specs.code.Steps.{are_known, extended, hastened, hurried, is_free, is_lost, pressed, rushed}
-use Rattle.x25_possible_links.specs.code.Steps.{came, grow_all, latest, least, sends_to, sent_to, set_as, shifted, shown_to}
-use Rattle.x25_possible_links.specs.code.Steps.{broken, shows_to, skipped_by, standing, Stepped, telling, trimmed}
-use Rattle.x25_possible_links.specs.code.Steps.{unexplained, unexplained_as, walk_all}
-use Rattle.x25_possible_links.specs.laws.Link.{fresh, may_answer}
-use Rattle.x25_possible_links.specs.laws.Places.{onward, settle, upward}
+use Rattle.x25_possible_links.proofs.Names.{◌≡◌, ◌⊎◌, inl, inr, ℕ, ◌≤◌, ◌==◌, Bool, true, false, List, [], ◌∷◌, ◌++◌, drop, length, flat_map, not, Some, None}
+use Rattle.x25_possible_links.proofs.Names.{Option, refl, sym, ap, map, ◌∙◌, subst, if◌then◌else◌, and_parts, both_ways, cond_both, eqb-true, IsIn, Place, at}
+use Rattle.x25_possible_links.proofs.Names.{are_known, hurried, is_lost, pressed, rushed, grow_all, least, sends_to, sent_to, shifted, shown_to, shows_to}
+use Rattle.x25_possible_links.proofs.Names.{walk_all, fresh, may_answer, onward, settle, upward, Frame, Ua, Right, LinkSet, Spot, Stand, Asking, Free}
+use Rattle.std.proofs.{Common.{take}, lemmas.Bool.{not-true}}
+use Rattle.x25_possible_links.proofs.Covering.{behind_other, behind_own, hasten, extended_blind, least_is, lost_blind, moved_is, other_adds, own_adds, shows_by}
+use Rattle.x25_possible_links.proofs.{Leads.{rushed_free}, Lists.{from_all, from_map}}
+use Rattle.x25_possible_links.{proofs.StepLemmas.{placed}, specs.code.Steps.{unexplained, unexplained_as}, specs.declared.link.Mode.TheVariants.{Skipping}}
+use Rattle.x25_possible_links.specs.code.Steps.{extended, hastened, is_free, came, latest, set_as, broken, skipped_by, standing, Stepped, telling, trimmed}
+use Rattle.x25_possible_links.specs.declared.set.{Told.{Told}, Told.TheVariants.{Broken, Nothing, Skips}}
 use Rattle.x25_possible_links.specs.laws.Places as place
-use Rattle.x25_possible_links.specs.declared.frame.Frame.{Frame}
-use Rattle.x25_possible_links.specs.declared.frame.Frame.TheVariants.{Ua}
-use Rattle.x25_possible_links.specs.declared.link.Mode.TheVariants.{Right, Skipping}
-use Rattle.x25_possible_links.specs.declared.set.LinkSet.{LinkSet}
-use Rattle.x25_possible_links.specs.declared.set.Told.{Told}
-use Rattle.x25_possible_links.specs.declared.set.Told.TheVariants.{Broken, Nothing, Skips}
-use Rattle.x25_possible_links.specs.declared.spots.Spot.{Spot}
-use Rattle.x25_possible_links.specs.declared.stand.Stand.{Stand}
-use Rattle.x25_possible_links.specs.declared.stand.Stand.TheVariants.{Out, Asking, Up, Free}
-use Rattle.x25_possible_links.proofs.Leads.{rushed_free}
-use Rattle.x25_possible_links.proofs.Covering.{behind_other, behind_own, hasten, extended_blind, least_is, lost_blind, moved_is, other_adds}
-use Rattle.x25_possible_links.proofs.Covering.{own_adds, shows_by}
-use Rattle.x25_possible_links.proofs.Lists.{from_all, from_map}
-use Rattle.x25_possible_links.proofs.StepLemmas.{placed}
 
 -- ---- what no place allows is told
 
@@ -79,14 +65,12 @@ module _ (P : Place Stand Frame → Type 0) where
 -- ---- where the older half counts as come
 
 pressed_is : (u : Stand) (x : Frame) → (pressed u x ≡ Free) ⊎ ((onward u x ≡ pressed u x) × (upward u x ≡ onward u x))
-pressed_is Out x = inr (refl, refl)
-pressed_is (Up k) x = inr (refl, refl)
-pressed_is Free x = inr (refl, refl)
 pressed_is Asking x = go (may_answer x)
   where
     go : (b : Bool) → ((if b then Free else Asking) ≡ Free) ⊎ ((Asking ≡ (if b then Free else Asking)) × ((if b then fresh else Asking) ≡ Asking))
     go true = inl refl
     go false = inr (refl, refl)
+pressed_is u x = inr (refl, refl)
 
 each_known : (qs : List Spot) (q : Spot) → are_known qs ≡ true → IsIn q qs → is_free q.stand ≡ false
 each_known [] q e is = absurd is

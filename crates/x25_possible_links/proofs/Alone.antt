@@ -1,28 +1,14 @@
 -- One place in a session, with nothing on the way.
-use Rattle.std.proofs.Common.{Bool, true, false, ◌≡◌, ◌==◌, ◌&&◌, ◌||◌, not, ℕ, ◌+◌, ◌-◌, ◌%◌, ◌<◌, ◌≤◌, nat_lt, if◌then◌else◌}
-use Rattle.std.proofs.Common.{List, [], ◌∷◌, refl, ap, subst, ◌∙◌, arith}
-use Rattle.std.proofs.Common.{Option, Some, None, IfSome, get_or, length, set}
-use Rattle.std.specs.List.{refill}
-use Rattle.std.proofs.lemmas.Bool.{and_from, and_parts, eq-eqb, eqb-true, le-ltb, lt-ltb, ltb-true, not-true}
-use Rattle.std.proofs.lemmas.Option.{none-some, same_Some}
+use Rattle.x25_possible_links.proofs.Names.{Bool, true, false, ◌≡◌, ◌==◌, ◌&&◌, ◌||◌, not, ℕ, ◌+◌, ◌-◌, ◌<◌, ◌≤◌, nat_lt, if◌then◌else◌, List, [], ◌∷◌, refl}
+use Rattle.x25_possible_links.proofs.Names.{ap, subst, ◌∙◌, arith, Option, Some, None, get_or, length, and_parts, eqb-true, lt-ltb, ltb-true, none-some}
+use Rattle.x25_possible_links.proofs.Names.{same_Some, counts, heard, may_acknowledge, may_number, told_to, sends, all_of, and_then, first_of, grow_all}
+use Rattle.x25_possible_links.proofs.Names.{is_large, sent_to, sends_to, settles, shown_to, shows_to, spot_at, walk_all, walks, with_first, Frame, Info, Ready}
+use Rattle.std.{proofs.Common.{◌%◌, IfSome, set}, proofs.lemmas.Bool.{and_from, eq-eqb, le-ltb, not-true}, specs.List.{refill}}
 use Rattle.x25_possible.specs.Channel.{nth}
-use Rattle.x25_possible_links.specs.laws.Link.{counts, heard, is_ua, may_acknowledge, may_number, sent_to as numbered, told_to}
-use Rattle.x25_possible_links.specs.laws.Places.{sends}
-use Rattle.x25_possible_links.specs.code.Steps.{IsInSession, IsStep, IsTaken, all_of, and_then, first_of, grow_all, in_session}
-use Rattle.x25_possible_links.specs.code.Steps.{are_near, are_sure, is_large, far, marked, near, near_numbers, session, session_of, sent_to, sends_to, settles}
-use Rattle.x25_possible_links.specs.code.Steps.{shown_to, shows_to}
-use Rattle.x25_possible_links.specs.code.Steps.{facts, has_sent, is_counted, is_sure, numbers, numbers_by, session_facts}
-use Rattle.x25_possible_links.specs.code.Steps.{kept_by, spot_at, up_hears, up_sends, walk_all, walks, with_first}
-use Rattle.x25_possible_links.specs.declared.frame.Frame.{Frame}
-use Rattle.x25_possible_links.specs.declared.frame.Frame.TheVariants.{Info, Ready, Sabm, Disc, Ua, Dm, Frmr, Unread, Before}
-use Rattle.x25_possible_links.specs.declared.link.Mode.TheVariants.{Right}
-use Rattle.x25_possible_links.specs.declared.set.Facts.{Facts}
-use Rattle.x25_possible_links.specs.declared.set.LinkSet.{LinkSet}
-use Rattle.x25_possible_links.specs.declared.spots.Spot.{Spot}
-use Rattle.x25_possible_links.specs.declared.stand.Numbers.{Numbers}
-use Rattle.x25_possible_links.specs.declared.stand.Stand.{Stand}
-use Rattle.x25_possible_links.specs.declared.stand.Stand.TheVariants.{Out, Asking, Up, Free}
-use Rattle.x25_possible_links.proofs.Stands.{acknowledges, may_number_by, nth_is}
+use Rattle.x25_possible_links.proofs.{Names.{Right, LinkSet, Spot, Numbers, Stand, Out, Up, Free}, Stands.{acknowledges, may_number_by, nth_is}}
+use Rattle.x25_possible_links.specs.code.Steps.{IsInSession, IsStep, IsTaken, in_session, are_near, are_sure, far, marked, near, near_numbers, session}
+use Rattle.x25_possible_links.specs.code.Steps.{session_of, facts, has_sent, is_counted, is_sure, numbers, numbers_by, session_facts, kept_by, up_hears}
+use Rattle.x25_possible_links.specs.{code.Steps.{up_sends}, declared.set.Facts.{Facts}, laws.Link.{is_ua, sent_to as numbered}}
 
 -- ---- numbers
 
@@ -85,14 +71,12 @@ near_sure k h =
     sure_by k (omega (arith, a)) (omega (arith, b)) (omega (arith, c)) (omega (arith, d))
 
 near_in : (s : Stand) (k : Numbers) → near_numbers s ≡ Some k → (s ≡ Up k) × (are_near k ≡ true)
-near_in Out k e = absurd (none-some k e)
-near_in Asking k e = absurd (none-some k e)
-near_in Free k e = absurd (none-some k e)
 near_in (Up j) k e = go (are_near j) refl e
   where
     go : (b : Bool) → are_near j ≡ b → (if b then Some j else None) ≡ Some k → (Up j ≡ Up k) × (are_near k ≡ true)
     go true c same = let is = same_Some j k same in (ap Up is, subst (λ i. are_near i ≡ true) is c)
     go false c same = absurd (none-some k same)
+near_in s k e = absurd (none-some k e)
 
 record IsIn (way : List Frame) (qs : List Spot) (k : Numbers) : Type 0 where
   none : way ≡ []
@@ -183,13 +167,7 @@ goes_is k next x is e = go x e
     go (Info ns nr was) e =
         info ns nr was (ns == k.sent % 8 && (nat_lt k.sent (k.acked + 7) && may_acknowledge (nth k.told nr) k nr)) refl e
     go (Ready nr) e = ready nr (may_acknowledge (nth k.told nr) k nr) refl e
-    go Sabm e = absurd (none-some next e)
-    go Disc e = absurd (none-some next e)
-    go Ua e = absurd (none-some next e)
-    go Dm e = absurd (none-some next e)
-    go Frmr e = absurd (none-some next e)
-    go Unread e = absurd (none-some next e)
-    go Before e = absurd (none-some next e)
+    go x e = absurd (none-some next e)
 
 kept_alone : (o : Option Stand) (next : Numbers) → o ≡ Some (Up next) → is_large (Up next) ≡ false
     → first_of o (λ r. settles 0 [] r []) (Some []) ≡ Some (spot_at 0 (Up next) ∷ [])
@@ -212,13 +190,7 @@ walked k next x small e goes differs = go x e (goes.step differs)
         → walk_all Right (marked differs x) [] (spot_at 0 (Up k) ∷ []) [] ≡ Some (spot_at 0 (Up next) ∷ [])
     go (Info ns nr was) e step = by (Info ns nr differs) step
     go (Ready nr) e step = by (Ready nr) step
-    go Sabm e step = absurd (none-some next e)
-    go Disc e step = absurd (none-some next e)
-    go Ua e step = absurd (none-some next e)
-    go Dm e step = absurd (none-some next e)
-    go Frmr e step = absurd (none-some next e)
-    go Unread e step = absurd (none-some next e)
-    go Before e step = absurd (none-some next e)
+    go x e step = absurd (none-some next e)
 
 is_no_ua : (k next : Numbers) (x : Frame) → up_sends k x ≡ Some next → (differs : Bool)
     → record (session_facts k) { is_answering = is_ua (marked differs x) && true } ≡ session_facts k
@@ -281,13 +253,7 @@ grown_alone k next x one two e differs = go x e
         → grow_all 0 (marked differs x ∷ []) (spot_at 0 (Up k) ∷ []) ≡ Some (spot_at 1 (Up next) ∷ [])
     go (Info ns nr was) e = by (heard true true k (Info ns nr was)) e
     go (Ready nr) e = by (heard true true k (Ready nr)) e
-    go Sabm e = absurd (none-some next e)
-    go Disc e = absurd (none-some next e)
-    go Ua e = absurd (none-some next e)
-    go Dm e = absurd (none-some next e)
-    go Frmr e = absurd (none-some next e)
-    go Unread e = absurd (none-some next e)
-    go Before e = absurd (none-some next e)
+    go x e = absurd (none-some next e)
 
 pub taken_is : (s : LinkSet) (k : Numbers) (x : Frame) → session s ≡ Some k → IfSome (up_hears k x) (λ next. IsTaken x next s)
 taken_is s k x is = go (up_hears k x) refl

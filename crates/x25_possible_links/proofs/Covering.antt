@@ -1,32 +1,17 @@
 -- A set of places has one for each place of a run, step by step.
-use Rattle.std.proofs.Common.{Bool, true, false, ◌≡◌, inl, inr, ℕ, ◌+◌, ◌-◌, ◌<◌, ◌≤◌, ◌==◌, nat_le, nat_lt}
-use Rattle.std.proofs.Common.{List, [], ◌∷◌, ◌++◌, map, drop, length, refl, sym, ap, subst, ◌∙◌, Option, Some, None, arith}
-use Rattle.std.proofs.Common.{flat_map, if◌then◌else◌, le_trans, take, drop_of_length-le}
-use Rattle.std.proofs.lemmas.Bool.{both_ways, cond_both, leb-true, le-leb, ltb-false, eqb-true}
+use Rattle.x25_possible_links.proofs.Names.{Bool, true, false, ◌≡◌, inl, inr, ℕ, ◌+◌, ◌-◌, ◌<◌, ◌≤◌, ◌==◌, nat_le, nat_lt, List, [], ◌∷◌, ◌++◌, map, drop}
+use Rattle.x25_possible_links.proofs.Names.{length, refl, sym, ap, subst, ◌∙◌, Option, Some, None, arith, flat_map, if◌then◌else◌, both_ways, cond_both}
+use Rattle.x25_possible_links.proofs.Names.{leb-true, eqb-true, none-some, IsIn, Place, at, State, At, MaySend, MayTake, settled, settle, are_known, best}
+use Rattle.x25_possible_links.proofs.Names.{grow_all, hurried, least, rushed, sends_to, sent_to, shifted, shown_to, shows_to, spot_at, walk_all, walks, Frame}
+use Rattle.std.proofs.{Common.{le_trans, take, drop_of_length-le}, lemmas.Bool.{le-leb, ltb-false}}
 use Rattle.std.proofs.lemmas.List.{drop-drop, drop-append-le, length-drop, length-take, take-append-drop}
-use Rattle.std.proofs.lemmas.Option.{none-some}
-use Rattle.x25_possible.specs.laws.Possible.{IsIn, Place, at}
-use Rattle.x25_possible_links.specs.laws.Link.{State, At, MaySend, MayTake}
-use Rattle.x25_possible_links.specs.laws.Places.{settled, settle}
+use Rattle.x25_possible_links.proofs.{Exactly.{sends_held, strays_held}, Leads.{HoldsAt, holds_freed, holds_rushed, holds_shown, holds_takes, holds_settled}}
+use Rattle.x25_possible_links.proofs.{Lists.{in_map, in_all}, LoopLemmas.{least_most}, Names.{Ua, Right, LinkSet, Spot, Stand, Free}}
+use Rattle.x25_possible_links.proofs.{Stands.{Below, below_free, below_on}, StepLemmas.{Adds, adds_all, adds_each, adds_walks, best_is, holds_from, placed}}
+use Rattle.x25_possible_links.specs.code.Steps.{astray, broken, broken_by, came, extended, grown, hastened, hastened_to, latest, lost, set_as, skipped_by}
+use Rattle.x25_possible_links.specs.code.Steps.{standing, Stepped, telling, trimmed, unexplained, unexplained_as}
+use Rattle.x25_possible_links.specs.declared.{link.Mode.TheVariants.{Skipping, Wrong}, set.Told.TheVariants.{Nothing, Skips, Broken}}
 use Rattle.x25_possible_links.specs.laws.Places as place
-use Rattle.x25_possible_links.specs.code.Steps.{are_known, astray, best, broken, broken_by, came, extended, grow_all, grown, hastened, hastened_to, hurried}
-use Rattle.x25_possible_links.specs.code.Steps.{latest, least, lost, rushed, sends_to, sent_to, set_as, shifted, shown_to, shows_to}
-use Rattle.x25_possible_links.specs.code.Steps.{skipped_by, spot_at, standing, Stepped, telling, trimmed, unexplained}
-use Rattle.x25_possible_links.specs.code.Steps.{unexplained_as, walk_all, walks}
-use Rattle.x25_possible_links.specs.declared.frame.Frame.{Frame}
-use Rattle.x25_possible_links.specs.declared.frame.Frame.TheVariants.{Ua}
-use Rattle.x25_possible_links.specs.declared.link.Mode.TheVariants.{Right, Skipping, Wrong}
-use Rattle.x25_possible_links.specs.declared.set.LinkSet.{LinkSet}
-use Rattle.x25_possible_links.specs.declared.set.Told.TheVariants.{Nothing, Skips, Broken}
-use Rattle.x25_possible_links.specs.declared.spots.Spot.{Spot}
-use Rattle.x25_possible_links.specs.declared.stand.Stand.{Stand}
-use Rattle.x25_possible_links.specs.declared.stand.Stand.TheVariants.{Free}
-use Rattle.x25_possible_links.proofs.LoopLemmas.{least_most}
-use Rattle.x25_possible_links.proofs.Stands.{Below, below_free, below_on}
-use Rattle.x25_possible_links.proofs.Leads.{HoldsAt, holds_freed, holds_rushed, holds_shown, holds_takes, holds_settled}
-use Rattle.x25_possible_links.proofs.Exactly.{sends_held, strays_held}
-use Rattle.x25_possible_links.proofs.Lists.{in_map, in_all}
-use Rattle.x25_possible_links.proofs.StepLemmas.{Adds, adds_all, adds_each, adds_walks, best_is, holds_from, placed}
 
 -- one of these places covers this one
 abbrev pub HasIn : List Spot → List Frame → State → List Frame → Type 0

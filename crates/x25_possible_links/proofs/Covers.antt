@@ -1,14 +1,7 @@
 -- From which places an end comes to a place of a run, or to a better one.
-use Rattle.std.proofs.Common.{◌≡◌, true, List, [], ◌∷◌, ◌++◌}
-use Rattle.x25_possible.specs.laws.Possible.{IsIn}
-use Rattle.x25_possible_links.specs.laws.Link.{State, At, Owes, MayTake, passes, hears, begins, owes, fresh, owed, may_answer}
-use Rattle.x25_possible_links.specs.laws.Link.{heard}
-use Rattle.x25_possible_links.specs.laws.Places.{onward}
-use Rattle.x25_possible_links.specs.declared.frame.Frame.{Frame}
-use Rattle.x25_possible_links.specs.declared.stand.Stand.{Stand}
-use Rattle.x25_possible_links.specs.declared.stand.Stand.TheVariants.{Out, Asking, Up, Free}
-use Rattle.x25_possible_links.proofs.Stands.{Below, below_self, below_on, heard_below, onward_both}
-use Rattle.x25_possible_links.proofs.Stands.{below_onward}
+use Rattle.x25_possible_links.proofs.Names.{◌≡◌, true, List, [], ◌∷◌, ◌++◌, IsIn, State, At, Owes, MayTake, passes, hears, begins, owes, fresh, owed}
+use Rattle.x25_possible_links.proofs.Names.{may_answer, heard, onward, Frame, Stand, Asking, Up, Free}
+use Rattle.x25_possible_links.proofs.Stands.{Below, below_self, below_on, heard_below, onward_both, below_onward}
 
 -- From a stand, with such a way, it comes to this place of a run, or to a better stand there.
 pub data Covers : Stand → List Frame → State → List Frame → Type 0 where
@@ -29,13 +22,10 @@ take_here _ (Up j) _ way _ b (hears k x h t) =
     (Here (Up (heard h t k x)) (Up (heard true true j x)) way (heard_below h t k j x b))
 take_here _ Free _ way _ b (hears k x h t) =
     Later Free x way (At (Up (heard h t k x))) way (Here (Up (heard h t k x)) Free way tt)
-take_here _ Out _ way _ b (hears k x h t) = absurd b
-take_here _ Asking _ way _ b (hears k x h t) = absurd b
 take_here _ Asking _ way _ b (begins x may) = Begins x way (At fresh) way may (Here fresh fresh way (below_self fresh))
 take_here _ Free _ way _ b (begins x may) = Later Free x way (At fresh) way (Here fresh Free way tt)
-take_here _ Out _ way _ b (begins x may) = absurd b
-take_here _ (Up j) _ way _ b (begins x may) = absurd b
 take_here _ u _ way _ b (owes s r x is) = Asked s u r x way b is
+take_here _ u _ way _ b other = absurd b
 
 -- nothing comes before it answers
 IsAt : State → Type 0
@@ -45,9 +35,7 @@ IsAt (Owes s) = ⊥
 takes_at : (s r : State) (x : Frame) → MayTake s x r → IsAt s
 unfolding IsAt
 takes_at _ _ _ (passes s x) = tt
-takes_at _ _ _ (hears k x h t) = tt
-takes_at _ _ _ (begins x may) = tt
-takes_at _ _ _ (owes s r x is) = tt
+takes_at _ _ _ other = tt
 
 pub owes_take_nothing : (q : Stand) (r : State) (x : Frame) → MayTake (Owes q) x r → ⊥
 unfolding IsAt
@@ -88,8 +76,7 @@ covers_more _ c _ _ way (Later u x v s _ k) good =
     Later c x v s way (covers_more (onward u x) (onward c x) v s way k (onward_both u c x good))
 covers_more _ Asking _ _ way (Begins x v s _ a k) good = Begins x v s way a k
 covers_more _ Free _ _ way (Begins x v s _ a k) good = Later Free x v s way (covers_more fresh Free v s way k tt)
-covers_more _ Out _ _ way (Begins x v s _ a k) good = absurd good
-covers_more _ (Up j) _ _ way (Begins x v s _ a k) good = absurd good
+covers_more _ c _ _ way (Begins x v s _ a k) good = absurd good
 
 -- and what is less
 pub covers_less : (u : Stand) (v : List Frame) (s r : Stand) (way : List Frame) → Covers u v (At s) way → Below r s → Covers u v (At r) way

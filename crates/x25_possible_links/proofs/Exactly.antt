@@ -1,26 +1,18 @@
 -- The places of an end of a link tell exactly.
-use Rattle.std.proofs.Common.{◌≡◌, ◌⊎◌, inl, inr, refl, sym, ap, subst, Option, Some, None, Bool, true, false, List, [], ◌∷◌, ◌++◌, ℕ}
-use Rattle.std.proofs.Common.{◌+◌, ◌==◌, ◌<◌, arith, if◌then◌else◌, flat_map}
-use Rattle.std.proofs.lemmas.Bool.{both_ways, and_parts, lt-ltb, eqb-true}
-use Rattle.std.proofs.lemmas.Option.{none-some, same_Some, cond_some}
-use Rattle.x25_possible.specs.laws.Possible.{IsIn, Item, Own, Other, Place, at, Stands, Begins, Sends, Shows, Takes}
-use Rattle.x25_possible_links.specs.laws.Link.{State, At, Owes, MaySend, sends, answers, answers_before, was_any, was_none, MayTake, passes, hears}
-use Rattle.x25_possible_links.specs.laws.Link.{begins, owes, fresh, asked, owed, may_answer, link_rules}
-use Rattle.x25_possible_links.specs.laws.Link.{counted, may_count, may_number, may_acknowledge, told_to, counts, declines, sends_as}
-use Rattle.x25_possible_links.specs.laws.Places.{number_of, least_of, onward, upward, first, goes, answered, walks, is_plain, settled, settle, shown, places}
-use Rattle.x25_possible_links.specs.laws.Places as place
-use Rattle.x25_possible_links.specs.laws.Links.{TellsExactly}
-use Rattle.x25_possible_links.specs.declared.frame.Frame.{Frame}
-use Rattle.x25_possible_links.specs.declared.frame.Frame.TheVariants.{Info, Ready, Sabm, Disc, Ua, Dm, Frmr, Unread, Before}
-use Rattle.x25_possible_links.specs.declared.stand.Numbers.{Numbers}
-use Rattle.x25_possible_links.specs.declared.stand.Stand.{Stand}
-use Rattle.x25_possible_links.specs.declared.stand.Stand.TheVariants.{Out, Asking, Up, Free}
-use Rattle.x25_possible_links.proofs.Lists.{in_left, in_right, in_either, in_all, from_all, none_in, in_map, from_map}
-use Rattle.x25_possible_links.proofs.Stands.{Below, below_self, below_free, sends_more, Acknowledges, acknowledges, IsNumbered, is_numbered}
+use Rattle.x25_possible_links.proofs.Names.{◌≡◌, ◌⊎◌, inl, inr, refl, sym, ap, subst, Option, Some, None, Bool, true, false, List, [], ◌∷◌, ◌++◌, ℕ, ◌+◌, ◌==◌}
+use Rattle.x25_possible_links.proofs.Names.{◌<◌, arith, if◌then◌else◌, flat_map, both_ways, and_parts, lt-ltb, eqb-true, none-some, same_Some, cond_some, IsIn}
+use Rattle.x25_possible_links.proofs.Names.{Place, at, State, At, Owes, MaySend, MayTake, passes, hears, begins, owes, fresh, owed, may_answer, counted}
+use Rattle.x25_possible_links.proofs.Names.{may_count, may_number, may_acknowledge, told_to, counts, declines, sends_as, number_of, least_of, onward, upward}
+use Rattle.x25_possible_links.proofs.Names.{first, is_plain, settled, settle, Frame, Info, Ready, Sabm, Disc, Ua, Dm, Frmr, Unread, Before, Numbers, Stand, Out}
+use Rattle.x25_possible.specs.laws.Possible.{Item, Own, Other, Stands, Begins, Sends, Shows, Takes}
 use Rattle.x25_possible_links.proofs.Covers.{Covers, Here, covers_less, covers_over}
+use Rattle.x25_possible_links.proofs.Leads.{Leads, Stays, Steps, HoldsAt, holds_shown, holds_takes, holds_settled, leads_sends, onward_may, stays_at, front_of}
+use Rattle.x25_possible_links.proofs.{Lists.{in_left, in_right, in_either, in_all, from_all, none_in, in_map, from_map}, Names.{Asking, Up, Free}}
 use Rattle.x25_possible_links.proofs.Sends.{IsCovered, asked_more, goes_covers, answers_covers, before_covers}
-use Rattle.x25_possible_links.proofs.Leads.{Leads, Stays, Steps, HoldsAt, holds_shown, holds_takes, holds_settled, leads_sends}
-use Rattle.x25_possible_links.proofs.Leads.{onward_may, stays_at, front_of}
+use Rattle.x25_possible_links.proofs.Stands.{Below, below_self, below_free, sends_more, Acknowledges, acknowledges, IsNumbered, is_numbered}
+use Rattle.x25_possible_links.specs.laws.{Link.{sends, answers, answers_before, was_any, was_none, asked, link_rules}, Links.{TellsExactly}}
+use Rattle.x25_possible_links.specs.laws.Places.{goes, answered, walks, shown, places}
+use Rattle.x25_possible_links.specs.laws.Places as place
 
 -- ---- octets that spell no frame
 
@@ -76,23 +68,18 @@ module _ (u : Stand) (v : List Frame) where
 
   below_declined : (s : Stand) → Below (declines s) s
   below_declined Out = tt
-  below_declined Asking = tt
-  below_declined (Up k) = tt
-  below_declined Free = tt
+  below_declined s = tt
 
   count_any : (s : Stand) (way : List Frame) (n t ns nr : ℕ) (d : Bool) (r : Stand) → Covers u v (At s) way
       → counts n t s (Info ns nr d) ≡ Some r → IsAny (At r) way
-  count_any Out way n t ns nr d r k e = absurd (none-some r e)
-  count_any Asking way n t ns nr d r k e = absurd (none-some r e)
   count_any (Up j) way n t ns nr d r k e =
       let parts = cond_some (may_count n t j (Info ns nr d)) (Up (counted n t j (Info ns nr d))) r e in
       subst (λ w. IsAny (At w) way) parts.1 (number_any j way n t ns nr d k parts.0)
   count_any Free way n t ns nr d r k e = self_any Free r way k (subst (λ w. Below w Free) (same_Some Free r e) tt)
+  count_any s way n t ns nr d r k e = absurd (none-some r e)
 
   ready_any : (s : Stand) (way : List Frame) (n t nr : ℕ) (r : Stand) → Covers u v (At s) way
       → counts n t s (Ready nr) ≡ Some r → IsAny (At r) way
-  ready_any Out way n t nr r k e = absurd (none-some r e)
-  ready_any Asking way n t nr r k e = absurd (none-some r e)
   ready_any (Up j) way n t nr r k e =
       let parts = cond_some (may_acknowledge t j nr) (Up (told_to t j)) r e in
       let says = acknowledges t j nr parts.0 in
@@ -100,6 +87,7 @@ module _ (u : Stand) (v : List Frame) where
       (subst (λ w. Below w (Up j)) parts.1
       (record { sent = refl; acked = omega arith; taken = omega arith; told = says.rising }))
   ready_any Free way n t nr r k e = self_any Free r way k (subst (λ w. Below w Free) (same_Some Free r e) tt)
+  ready_any s way n t nr r k e = absurd (none-some r e)
 
   sent_any : (s r : Stand) (way : List Frame) (x : Frame) (n t : ℕ) → Covers u v (At s) way → sends_as n t s way x ≡ Some r
       → IsAny (At r) way

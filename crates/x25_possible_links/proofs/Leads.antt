@@ -1,21 +1,11 @@
 -- What an end makes the best of at once.
-use Rattle.std.proofs.Common.{◌≡◌, inl, inr, refl, sym, ap, subst, ◌∙◌, Some, None, Bool, true, false, List, [], ◌∷◌, ◌++◌, ℕ}
-use Rattle.std.proofs.Common.{◌||◌, not, ◌<◌, ◌≤◌, arith, if◌then◌else◌, length, suc}
-use Rattle.std.proofs.lemmas.Bool.{both_ways, cond_both}
-use Rattle.std.proofs.lemmas.Option.{none-some, same_Some, cond_some}
-use Rattle.x25_possible.specs.laws.Possible.{IsIn, at}
-use Rattle.x25_possible_links.specs.laws.Link.{State, At, Owes, MayTake, passes, hears, begins, owes, fresh, owed, is_asking, has_ua, may_answer}
-use Rattle.x25_possible_links.specs.laws.Link.{may_count, counts, declines, heard}
-use Rattle.x25_possible_links.specs.laws.Places.{number_of, least_of, sends, onward, is_plain, settled}
-use Rattle.x25_possible_links.specs.code.Steps.{is_lost, pressed, rushed}
-use Rattle.x25_possible_links.specs.declared.frame.Frame.{Frame}
-use Rattle.x25_possible_links.specs.declared.frame.Frame.TheVariants.{Info, Ready, Sabm, Disc, Ua, Dm, Frmr, Unread}
-use Rattle.x25_possible_links.specs.declared.stand.Numbers.{Numbers}
-use Rattle.x25_possible_links.specs.declared.stand.Stand.{Stand}
-use Rattle.x25_possible_links.specs.declared.stand.Stand.TheVariants.{Out, Asking, Up, Free}
-use Rattle.x25_possible_links.proofs.Stands.{Below, below_self, below_free, below_on, heard_below, onward_up, onward_both, counts_more}
+use Rattle.x25_possible_links.proofs.Names.{◌≡◌, inl, inr, refl, sym, ap, subst, ◌∙◌, Some, None, Bool, true, false, List, [], ◌∷◌, ◌++◌, ℕ, ◌||◌, not, ◌<◌}
+use Rattle.x25_possible_links.proofs.Names.{◌≤◌, arith, if◌then◌else◌, length, suc, both_ways, cond_both, none-some, same_Some, cond_some, IsIn, at, State, At}
+use Rattle.x25_possible_links.proofs.Names.{Owes, MayTake, passes, hears, begins, owes, fresh, owed, is_asking, has_ua, may_answer, may_count, counts, declines}
+use Rattle.x25_possible_links.proofs.Names.{heard, number_of, least_of, sends, onward, is_plain, settled, is_lost, pressed, rushed, Frame, Info, Ready, Sabm}
 use Rattle.x25_possible_links.proofs.Covers.{Covers, Here, Asked, Later, Begins, covers_more, covers_takes, covers_shown, owes_take_nothing as takes_at}
-use Rattle.x25_possible_links.proofs.Sends.{asked_more, counted_at, swaps}
+use Rattle.x25_possible_links.proofs.{Names.{Disc, Ua, Dm, Frmr, Unread, Numbers, Stand, Out, Asking, Up, Free}, Sends.{asked_more, counted_at, swaps}}
+use Rattle.x25_possible_links.proofs.Stands.{Below, below_self, below_free, below_on, heard_below, onward_up, onward_both, counts_more}
 
 -- by what it makes the best of at once it comes from one place to another
 pub data Leads : Stand → List Frame → Stand → List Frame → Type 0 where
@@ -127,8 +117,7 @@ stays_at u v r t way b k = record { good = t; below = b; stand = t; end = way; l
 below_heard : (k : Numbers) (x : Frame) (h t : Bool) (u : Stand) → Below (Up k) u → Below (Up (heard h t k x)) (onward u x)
 below_heard k x h t (Up j) b = heard_below h t k j x b
 below_heard k x h t Free b = tt
-below_heard k x h t Out b = absurd b
-below_heard k x h t Asking b = absurd b
+below_heard k x h t u b = absurd b
 
 -- the best that the better stand makes of it
 takes_stay : (u : Stand) (v : List Frame) (s : Stand) (r : State) (t : Stand) (x : Frame) (way : List Frame) → Below s t
@@ -143,10 +132,9 @@ takes_stay u v _ _ Asking _ way b k (begins x a) =
     stays_at u v fresh fresh way (below_self fresh) (covers_takes u v (At Asking) (At fresh) x way k (begins x a))
 takes_stay u v _ _ Free _ way b k (begins x a) =
     stays_at u v fresh Free way tt (covers_takes u v (At Free) (At Free) x way k (passes Free x))
-takes_stay u v _ _ Out _ way b k (begins x a) = absurd b
-takes_stay u v _ _ (Up j) _ way b k (begins x a) = absurd b
 takes_stay u v _ _ t _ way b k (owes s r x is) =
     covers_takes u v (At t) (Owes r) x way k (owes t r x (owed_more s t r x b is))
+takes_stay u v _ _ t _ way b k (begins x a) = absurd b
 
 plain_free : (x : Frame) → is_plain Free x ≡ true → may_answer x ≡ true → ⊥
 plain_free Ua e a = both_ways false refl e
@@ -167,9 +155,8 @@ takes_step u v _ _ t _ way c end b e l k (hears i x h g) =
     record { good = onward t x; below = below_heard i x h g t b; stand = c; end = end; leads = l; covers = k }
 takes_step u v _ _ Asking _ way c end b e l k (begins x a) = absurd (plain_not_answer x e a)
 takes_step u v _ _ Free _ way c end b e l k (begins x a) = absurd (plain_free x e a)
-takes_step u v _ _ Out _ way c end b e l k (begins x a) = absurd b
-takes_step u v _ _ (Up j) _ way c end b e l k (begins x a) = absurd b
 takes_step u v _ _ t _ way c end b e l k (owes s r x is) = absurd (plain_not_owed t s r x e is)
+takes_step u v _ _ t _ way c end b e l k (begins x a) = absurd b
 
 abbrev pub front_of : Frame → List Frame → Frame
 front_of d [] = d
@@ -214,9 +201,7 @@ plain_out u Dm e = refl
 plain_out u Frmr e = refl
 plain_out u Ua e = refl
 plain_out Out y e = e
-plain_out Asking y e = absurd (both_ways false refl e)
-plain_out (Up k) y e = absurd (both_ways false refl e)
-plain_out Free y e = absurd (both_ways false refl e)
+plain_out u y e = absurd (both_ways false refl e)
 
 is_ua' : Frame → Type 0
 is_ua' Ua = Unit {0}
@@ -229,10 +214,8 @@ plain_asking u (Ready nr) other e = refl
 plain_asking u Dm other e = refl
 plain_asking u Frmr other e = refl
 plain_asking u Ua other e = absurd (other tt)
-plain_asking Out y other e = absurd (both_ways false refl e)
 plain_asking Asking y other e = e
-plain_asking (Up k) y other e = absurd (both_ways false refl e)
-plain_asking Free y other e = absurd (both_ways false refl e)
+plain_asking u y other e = absurd (both_ways false refl e)
 
 plain_below : (t u : Stand) (x : Frame) → Below t u → is_plain u x ≡ true → is_plain t x ≡ true
 plain_below Out u x b e = plain_out u x e
@@ -264,8 +247,6 @@ Commutes u y way x r = (sends (onward u y) way x ≡ Some (onward r y)) × (is_p
 counts_commute : (u : Stand) (y : Frame) (x : Frame) (r : Stand) → is_plain u y ≡ true
     → counts (number_of u x) (least_of u x) u x ≡ Some r
     → (counts (number_of (onward u y) x) (least_of (onward u y) x) (onward u y) x ≡ Some (onward r y)) × (is_plain r y ≡ true)
-counts_commute Out y x r p e = absurd (none-some r e)
-counts_commute Asking y x r p e = absurd (none-some r e)
 counts_commute Free y x r p e =
     subst (λ w. (Some Free ≡ Some (onward w y)) × (is_plain w y ≡ true)) (same_Some Free r e) (refl, p)
 counts_commute (Up j) y x r p e =
@@ -275,12 +256,11 @@ counts_commute (Up j) y x r p e =
     let is = (cond_some (may_count (number_of (Up i) x) (least_of (Up i) x) i x) (Up (counted_at i x)) more.0 more.1).1 in
     subst (λ w. (counts (number_of (Up i) x) (least_of (Up i) x) (Up i) x ≡ Some (onward w y)) × (is_plain w y ≡ true)) parts.1
     (more.1 ∙ ap Some (sym is) ∙ ap (λ k. Some (Up k)) (swaps j x y), plain_up j (counted_at j x) y p)
+counts_commute u y x r p e = absurd (none-some r e)
 
 asking_onward : (u : Stand) (y : Frame) → is_asking (onward u y) ≡ is_asking u
 asking_onward Out y = refl
-asking_onward Asking y = refl
-asking_onward (Up k) y = refl
-asking_onward Free y = refl
+asking_onward u y = refl
 
 no_ua_behind : (a b c : Bool) → (a || not (b || c)) ≡ true → (a || not c) ≡ true
 no_ua_behind true b c h = refl
@@ -309,10 +289,8 @@ asks_commute u y way r p e =
 
 declines_plain : (u : Stand) (y : Frame) → is_plain u y ≡ true
     → (declines (onward u y) ≡ onward (declines u) y) × (is_plain (declines u) y ≡ true)
-declines_plain Out y p = (refl, p)
-declines_plain Asking y p = (refl, p)
 declines_plain (Up k) y p = (refl, plain_out (Up k) y p)
-declines_plain Free y p = (refl, p)
+declines_plain u y p = (refl, p)
 
 commutes : (u : Stand) (y : Frame) (way : List Frame) (x : Frame) (r : Stand) → is_plain u y ≡ true → sends u (y ∷ way) x ≡ Some r
     → Commutes u y way x r
@@ -401,11 +379,9 @@ holds_settled (x ∷ v) u s way h = go (is_plain u x) refl (holds_settled v (onw
 
 module _ (v : List Frame) (s : State) (end : List Frame) where
   presses : (u : Stand) (x : Frame) → Covers (onward u x) v s end → Covers (pressed u x) v s end
-  presses Out x k = k
   presses Asking x k =
       cond_both (may_answer x) Free Asking (λ w. Covers w v s end) (λ _. covers_more Asking Free v s end k tt) (λ _. k)
-  presses (Up j) x k = k
-  presses Free x k = k
+  presses u x k = k
 
   presses_begun : (x : Frame) → may_answer x ≡ true → Covers fresh v s end → Covers (pressed Asking x) v s end
   presses_begun x a k = subst (λ b. Covers (if b then Free else Asking) v s end) (sym a) (covers_more fresh Free v s end k tt)

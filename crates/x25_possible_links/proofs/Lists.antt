@@ -1,6 +1,5 @@
 -- What is in a list.
-use Rattle.std.proofs.Common.{◌≡◌, ◌⊎◌, inl, inr, List, [], ◌∷◌, ◌++◌, flat_map, map, refl, ap, subst}
-use Rattle.x25_possible.specs.laws.Possible.{IsIn}
+use Rattle.x25_possible_links.proofs.Names.{◌≡◌, ◌⊎◌, inl, inr, List, [], ◌∷◌, ◌++◌, flat_map, map, refl, ap, subst, IsIn}
 
 pub in_left : {X : Type 0} (xs ys : List X) (x : X) → IsIn x xs → IsIn x (xs ++ ys)
 in_left [] ys x h = absurd h

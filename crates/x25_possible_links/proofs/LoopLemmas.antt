@@ -1,17 +1,9 @@
 -- Loops over a list of places, one by one.
-use Rattle.std.proofs.Common.{Bool, true, false, ◌≡◌, ℕ, suc, ◌+◌, ◌<◌, ◌≤◌, nat_lt, if◌then◌else◌}
-use Rattle.std.proofs.Common.{List, [], ◌∷◌, drop, length, get_or, map, set, sym, ap, ◌∙◌, Option, Some, None, arith, refl, zero}
-use Rattle.std.proofs.Common.{drop_of_length-le}
-use Rattle.std.proofs.Math.Seq.{drop-cons}
-use Rattle.std.proofs.lemmas.Bool.{ltb-true}
-use Rattle.x25_possible_links.specs.laws.Places.{is_plain, onward, upward}
-use Rattle.x25_possible_links.specs.code.Steps.{all_of, and_then, come, each_of, first_of, goes, gone, is_large, is_lost, least, made, moves}
-use Rattle.x25_possible_links.specs.code.Steps.{passed, pressed, rushed, best, settles, spot_at, with_first}
-use Rattle.x25_possible_links.specs.declared.frame.Frame.{Frame}
-use Rattle.x25_possible_links.specs.declared.link.Mode.{Mode}
-use Rattle.x25_possible_links.specs.declared.spots.Spot.{Spot}
-use Rattle.x25_possible_links.specs.declared.stand.Stand.{Stand}
-use Rattle.x25_possible_links.specs.declared.stand.Stand.TheVariants.{Free}
+use Rattle.x25_possible_links.proofs.Names.{Bool, true, false, ◌≡◌, ℕ, suc, ◌+◌, ◌<◌, ◌≤◌, nat_lt, if◌then◌else◌, List, [], ◌∷◌, drop, length, get_or, map, sym}
+use Rattle.x25_possible_links.proofs.Names.{ap, ◌∙◌, Option, Some, None, arith, refl, ltb-true, is_plain, onward, upward, all_of, and_then, each_of, first_of}
+use Rattle.x25_possible_links.proofs.Names.{goes, is_large, is_lost, least, pressed, rushed, best, settles, spot_at, with_first, Frame, Spot, Stand, Free}
+use Rattle.std.proofs.{Common.{set, zero, drop_of_length-le}, Math.Seq.{drop-cons}}
+use Rattle.x25_possible_links.specs.{code.Steps.{come, gone, made, moves, passed}, declared.link.Mode.{Mode}}
 
 -- the one that is looked at, and the rest
 pub here : {X : Type 0} (xs : List X) (i : ℕ) (d : X) → i < length xs → drop i xs ≡ get_or xs i d ∷ drop (i + 1) xs

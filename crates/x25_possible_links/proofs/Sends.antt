@@ -1,19 +1,11 @@
 -- What an end sends, of the places that it may be in.
-use Rattle.std.proofs.Common.{◌≡◌, inl, inr, refl, sym, ap, subst, ◌∙◌, Option, Some, None, Bool, true, false, List, [], ◌∷◌, ℕ, length}
-use Rattle.std.proofs.Common.{◌||◌, not, ◌≤◌, arith, if◌then◌else◌}
-use Rattle.std.proofs.lemmas.Bool.{both_ways}
-use Rattle.std.proofs.lemmas.Option.{none-some, same_Some, cond_some}
-use Rattle.x25_possible.specs.laws.Possible.{IsIn, Place, at}
-use Rattle.x25_possible_links.specs.laws.Link.{State, At, Owes, fresh, asked, owed, is_asking, has_ua, may_answer}
-use Rattle.x25_possible_links.specs.laws.Link.{counted, may_count, counts, declines, heard, sends_as}
-use Rattle.x25_possible_links.specs.laws.Places.{number_of, least_of, sends, onward, upward, first, goes, answered, answers}
-use Rattle.x25_possible_links.specs.declared.frame.Frame.{Frame}
-use Rattle.x25_possible_links.specs.declared.frame.Frame.TheVariants.{Info, Ready, Sabm, Disc, Dm, Frmr, Unread, Before}
-use Rattle.x25_possible_links.specs.declared.stand.Numbers.{Numbers}
-use Rattle.x25_possible_links.specs.declared.stand.Stand.{Stand}
-use Rattle.x25_possible_links.specs.declared.stand.Stand.TheVariants.{Out, Asking, Up, Free}
+use Rattle.x25_possible_links.proofs.Names.{◌≡◌, inl, inr, refl, sym, ap, subst, ◌∙◌, Option, Some, None, Bool, true, false, List, [], ◌∷◌, ℕ, length, ◌||◌}
+use Rattle.x25_possible_links.proofs.Names.{not, ◌≤◌, arith, if◌then◌else◌, both_ways, none-some, same_Some, cond_some, IsIn, Place, at, State, At, Owes, fresh}
+use Rattle.x25_possible_links.proofs.Names.{owed, is_asking, has_ua, may_answer, counted, may_count, counts, declines, heard, sends_as, number_of, least_of}
+use Rattle.x25_possible_links.proofs.Names.{sends, onward, upward, first, Frame, Info, Ready, Sabm, Disc, Dm, Frmr, Unread, Before, Numbers, Stand, Out, Asking}
+use Rattle.x25_possible_links.proofs.{Covers.{Covers, Here, Asked, Later, Begins, covers_over, covers_more}, Names.{Up, Free}}
 use Rattle.x25_possible_links.proofs.Stands.{Below, below_self, below_free, onward_up, onward_both, declines_both, sends_more, counts_more}
-use Rattle.x25_possible_links.proofs.Covers.{Covers, Here, Asked, Later, Begins, covers_over, covers_more}
+use Rattle.x25_possible_links.specs.laws.{Link.{asked}, Places.{goes, answered, answers}}
 
 -- a place of the run is covered by one of these
 abbrev pub IsCovered : List (Place Stand Frame) → State → List Frame → Type 0
@@ -22,10 +14,9 @@ IsCovered qs s way = (q : Place Stand Frame) × IsIn q qs × Covers q.state q.wa
 -- ---- frames with numbers
 
 counts_not : (n t : ℕ) (s : Stand) (x : Frame) (r : Stand) → Below s Asking → counts n t s x ≡ Some r → ⊥
-counts_not n t Out x r b h = none-some r h
-counts_not n t Asking x r b h = none-some r h
 counts_not n t (Up k) x r b h = b
 counts_not n t Free x r b h = b
+counts_not n t s x r b h = none-some r h
 
 -- one that awaits UA sends these in a session alone, and may as well begin it at once
 begins_at_once : (u : Stand) (v : List Frame) (s : Stand) (way : List Frame) (n t : ℕ) (x : Frame) (r : Stand) → Below u Asking
@@ -96,9 +87,7 @@ below_out s c b = absurd b
 
 declines_onward : (u : Stand) (x : Frame) → declines (onward u x) ≡ declines u
 declines_onward Out x = refl
-declines_onward Asking x = refl
-declines_onward (Up k) x = refl
-declines_onward Free x = refl
+declines_onward u x = refl
 
 declines_covered : (u : Stand) (v : List Frame) (s : Stand) (way : List Frame) → Covers u v (At s) way → Below (declines s) (declines u)
 declines_covered _ _ _ way (Here s u _ b) = declines_both s u b
@@ -108,14 +97,13 @@ declines_covered _ _ _ way (Begins x v (At s) _ a k) = below_out (declines s) As
 
 found_count : (u : Stand) (v : List Frame) (s : Stand) (way : List Frame) (n t : ℕ) (x : Frame) (r c : Stand)
     → counts (number_of u x) (least_of u x) u x ≡ Some c → counts n t s x ≡ Some r → Covers u v (At s) way → Covers c v (At r) way
-found_count Out v s way n t x r c e h k = absurd (none-some c e)
-found_count Asking v s way n t x r c e h k = absurd (none-some c e)
 found_count (Up j) v s way n t x r c e h k =
     subst (λ w. Covers w v (At r) way)
     (cond_some (may_count (number_of (Up j) x) (least_of (Up j) x) j x) (Up (counted_at j x)) c e).1
     (up_counts (Up j) j v s way n t x r refl h k)
 found_count Free v s way n t x r c e h k =
     subst (λ w. Covers w v (At r) way) (same_Some Free c e) (covers_over Free Free v (At s) way r k (below_free r))
+found_count u v s way n t x r c e h k = absurd (none-some c e)
 
 found : (u : Stand) (v : List Frame) (s : Stand) (way : List Frame) (n t : ℕ) (x : Frame) (r c : Stand) → sends u v x ≡ Some c
     → sends_as n t s way x ≡ Some r → Covers u v (At s) way → Covers c v (At r) way
@@ -146,9 +134,6 @@ here_may s u way n t x r b h e = let more = sends_more n t s u way x r b h in no
 -- where it may not send the frame yet, it goes on to where it may
 goes_on : (u : Stand) (y : Frame) (v : List Frame) (s : Stand) (way : List Frame) (n t : ℕ) (x : Frame) (r : Stand)
     → sends u (y ∷ v) x ≡ None → sends_as n t s way x ≡ Some r → Covers (onward u y) v (At s) way → Covers (upward u y) v (At s) way
-goes_on Out y v s way n t x r e h k = k
-goes_on (Up j) y v s way n t x r e h k = k
-goes_on Free y v s way n t x r e h k = k
 goes_on Asking y v s way n t x r e h k = go (may_answer y)
   where
     numbered : (x : Frame) → sends Asking (y ∷ v) x ≡ None → sends_as n t s way x ≡ Some r → Covers fresh v (At s) way
@@ -164,6 +149,7 @@ goes_on Asking y v s way n t x r e h k = go (may_answer y)
     go : (b : Bool) → Covers (if b then fresh else Asking) v (At s) way
     go true = numbered x e h
     go false = k
+goes_on u y v s way n t x r e h k = k
 
 past : (u : Stand) (y : Frame) (v : List Frame) (s : Stand) (way : List Frame) (n t : ℕ) (x : Frame) (r : Stand)
     → sends u (y ∷ v) x ≡ None → sends_as n t s way x ≡ Some r → Covers u (y ∷ v) (At s) way → Covers (upward u y) v (At s) way
@@ -213,9 +199,7 @@ asked_more _ _ r b is = absurd b
 
 asked_onward : (u : Stand) (x : Frame) → asked (onward u x) ≡ asked u
 asked_onward Out x = refl
-asked_onward Asking x = refl
-asked_onward (Up k) x = refl
-asked_onward Free x = refl
+asked_onward u x = refl
 
 owed_asked : (s r : Stand) (x : Frame) → IsIn r (owed s x) → IsIn r (asked s)
 owed_asked s r Unread is = is
@@ -310,10 +294,8 @@ answers_up k j (Disc ∷ v) = ap (λ qs. at Out v ∷ qs) (answers_up k j v)
 answers_up k j (x ∷ v) = answers_up k j v
 
 answers_onward : (u : Stand) (x : Frame) (v : List Frame) → answers (onward u x) v ≡ answers u v
-answers_onward Out x v = refl
-answers_onward Asking x v = refl
 answers_onward (Up k) x v = answers_up (heard true true k x) k v
-answers_onward Free x v = refl
+answers_onward u x v = refl
 
 in_asking : (v : List Frame) (q : Place Stand Frame) → IsIn q (answers fresh v) → IsIn q (answers Asking v)
 in_asking [] q is = is

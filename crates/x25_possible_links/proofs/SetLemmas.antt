@@ -1,21 +1,11 @@
 -- What a set of places tells over a tape.
-use Rattle.std.proofs.Common.{Bool, true, false, ◌≡◌, ◌⊎◌, inl, inr, ◌<◌, ◌==◌, List, [], ◌∷◌, ◌++◌, drop, length, refl, sym, ap, subst}
-use Rattle.std.proofs.lemmas.Bool.{both_ways}
-use Rattle.x25_possible.specs.laws.Possible.{IsIn, Item, Own, Other, Place, Stands, Begins, Sends, Shows, Takes}
-use Rattle.x25_possible_links.specs.laws.Link.{State, At, MaySend, link_rules}
-use Rattle.x25_possible_links.specs.laws.Places.{onward, settle, walks}
+use Rattle.x25_possible_links.proofs.Names.{Bool, true, false, ◌≡◌, ◌⊎◌, inl, inr, ◌<◌, ◌==◌, List, [], ◌∷◌, ◌++◌, drop, length, refl, sym, ap, subst}
+use Rattle.x25_possible_links.proofs.Names.{both_ways, IsIn, Place, State, At, MaySend, onward, settle, sends_to, shows_to, spot_at, Frame, LinkSet, Stand}
+use Rattle.x25_possible.specs.laws.Possible.{Item, Own, Other, Stands, Begins, Sends, Shows, Takes}
+use Rattle.x25_possible_links.proofs.{Alike.{AllAre, sent_all, shown_all}, Covering.{blind_sends, blind_shows, Has, has_sent, has_shown, has_taken, is_untold}}
+use Rattle.x25_possible_links.proofs.{Covers.{Here}, Exactly.{settled_stand, walks_stand}, Leads.{HoldsAt, onward_may, stays_at}, Lists.{in_map, from_map}}
+use Rattle.x25_possible_links.{proofs.Stands.{below_self}, specs.code.Steps.{begun_as, played}, specs.laws.Link.{link_rules}, specs.laws.Places.{walks}}
 use Rattle.x25_possible_links.specs.laws.Sets.{GuiltyAreTold, InnocentsStayUntold, IsRoomy, IsTimely}
-use Rattle.x25_possible_links.specs.code.Steps.{begun_as, played, sends_to, shows_to, spot_at}
-use Rattle.x25_possible_links.specs.declared.frame.Frame.{Frame}
-use Rattle.x25_possible_links.specs.declared.set.LinkSet.{LinkSet}
-use Rattle.x25_possible_links.specs.declared.stand.Stand.{Stand}
-use Rattle.x25_possible_links.proofs.Alike.{AllAre, sent_all, shown_all}
-use Rattle.x25_possible_links.proofs.Covering.{blind_sends, blind_shows, Has, has_sent, has_shown, has_taken, is_untold}
-use Rattle.x25_possible_links.proofs.Stands.{below_self}
-use Rattle.x25_possible_links.proofs.Covers.{Here}
-use Rattle.x25_possible_links.proofs.Leads.{HoldsAt, onward_may, stays_at}
-use Rattle.x25_possible_links.proofs.Exactly.{settled_stand, walks_stand}
-use Rattle.x25_possible_links.proofs.Lists.{in_map, from_map}
 
 -- ---- items of a tape
 

@@ -1,17 +1,11 @@
 -- Which stands of an end may do all that another may.
-use Rattle.std.proofs.Common.{◌≡◌, refl, sym, ap, ap₂, subst, ◌∙◌, Option, Some, None, Bool, true, false, List, ℕ}
-use Rattle.std.proofs.Common.{◌+◌, ◌-◌, ◌%◌, ◌≤◌, ◌<◌, arith, nat_le, nat_lt, ◌==◌, ◌&&◌, ◌||◌, not, if◌then◌else◌}
-use Rattle.std.proofs.lemmas.Bool.{both_ways, and_parts, and_from, eqb-true, leb-true, ltb-true, ltb-false, eq-eqb, le-leb, lt-ltb}
-use Rattle.std.proofs.lemmas.Option.{none-some, same_Some, cond_some}
+use Rattle.x25_possible_links.proofs.Names.{◌≡◌, refl, sym, ap, subst, ◌∙◌, Option, Some, None, Bool, true, false, List, ℕ, ◌+◌, ◌-◌, ◌≤◌, ◌<◌, arith, nat_le}
+use Rattle.x25_possible_links.proofs.Names.{nat_lt, ◌==◌, ◌&&◌, ◌||◌, not, if◌then◌else◌, both_ways, and_parts, eqb-true, leb-true, ltb-true, lt-ltb, none-some}
+use Rattle.x25_possible_links.proofs.Names.{same_Some, cond_some, may_acknowledge, may_number, told_to, counted, may_count, is_asking, has_ua, declines, counts}
+use Rattle.x25_possible_links.proofs.Names.{sends_as, heard, number_of, least_of, sends, onward, Frame, Info, Ready, Sabm, Disc, Dm, Frmr, Unread, Numbers}
+use Rattle.std.proofs.{Common.{ap₂, ◌%◌}, lemmas.Bool.{and_from, ltb-false, eq-eqb, le-leb}}
 use Rattle.x25_possible.specs.Channel.{nth}
-use Rattle.x25_possible_links.specs.laws.Link.{may_acknowledge, may_number, told_to, sent_to, counted, may_count, is_asking, has_ua}
-use Rattle.x25_possible_links.specs.laws.Link.{asks, declines, counts, sends_as, heard}
-use Rattle.x25_possible_links.specs.laws.Places.{number_of, least_of, sends, onward}
-use Rattle.x25_possible_links.specs.declared.frame.Frame.{Frame}
-use Rattle.x25_possible_links.specs.declared.frame.Frame.TheVariants.{Info, Ready, Sabm, Disc, Dm, Frmr, Unread}
-use Rattle.x25_possible_links.specs.declared.stand.Numbers.{Numbers}
-use Rattle.x25_possible_links.specs.declared.stand.Stand.{Stand}
-use Rattle.x25_possible_links.specs.declared.stand.Stand.TheVariants.{Out, Asking, Up, Free}
+use Rattle.x25_possible_links.{proofs.Names.{Stand, Out, Asking, Up, Free}, specs.laws.Link.{sent_to, asks}}
 
 -- the same numbers, but that more was heard and taken, and less was said
 pub record AreBelow (k j : Numbers) : Type 0 where
@@ -38,16 +32,12 @@ are_below_on k j i a b = record {
 }
 
 pub below_self : (s : Stand) → Below s s
-below_self Out = tt
-below_self Asking = tt
 below_self (Up k) = record { sent = refl; acked = omega arith; taken = omega arith; told = omega arith }
-below_self Free = tt
+below_self s = tt
 
 pub below_free : (s : Stand) → Below s Free
 below_free Out = tt
-below_free Asking = tt
-below_free (Up k) = tt
-below_free Free = tt
+below_free s = tt
 
 free_below : (s v : Stand) → Below Free v → Below s v
 free_below s Free h = below_free s
@@ -143,16 +133,12 @@ heard_below h t k j x b = b
 
 pub heard_none : (k : Numbers) (x : Frame) → heard false false k x ≡ k
 heard_none k (Info ns nr differs) = refl
-heard_none k (Ready nr) = refl
-heard_none k Unread = refl
 heard_none k x = refl
 
 pub onward_up : (s : Stand) (x : Frame) → Below s (onward s x)
-onward_up Out x = tt
-onward_up Asking x = tt
 onward_up (Up k) x =
     subst (λ j. AreBelow j (heard true true k x)) (heard_none k x) (heard_below false false k k x (below_self (Up k)))
-onward_up Free x = tt
+onward_up s x = tt
 
 pub onward_both : (s u : Stand) (x : Frame) → Below s u → Below (onward s x) (onward u x)
 onward_both Out u x b = tt
@@ -330,10 +316,9 @@ counts_more n t _ _ x r b h = absurd b
 asking_too : (s u : Stand) → Below s u → is_asking s ≡ true → is_asking u ≡ true
 asking_too Asking Asking b h = refl
 asking_too s Free b h = refl
-asking_too Out u b h = absurd (both_ways false refl h)
-asking_too (Up k) u b h = absurd (both_ways false refl h)
 asking_too Asking _ b h = absurd b
 asking_too Free _ b h = absurd b
+asking_too s u b h = absurd (both_ways false refl h)
 
 asks_by : (a c q : Bool) → (a ≡ true → c ≡ true) → (a || q) ≡ true → (c || q) ≡ true
 asks_by true c q more h = ap (λ e. e || q) (more refl)

@@ -1,28 +1,14 @@
 -- Lists of places, as their definition has them, and the places that are told by.
-use Rattle.std.proofs.Common.{Bool, true, false, ◌≡◌, ◌⊎◌, inl, inr, ℕ, zero, suc, ◌+◌, ◌-◌, ◌≤◌, ◌==◌, ◌&&◌, ◌||◌, nat_le}
-use Rattle.std.proofs.Common.{List, [], ◌∷◌, ◌++◌, map, drop, length, refl, sym, ap, subst, ◌∙◌, Option, Some, None, arith}
-use Rattle.std.proofs.Common.{flat_map, if◌then◌else◌}
-use Rattle.std.proofs.lemmas.Bool.{and_parts, both_ways, eqb-true, leb-true}
-use Rattle.std.proofs.lemmas.List.{drop-drop}
-use Rattle.std.proofs.Math.Seq.{drop-nil}
-use Rattle.std.proofs.lemmas.Option.{none-some, same_Some}
-use Rattle.x25_possible.specs.laws.Possible.{Place, at, IsIn}
-use Rattle.x25_possible_links.specs.laws.Link.{State, At, Owes, fresh, is_asking}
-use Rattle.x25_possible_links.specs.laws.Places.{is_plain, onward, upward, sends, settled, settle, first}
-use Rattle.x25_possible_links.specs.laws.Places as place
-use Rattle.x25_possible_links.specs.code.Steps.{all_of, and_then, answered, answers, any, best, each_of, first_of, goes, is_below}
-use Rattle.x25_possible_links.specs.code.Steps.{is_covered, is_large, kept, kept_by, numbers_below, settles, spot_at, walks, with_first}
-use Rattle.x25_possible_links.specs.declared.frame.Frame.{Frame}
-use Rattle.x25_possible_links.specs.declared.frame.Frame.TheVariants.{Info, Ready, Sabm, Disc, Ua, Dm, Frmr, Unread, Before}
-use Rattle.x25_possible_links.specs.declared.link.Mode.TheVariants.{Right}
-use Rattle.x25_possible_links.specs.declared.spots.Spot.{Spot}
-use Rattle.x25_possible_links.specs.declared.stand.Numbers.{Numbers}
-use Rattle.x25_possible_links.specs.declared.stand.Stand.{Stand}
-use Rattle.x25_possible_links.specs.declared.stand.Stand.TheVariants.{Out, Asking, Up, Free}
-use Rattle.x25_possible_links.proofs.Lists.{in_left, in_right, in_either}
+use Rattle.x25_possible_links.proofs.Names.{Bool, true, false, ◌≡◌, ◌⊎◌, inl, inr, ℕ, suc, ◌+◌, ◌-◌, ◌≤◌, ◌==◌, ◌&&◌, ◌||◌, nat_le, List, [], ◌∷◌, ◌++◌, map}
+use Rattle.x25_possible_links.proofs.Names.{drop, length, refl, sym, ap, subst, ◌∙◌, Option, Some, None, arith, flat_map, if◌then◌else◌, and_parts, both_ways}
+use Rattle.x25_possible_links.proofs.Names.{eqb-true, leb-true, none-some, same_Some, Place, at, IsIn, State, At, Owes, fresh, is_asking, is_plain, onward}
+use Rattle.x25_possible_links.proofs.Names.{upward, sends, settled, settle, first, all_of, and_then, best, each_of, first_of, goes, is_large, settles, spot_at}
+use Rattle.x25_possible_links.proofs.Names.{walks, with_first, Frame, Info, Ready, Sabm, Disc, Ua, Dm, Frmr, Unread, Before, Right, Spot, Numbers, Stand, Out}
+use Rattle.std.proofs.{Common.{zero}, Math.Seq.{drop-nil}, lemmas.List.{drop-drop}}
+use Rattle.x25_possible_links.proofs.{Covers.{Covers, Later, covers_more}, Leads.{HoldsAt}, Lists.{in_left, in_right, in_either}, Names.{Asking, Up, Free}}
 use Rattle.x25_possible_links.proofs.Stands.{AreBelow, Below, below_onward}
-use Rattle.x25_possible_links.proofs.Covers.{Covers, Later, covers_more}
-use Rattle.x25_possible_links.proofs.Leads.{HoldsAt}
+use Rattle.x25_possible_links.specs.code.Steps.{answered, answers, any, is_below, is_covered, kept, kept_by, numbers_below}
+use Rattle.x25_possible_links.specs.laws.Places as place
 
 -- ---- one stands for all that another does
 

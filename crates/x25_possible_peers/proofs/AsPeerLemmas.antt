@@ -1,31 +1,22 @@
 -- The rules of a channel are those of peers, and no more than is named beyond.
-use Rattle.std.proofs.Common.{◌≡◌, ℕ, ◌-◌, ◌^◌, ◌≤◌, Bool, true, false, List, [], ◌∷◌, Some, refl, sym, ap, subst, ◌∙◌}
-use Rattle.std.proofs.lemmas.Nat.{pow_pos}
-use Rattle.std.proofs.lemmas.Option.{cond_some, none-some}
-use Rattle.x25_bits.specs.declared.role.Role.{Role}
-use Rattle.x25_bits.specs.declared.role.Role.TheVariants.{Dte, Dce}
-use Rattle.x25_circuit.specs.Message.{Piece, More, Last}
-use Rattle.x25_circuit.specs.Notice.{CallRequest}
-use Rattle.x25_circuit.specs.Params.{may_propose, may_answer, said_in}
-use Rattle.x25_circuit.specs.declared.params.Params.{Params}
-use Rattle.x25_handshakes.specs.laws.Handshake.{Side, Live, Left, At, live, left}
-use Rattle.x25_handshakes.specs.laws.Stretch as theirs
-use Rattle.x25_handshakes.specs.laws.PeerStretch.{PeerStretch, Deed, Sends as SendsPiece, Says, Interrupts, Confirms, MayDo, does as does_stretch, packet_of}
-use Rattle.x25_handshakes.specs.laws.PeerTransfer.{InStretch, Resets}
-use Rattle.x25_handshakes.specs.laws.PeerCalls.{PeerCall, CallDeed, PlacesCall, AcceptsCall, InTransfer, does_call, call_taking, stands}
-use Rattle.x25_handshakes.specs.laws.PeerChannel.{ChannelDeed, InCall, Clears, MayDoChannel, does_channel, channel_packet_of, channel_taking}
-use Rattle.x25_handshakes.specs.laws.Calls.{Stage, Unused, Waiting, Offered, Crossed, Talking}
+use Rattle.x25_possible_peers.proofs.Names.{◌≡◌, ℕ, ◌-◌, ◌≤◌, Bool, true, false, List, [], ◌∷◌, Some, refl, sym, ap, subst, ◌∙◌, cond_some, none-some, Role}
+use Rattle.x25_possible_peers.proofs.Names.{Dte, Dce, Piece, More, Last, CallRequest, Side, Live, Left, At, PeerStretch, Deed, Says, Interrupts, Confirms}
+use Rattle.x25_possible_peers.proofs.Names.{PeerCall, CallDeed, PlacesCall, AcceptsCall, InTransfer, does_call, call_taking, InCall, Clears, does_channel}
+use Rattle.x25_possible_peers.proofs.Names.{channel_packet_of, channel_taking, Stage, Unused, Waiting, Offered, Crossed, Talking, sends_as, takes, Phase}
+use Rattle.x25_possible_peers.proofs.Names.{item_of, phase_of, stage_phase, transfer_phase, talk_of, limits, IsOfRole, IsTakenSo}
+use Rattle.std.proofs.{Common.{◌^◌}, lemmas.Nat.{pow_pos}}
+use Rattle.x25_circuit.specs.{Params.{may_propose, may_answer, said_in}, declared.params.Params.{Params}}
+use Rattle.x25_handshakes.specs.laws.{Handshake.{live, left}, PeerCalls.{stands}, PeerChannel.{ChannelDeed, MayDoChannel}}
+use Rattle.x25_handshakes.specs.laws.{PeerStretch.{Sends as SendsPiece, MayDo, does as does_stretch, packet_of}, PeerTransfer.{InStretch, Resets}}
 use Rattle.x25_handshakes.specs.laws.Terms.{Terms}
-use Rattle.x25_possible.specs.Channel.{sends_as, takes, ending_sends, fresh}
-use Rattle.x25_possible.specs.declared.packet.Packet.TheVariants as item
-use Rattle.x25_possible.specs.declared.phase.Phase.{Phase}
-use Rattle.x25_possible.specs.declared.phase.Phase.TheVariants as phase
-use Rattle.x25_possible_peers.specs.laws.Peers.{item_of, phase_of, stage_phase, transfer_phase, talk_of, limits, IsOfRole, IsTakenSo}
-use Rattle.x25_possible_peers.specs.laws.AsPeers as as_peers
-use Rattle.x25_possible_peers.specs.laws.AsPeers.{NotClear, End, Stands, Owes, IsAt, IsPeer, IsSized, SendsOn, SendsBeyond, TakesOn, ChannelRulesArePeers}
+use Rattle.x25_possible.specs.Channel.{ending_sends, fresh}
 use Rattle.x25_possible_peers.proofs.PeerLemmas.{channel_sends, channel_takes, accept_sends, stretch_sends as deed_sends}
-use Rattle.x25_possible_peers.proofs.StretchLemmas.{MayDoIt, stretch_sends}
-use Rattle.x25_possible_peers.proofs.TapeLemmas.{does_of_role, takes_of_role}
+use Rattle.x25_possible_peers.proofs.{StretchLemmas.{MayDoIt, stretch_sends}, TapeLemmas.{does_of_role, takes_of_role}}
+use Rattle.x25_possible_peers.specs.laws.AsPeers.{NotClear, End, Stands, Owes, IsAt, IsPeer, IsSized, SendsOn, SendsBeyond, TakesOn, ChannelRulesArePeers}
+use Rattle.x25_handshakes.specs.laws.Stretch as theirs
+use Rattle.x25_possible.specs.declared.packet.Packet.TheVariants as item
+use Rattle.x25_possible.specs.declared.phase.Phase.TheVariants as phase
+use Rattle.x25_possible_peers.specs.laws.AsPeers as as_peers
 
 pub same_some : {X : Type 0} (x u : X) → Some x ≡ Some u → x ≡ u
 same_some x u h = cc

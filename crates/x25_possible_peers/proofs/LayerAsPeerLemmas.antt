@@ -1,27 +1,16 @@
 -- The rules of all channels are those of a peer's packet layer, and no more than is named beyond.
-use Rattle.std.proofs.Common.{◌≡◌, ℕ, ◌==◌, Bool, true, false, [], ◌∷◌, Some, refl, sym, ap, subst, ◌∙◌, if◌then◌else◌}
-use Rattle.std.proofs.lemmas.Bool.{eqb-true, eq-eqb}
-use Rattle.std.proofs.lemmas.Option.{none-some}
-use Rattle.x25_bits.specs.declared.role.Role.{Role}
-use Rattle.x25_circuit.specs.Message.{More, Last}
-use Rattle.x25_handshakes.specs.laws.Handshake.{At}
-use Rattle.x25_handshakes.specs.laws.Layers as layers
-use Rattle.x25_handshakes.specs.laws.Layers.{LayerPacket}
-use Rattle.x25_handshakes.specs.laws.Stretch as theirs
-use Rattle.x25_handshakes.specs.laws.PeerCalls.{PeerCall}
-use Rattle.x25_handshakes.specs.laws.PeerLayer.{PeerChannels, peer_fresh, ready_taking, restarting_taking}
-use Rattle.x25_possible.specs.Channel.{sends_as, takes}
-use Rattle.x25_possible.specs.declared.packet.Packet.TheVariants as item
-use Rattle.x25_possible.specs.declared.phase.Phase.{Phase}
-use Rattle.x25_possible.specs.declared.phase.Phase.TheVariants as phase
-use Rattle.x25_possible_peers.specs.laws.Peers.{item_of}
-use Rattle.x25_possible_peers.specs.laws.LayerPeers.{item_on, comes_on}
-use Rattle.x25_possible_peers.specs.laws.AsPeers.{End, Stands, Owes, IsAt}
-use Rattle.x25_possible_peers.specs.laws.LayerAsPeers as as_peers
-use Rattle.x25_possible_peers.specs.laws.LayerAsPeers.{LayerEnd, Ready, Restarting, OwesRestart, peers, put_end, AreAt, AreTaken, LayerSends, LayerTakes}
-use Rattle.x25_possible_peers.specs.laws.LayerAsPeers.{RestartRulesArePeers}
+use Rattle.x25_possible_peers.proofs.Names.{◌≡◌, ℕ, ◌==◌, Bool, true, false, [], ◌∷◌, Some, refl, sym, ap, subst, ◌∙◌, if◌then◌else◌, eqb-true, eq-eqb}
+use Rattle.x25_possible_peers.proofs.Names.{none-some, Role, More, Last, At, PeerCall, sends_as, takes, Phase, item_of}
+use Rattle.x25_handshakes.specs.laws.{Layers.{LayerPacket}, PeerLayer.{PeerChannels, peer_fresh, ready_taking, restarting_taking}}
 use Rattle.x25_possible_peers.proofs.AsPeerLemmas.{Owed, clear, reset, owes_is, fresh_peer_is, end_goes, on_may, end_takes, on_takes, same_some}
 use Rattle.x25_possible_peers.proofs.LayerTapeLemmas.{in_phase, sends_elsewhere, takes_restart, takes_confirmation, drops}
+use Rattle.x25_possible_peers.specs.laws.{AsPeers.{End, Stands, Owes, IsAt}, LayerAsPeers.{RestartRulesArePeers}, LayerPeers.{item_on, comes_on}}
+use Rattle.x25_possible_peers.specs.laws.LayerAsPeers.{LayerEnd, Ready, Restarting, OwesRestart, peers, put_end, AreAt, AreTaken, LayerSends, LayerTakes}
+use Rattle.x25_handshakes.specs.laws.Layers as layers
+use Rattle.x25_handshakes.specs.laws.Stretch as theirs
+use Rattle.x25_possible.specs.declared.packet.Packet.TheVariants as item
+use Rattle.x25_possible.specs.declared.phase.Phase.TheVariants as phase
+use Rattle.x25_possible_peers.specs.laws.LayerAsPeers as as_peers
 
 -- ---- packets of no channel, or of another
 

@@ -1,32 +1,20 @@
 -- A tape of a peer's packet layer on one channel is one of an end that keeps the rules of a channel.
-use Rattle.std.proofs.Common.{◌≡◌, inl, ℕ, ◌==◌, Bool, true, false, List, [], ◌∷◌, ◌++◌, Some, refl, sym, ap, subst, ◌∙◌, if◌then◌else◌, append_assoc}
-use Rattle.std.proofs.lemmas.{Bool.{eqb-true}, List.{append-nil}}
-use Rattle.x25_bits.specs.declared.role.Role.{Role}
-use Rattle.x25_circuit.specs.Message.{More, Last}
-use Rattle.x25_handshakes.specs.laws.Handshake.{Side, Live, Left, At}
-use Rattle.x25_handshakes.specs.laws.Layers as layers
-use Rattle.x25_handshakes.specs.laws.Layers.{LayerPacket, addressed}
-use Rattle.x25_handshakes.specs.laws.Stretch as theirs
-use Rattle.x25_handshakes.specs.laws.Calls.{Stage, Unused, Waiting, Offered, Crossed, Talking}
-use Rattle.x25_handshakes.specs.laws.PeerStretch.{PeerStretch}
-use Rattle.x25_handshakes.specs.laws.PeerCalls.{PeerCall}
-use Rattle.x25_handshakes.specs.laws.PeerChannel.{does_channel, channel_packet_of, channel_taking}
+use Rattle.x25_possible_peers.proofs.Names.{◌≡◌, inl, ℕ, ◌==◌, Bool, true, false, List, [], ◌∷◌, ◌++◌, Some, refl, sym, ap, subst, ◌∙◌, if◌then◌else◌, eqb-true}
+use Rattle.x25_possible_peers.proofs.Names.{append-nil, Role, More, Last, Side, Live, Left, At, Stage, Unused, Waiting, Offered, Crossed, Talking, PeerStretch}
+use Rattle.x25_possible_peers.proofs.Names.{PeerCall, does_channel, channel_packet_of, channel_taking, sends_as, takes, Item, Stands, Limits, Phase, item_of}
+use Rattle.std.proofs.Common.{append_assoc}
+use Rattle.x25_handshakes.specs.laws.{Layers.{LayerPacket, addressed}, PeerLayer.{ready_taking}, PeerLayers.{AreElsewhere}}
 use Rattle.x25_handshakes.specs.laws.PeerLayer.{PeerChannels, put_peer, LayerDeed, InChannel, Restarts, MayDoLayer, does_layer, layer_packet_of, layer_taking}
-use Rattle.x25_handshakes.specs.laws.PeerLayer.{ready_taking}
-use Rattle.x25_handshakes.specs.laws.PeerLayers.{AreElsewhere}
-use Rattle.x25_possible.specs.Channel.{channel_rules, sends_as, takes}
-use Rattle.x25_possible.specs.laws.Possible.{Item, Own, Stands}
-use Rattle.x25_possible.specs.laws.Possible.{Begins as RunBegins, Sends as RunSends, Shows as RunShows, Takes as RunTakes}
-use Rattle.x25_possible.specs.declared.packet.Packet.{Packet}
-use Rattle.x25_possible.specs.declared.packet.Packet.TheVariants as item
-use Rattle.x25_possible.specs.declared.phase.Limits.{Limits}
-use Rattle.x25_possible.specs.declared.phase.Phase.{Phase}
-use Rattle.x25_possible.specs.declared.phase.Phase.TheVariants as phase
-use Rattle.x25_possible_peers.specs.laws.Peers.{item_of, phase_of, stage_phase, transfer_phase, limits, IsOfRole, confirmed}
+use Rattle.x25_possible.specs.{Channel.{channel_rules}, declared.packet.Packet.{Packet}}
+use Rattle.x25_possible.specs.laws.Possible.{Own, Begins as RunBegins, Sends as RunSends, Shows as RunShows, Takes as RunTakes}
+use Rattle.x25_possible_peers.proofs.{Names.{phase_of, stage_phase, transfer_phase, limits, IsOfRole}, PeerLemmas.{channel_sends, channel_takes}}
+use Rattle.x25_possible_peers.{proofs.TapeLemmas.{does_of_role, takes_of_role, fresh_of_role, taken_so}, specs.laws.LayerPeers.{HearsChannel}}
 use Rattle.x25_possible_peers.specs.laws.LayerPeers.{phase_on, item_on, confirmed_on, comes_on, way_on, shown_on, LayerStands, Begins, Does, Shown, Hears}
-use Rattle.x25_possible_peers.specs.laws.LayerPeers.{HearsChannel}
-use Rattle.x25_possible_peers.proofs.PeerLemmas.{channel_sends, channel_takes}
-use Rattle.x25_possible_peers.proofs.TapeLemmas.{does_of_role, takes_of_role, fresh_of_role, taken_so}
+use Rattle.x25_possible_peers.specs.laws.Peers.{confirmed}
+use Rattle.x25_handshakes.specs.laws.Layers as layers
+use Rattle.x25_handshakes.specs.laws.Stretch as theirs
+use Rattle.x25_possible.specs.declared.packet.Packet.TheVariants as item
+use Rattle.x25_possible.specs.declared.phase.Phase.TheVariants as phase
 
 -- ---- in each phase of a channel
 

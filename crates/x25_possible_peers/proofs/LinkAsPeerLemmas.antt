@@ -1,30 +1,21 @@
 -- The rules of a link are those of peers, and no more than is named beyond.
-use Rattle.std.proofs.Common.{◌≡◌, ◌⊎◌, inl, inr, ℕ, suc, ◌+◌, ◌-◌, ◌%◌, ◌≤◌, ◌==◌, Bool, true, false, not, ◌&&◌, ◌||◌, List, [], ◌∷◌, ◌++◌, Option, Some, None}
-use Rattle.std.proofs.Common.{refl, sym, ap, subst, ◌∙◌, arith, nat_le, nat_lt, if◌then◌else◌}
-use Rattle.std.proofs.lemmas.Bool.{and_from, eq-eqb, eqb-true, le-leb, both_ways}
-use Rattle.std.proofs.lemmas.List.{append-nil}
-use Rattle.std.proofs.lemmas.Option.{none-some, cond_some}
-use Rattle.x25_line.specs.laws.Ends as line
-use Rattle.x25_line.specs.laws.Ends.{Ends, Letter, letter, Two, Does, IsPatient, near_now, put_for, with_near, how_many, AreOf, OfSabm}
-use Rattle.x25_line.specs.laws.Peer as peer
-use Rattle.x25_line.specs.laws.Peer.{Peer, fresh_peer}
-use Rattle.x25_line.specs.laws.Said as read
-use Rattle.x25_line.specs.laws.Said.{Said, Carried, sabm_of, disc_of, ua_of}
+use Rattle.x25_possible_peers.proofs.Names.{◌≡◌, inl, inr, ℕ, ◌+◌, ◌-◌, ◌%◌, ◌≤◌, ◌==◌, Bool, true, false, not, ◌&&◌, ◌||◌, List, [], ◌∷◌, ◌++◌, Option, Some}
+use Rattle.x25_possible_peers.proofs.Names.{None, refl, sym, ap, subst, ◌∙◌, arith, nat_le, nat_lt, if◌then◌else◌, and_from, eq-eqb, eqb-true, le-leb}
+use Rattle.x25_possible_peers.proofs.Names.{append-nil, none-some, cond_some, Ends, Letter, near_now, Peer, Said, Carried, IsIn, Owes, may_number}
+use Rattle.std.proofs.{Common.{◌⊎◌, suc}, lemmas.Bool.{both_ways}}
+use Rattle.x25_line.specs.laws.{Ends.{letter, Two, Does, IsPatient, put_for, with_near, how_many, AreOf, OfSabm}, Peer.{fresh_peer}}
+use Rattle.x25_line.specs.laws.Said.{sabm_of, disc_of, ua_of}
 use Rattle.x25_possible.specs.Channel.{nth}
-use Rattle.x25_possible.specs.laws.Possible.{IsIn}
-use Rattle.x25_possible_links.specs.laws.Link as link
-use Rattle.x25_possible_links.specs.laws.Link.{State, At, Owes, MaySend, MayTake, has_ua, is_asking, may_number, may_acknowledge, sends_as, heard, owed, asked}
-use Rattle.x25_possible_links.specs.laws.Link.{may_answer}
-use Rattle.x25_possible_links.specs.declared.frame.Frame.{Frame}
-use Rattle.x25_possible_links.specs.declared.frame.Frame.TheVariants as frame
-use Rattle.x25_possible_links.specs.declared.stand.Numbers.{Numbers}
-use Rattle.x25_possible_links.specs.declared.stand.Stand.{Stand}
-use Rattle.x25_possible_links.specs.declared.stand.Stand.TheVariants.{Out, Asking, Up, Free}
-use Rattle.x25_possible_peers.specs.laws.LinkPeers.{numbers_of, stand_of, differs, frames_of, AreShown}
+use Rattle.x25_possible_links.specs.declared.stand.{Numbers.{Numbers}, Stand.TheVariants.{Out, Asking, Free}}
+use Rattle.x25_possible_links.specs.laws.Link.{State, At, MaySend, MayTake, has_ua, is_asking, sends_as, heard, owed, asked, may_answer}
+use Rattle.x25_possible_peers.proofs.{LinkLemmas.{now_is, only}, Names.{may_acknowledge, Frame, Stand, Up, numbers_of, stand_of, differs, frames_of, AreShown}}
+use Rattle.x25_possible_peers.{proofs.SessionLemmas.{MaySayIt, session_sends, session_takes}, specs.laws.LinkAsPeers.{LinkRulesArePeers}}
 use Rattle.x25_possible_peers.specs.laws.LinkAsPeers.{stand_in, out_of, Reaches, AsksBeyond, Beyond, asks_again, asks_early, IsRead, IsGiven, HasTaken}
-use Rattle.x25_possible_peers.specs.laws.LinkAsPeers.{LinkRulesArePeers}
-use Rattle.x25_possible_peers.proofs.LinkLemmas.{now_is, only}
-use Rattle.x25_possible_peers.proofs.SessionLemmas.{MaySayIt, session_sends, session_takes}
+use Rattle.x25_line.specs.laws.Ends as line
+use Rattle.x25_line.specs.laws.Peer as peer
+use Rattle.x25_line.specs.laws.Said as read
+use Rattle.x25_possible_links.specs.laws.Link as link
+use Rattle.x25_possible_links.specs.declared.frame.Frame.TheVariants as frame
 
 same_some : {X : Type 0} (x u : X) → Some x ≡ Some u → x ≡ u
 same_some x u h = cc

@@ -1,26 +1,20 @@
 -- Each step of a peer of the link is one of an end that keeps the rules of a link.
-use Rattle.std.proofs.Common.{◌≡◌, inl, inr, ℕ, ◌+◌, ◌-◌, ◌%◌, ◌≤◌, ◌==◌, Bool, true, false, not, ◌&&◌, ◌||◌, List, [], ◌∷◌, ◌++◌, length, Option, Some, None}
-use Rattle.std.proofs.Common.{refl, sym, ap, ap₂, subst, ◌∙◌, arith, max, suc, nat_le, nat_lt, if◌then◌else◌, slice_get}
-use Rattle.std.proofs.Math.Bool.{or-true}
-use Rattle.std.proofs.lemmas.Bool.{and_from, eq-eqb, eqb-true, le-leb, lt-ltb, both_ways, cond-true}
-use Rattle.std.proofs.lemmas.List.{append-nil, append_cancel_left, append_cancel_right, length_push}
+use Rattle.x25_possible_peers.proofs.Names.{◌≡◌, inl, inr, ℕ, ◌+◌, ◌-◌, ◌%◌, ◌≤◌, ◌==◌, Bool, true, false, not, ◌&&◌, ◌||◌, List, [], ◌∷◌, ◌++◌, length, Option}
+use Rattle.x25_possible_peers.proofs.Names.{Some, None, refl, sym, ap, ap₂, subst, ◌∙◌, arith, nat_le, nat_lt, if◌then◌else◌, and_from, eq-eqb, eqb-true}
+use Rattle.x25_possible_peers.proofs.Names.{le-leb, append-nil, length_push, Ends, Letter, near_now, Peer, Said, Carried, IsIn, Owes, may_acknowledge}
+use Rattle.x25_possible_peers.proofs.Names.{may_number, Frame, Stand, Up, numbers_of, stand_of, differs, frames_of, AreShown}
+use Rattle.std.proofs.{Common.{max, suc, slice_get}, Math.Bool.{or-true}, lemmas.Bool.{lt-ltb, both_ways, cond-true}}
+use Rattle.std.proofs.lemmas.List.{append_cancel_left, append_cancel_right}
+use Rattle.x25_line.specs.laws.{Ends.{letter, Does, put_for, how_many}, Peer.{fresh_peer, MayAcknowledge, MayNumber}, Said.{ua_of}, Tape.{same_octets, is_item}}
+use Rattle.x25_possible_links.specs.declared.stand.Stand.TheVariants.{Out, Asking, Free}
+use Rattle.x25_possible_links.specs.laws.Link.{At, MaySend, MayTake, fresh, has_ua, is_asking, is_ua, owed, sends_as}
+use Rattle.x25_possible_peers.specs.laws.LinkPeers.{StandsAt, ArePut, IsOwn, HasLeft, IsAllowed, LinkStepsAreAllowed}
 use Rattle.x25_window.specs.code.Modulo.{resolved}
 use Rattle.x25_line.specs.laws.Ends as line
-use Rattle.x25_line.specs.laws.Ends.{Ends, Letter, letter, Does, near_now, put_for, how_many}
 use Rattle.x25_line.specs.laws.Peer as peer
-use Rattle.x25_line.specs.laws.Peer.{Peer, fresh_peer, MayAcknowledge, MayNumber}
 use Rattle.x25_line.specs.laws.Said as read
-use Rattle.x25_line.specs.laws.Said.{Said, Carried, ua_of}
-use Rattle.x25_line.specs.laws.Tape.{same_octets, is_item}
-use Rattle.x25_possible.specs.laws.Possible.{IsIn}
 use Rattle.x25_possible_links.specs.laws.Link as link
-use Rattle.x25_possible_links.specs.laws.Link.{At, Owes, MaySend, MayTake, fresh, has_ua, is_asking, is_ua, may_acknowledge, may_number, owed, sends_as}
-use Rattle.x25_possible_links.specs.declared.frame.Frame.{Frame}
 use Rattle.x25_possible_links.specs.declared.frame.Frame.TheVariants as frame
-use Rattle.x25_possible_links.specs.declared.stand.Stand.{Stand}
-use Rattle.x25_possible_links.specs.declared.stand.Stand.TheVariants.{Out, Asking, Up, Free}
-use Rattle.x25_possible_peers.specs.laws.LinkPeers.{numbers_of, stand_of, StandsAt, differs, frames_of, AreShown, ArePut, IsOwn, HasLeft, IsAllowed}
-use Rattle.x25_possible_peers.specs.laws.LinkPeers.{LinkStepsAreAllowed}
 
 -- ---- numbers in a session
 

@@ -1,17 +1,11 @@
 -- A tape of a peer of the link is one of an end that keeps the rules of a link.
-use Rattle.std.proofs.Common.{◌≡◌, inl, inr, ℕ, List, [], ◌∷◌, ◌++◌, refl, sym, ap, subst, ◌∙◌}
-use Rattle.x25_line.specs.laws.Ends as line
-use Rattle.x25_line.specs.laws.Ends.{Ends, Letter, near_now, with_packet}
-use Rattle.x25_line.specs.laws.Peer.{Peer}
-use Rattle.x25_possible.specs.laws.Possible.{Item, Stands}
+use Rattle.x25_possible_peers.proofs.Names.{◌≡◌, inl, inr, ℕ, List, [], ◌∷◌, ◌++◌, refl, sym, ap, subst, ◌∙◌, Ends, Letter, near_now, Peer, Item, Stands, Owes}
+use Rattle.x25_line.specs.laws.Ends.{with_packet}
 use Rattle.x25_possible.specs.laws.Possible.{Begins as RunBegins, Sends as RunSends, Shows as RunShows, Takes as RunTakes}
-use Rattle.x25_possible_links.specs.laws.Link.{At, Owes, State, link_rules}
-use Rattle.x25_possible_links.specs.laws.Sets.{IsTimely}
-use Rattle.x25_possible_links.specs.declared.frame.Frame.{Frame}
-use Rattle.x25_possible_links.specs.declared.stand.Stand.{Stand}
-use Rattle.x25_possible_peers.specs.laws.LinkPeers.{stand_of, StandsAt, IsShown, AreShown, Goes, sent_on, LinkStands, Begins, HandsDown, Steps, Shown, Others}
-use Rattle.x25_possible_peers.specs.laws.LinkPeers.{IsPrompt}
-use Rattle.x25_possible_peers.proofs.LinkLemmas.{link_steps, now_is}
+use Rattle.x25_possible_links.specs.laws.{Link.{At, State, link_rules}, Sets.{IsTimely}}
+use Rattle.x25_possible_peers.proofs.{LinkLemmas.{link_steps, now_is}, Names.{Frame, Stand, stand_of, AreShown}}
+use Rattle.x25_possible_peers.specs.laws.LinkPeers.{StandsAt, IsShown, Goes, sent_on, LinkStands, Begins, HandsDown, Steps, Shown, Others, IsPrompt}
+use Rattle.x25_line.specs.laws.Ends as line
 
 -- ---- what is on the way
 

@@ -1,41 +1,28 @@
 -- A peer of the packet layer keeps the rules of a channel.
-use Rattle.std.proofs.Common.{◌≡◌, ◌≤◌, ◌<◌, ℕ, ◌+◌, ◌-◌, ◌%◌, ◌^◌, List, [], ◌∷◌, ◌++◌, length, Option, Some, None, Bool, true, false}
-use Rattle.std.proofs.Common.{refl, sym, ap, ap₂, ◌∙◌, arith, cond, ◌==◌, ◌&&◌, ◌||◌, nat_le, nat_lt, not, if◌then◌else◌, Ok, Err, Result}
-use Rattle.std.proofs.Math.Bool.{or-true}
-use Rattle.std.proofs.Math.Pow.{pow-lt, pow_mono}
-use Rattle.std.proofs.lemmas.Bool.{and_from, eq-eqb, eqb-true, le-leb, leb-false, leb-true, lt-ltb}
+use Rattle.x25_possible_peers.proofs.Names.{◌≡◌, ◌≤◌, ℕ, ◌+◌, ◌-◌, ◌%◌, List, [], ◌∷◌, ◌++◌, length, Option, Some, None, Bool, true, false, refl, sym, ap, ap₂}
+use Rattle.x25_possible_peers.proofs.Names.{◌∙◌, arith, ◌==◌, ◌&&◌, ◌||◌, nat_le, nat_lt, not, if◌then◌else◌, and_from, eq-eqb, eqb-true, le-leb, leb-true}
+use Rattle.x25_possible_peers.proofs.Names.{length_push, none-some, Piece, More, Last, Side, Live, Left, At, Role, Dte, Dce, CallRequest, CallDeed, PlacesCall}
+use Rattle.x25_possible_peers.proofs.Names.{AcceptsCall, InTransfer, does_call, call_taking, InCall, Clears, PeerStretch, Deed, Says, Interrupts, Confirms}
+use Rattle.x25_possible_peers.proofs.Names.{sends_as, takes, Limits, talk_of, item_of, transfer_phase, stage_phase, limits, IsTakenSo, IsOfRole, Stage, Unused}
+use Rattle.std.proofs.{Common.{◌<◌, ◌^◌, cond, Ok, Err, Result}, Math.Bool.{or-true}, Math.Pow.{pow-lt, pow_mono}, lemmas.Bool.{leb-false, lt-ltb}}
 use Rattle.std.proofs.lemmas.Nat.{pow_pos}
-use Rattle.std.proofs.lemmas.List.{length_push}
-use Rattle.std.proofs.lemmas.Option.{none-some}
-use Rattle.x25_circuit.specs.Message.{Piece, More, Last, Partial, no_part, joining, joined, may_have_q, q_of, user_of}
-use Rattle.x25_handshakes.specs.laws.Handshake.{Side, Live, Left, At}
-use Rattle.x25_bits.specs.declared.role.Role.{Role}
-use Rattle.x25_bits.specs.declared.role.Role.TheVariants.{Dte, Dce}
-use Rattle.x25_packet.specs.Facilities.{facilities_of, is_within}
-use Rattle.x25_packet.specs.declared.error.PacketError.{PacketError}
-use Rattle.x25_packet.specs.declared.facilities.Directions.{Directions}
-use Rattle.x25_packet.specs.declared.facilities.Facilities.{Facilities}
-use Rattle.x25_circuit.specs.Notice.{CallRequest}
+use Rattle.x25_circuit.specs.Message.{Partial, no_part, joining, joined, may_have_q, q_of, user_of}
 use Rattle.x25_circuit.specs.Params.{is_toward as params_toward, may_answer, said_or, said_by, said_in, sizes_of as sizes_known, windows_of as windows_known}
 use Rattle.x25_circuit.specs.declared.params.Params.{Params}
-use Rattle.x25_handshakes.specs.laws.Stretch as theirs
+use Rattle.x25_handshakes.specs.laws.{PeerCalls.{MayDoCall, call_packet_of, calling_in_data, stands}, PeerStretch.{Sends}}
 use Rattle.x25_handshakes.specs.laws.PeerTransfer.{TransferDeed, InStretch, Resets, MayDoTransfer, does_transfer, transfer_packet_of, transfer_taking}
-use Rattle.x25_handshakes.specs.laws.PeerCalls.{CallDeed, PlacesCall, AcceptsCall, InTransfer}
-use Rattle.x25_handshakes.specs.laws.PeerCalls.{MayDoCall, does_call, call_packet_of, call_taking, calling_in_data, stands}
-use Rattle.x25_handshakes.specs.laws.PeerChannel.{InCall, Clears}
-use Rattle.x25_handshakes.specs.laws.PeerStretch as stretch
-use Rattle.x25_handshakes.specs.laws.PeerStretch.{PeerStretch, Deed, Sends, Says, Interrupts, Confirms}
+use Rattle.x25_handshakes.specs.laws.Terms.{called_terms, calling_terms}
+use Rattle.x25_packet.specs.{Facilities.{facilities_of, is_within}, declared.error.PacketError.{PacketError}, declared.facilities.Directions.{Directions}}
+use Rattle.x25_packet.specs.declared.facilities.Facilities.{Facilities}
 use Rattle.x25_possible.specs.Channel.{fits as within, may_answer as answers_so, may_have_sizes, may_have_windows, is_between, is_size, is_toward}
-use Rattle.x25_possible.specs.Channel.{called_limits, called_size, called_window, calling_limits, calling_size, calling_window, may_number}
-use Rattle.x25_possible.specs.Channel.{may_ack, may_follow, is_one_message, talked, talk_sends, sends_as, takes, nth, fresh}
-use Rattle.x25_possible.specs.declared.phase.Limits.{Limits}
+use Rattle.x25_possible.specs.Channel.{called_limits, called_size, called_window, calling_limits, calling_size, calling_window, may_number, may_ack, may_follow}
+use Rattle.x25_possible.specs.Channel.{is_one_message, talked, talk_sends, nth, fresh}
+use Rattle.x25_possible_peers.{proofs.Names.{Waiting, Offered, Crossed, Talking}, specs.laws.AsPeers.{NotClear}}
+use Rattle.x25_possible_peers.specs.laws.Peers.{data_of, sizes_by, windows_by, said_of, terms_of, DeedsAreSends, PacketsAreTaken}
+use Rattle.x25_handshakes.specs.laws.Stretch as theirs
+use Rattle.x25_handshakes.specs.laws.PeerStretch as stretch
 use Rattle.x25_possible.specs.declared.phase.Phase.TheVariants as phase
 use Rattle.x25_possible.specs.declared.packet.Packet.TheVariants as item
-use Rattle.x25_possible_peers.specs.laws.Peers.{talk_of, item_of, data_of, transfer_phase, stage_phase, sizes_by, windows_by, said_of, terms_of, limits}
-use Rattle.x25_possible_peers.specs.laws.AsPeers.{NotClear}
-use Rattle.x25_possible_peers.specs.laws.Peers.{DeedsAreSends, PacketsAreTaken, IsTakenSo, IsOfRole}
-use Rattle.x25_handshakes.specs.laws.Terms.{called_terms, calling_terms}
-use Rattle.x25_handshakes.specs.laws.Calls.{Stage, Unused, Waiting, Offered, Crossed, Talking}
 
 pub joining_push : (j : Partial) (ps : List Piece) (p : Piece) → joining j (ps ++ p ∷ []) ≡ joined (joining j ps) p
 joining_push j [] p = refl

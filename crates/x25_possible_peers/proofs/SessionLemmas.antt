@@ -1,25 +1,17 @@
 -- What the rules of a link allow in a session a peer may do.
-use Rattle.std.proofs.Common.{◌≡◌, inl, inr, ℕ, ◌+◌, ◌-◌, ◌%◌, ◌≤◌, ◌==◌, Bool, true, false, not, ◌&&◌, ◌||◌, List, [], ◌∷◌, length, Option, Some, None, refl}
-use Rattle.std.proofs.Common.{sym, ap, subst, ◌∙◌, nat_le, nat_lt, if◌then◌else◌, slice_get}
-use Rattle.std.proofs.lemmas.Bool.{and_parts, eqb-true, leb-true, ltb-true}
-use Rattle.std.proofs.lemmas.Option.{cond_some}
+use Rattle.x25_possible_peers.proofs.Names.{◌≡◌, inl, inr, ℕ, ◌+◌, ◌-◌, ◌%◌, ◌≤◌, ◌==◌, Bool, true, false, not, ◌&&◌, ◌||◌, List, [], ◌∷◌, length, Option, Some}
+use Rattle.x25_possible_peers.proofs.Names.{None, refl, sym, ap, subst, ◌∙◌, nat_le, nat_lt, if◌then◌else◌, eqb-true, leb-true, cond_some, Peer, Said, Carried}
+use Rattle.x25_possible_peers.proofs.Names.{IsIn, may_acknowledge, may_number, Frame, Stand, Up, numbers_of, differs, frames_of}
+use Rattle.std.proofs.{Common.{slice_get}, lemmas.Bool.{and_parts, ltb-true}}
+use Rattle.x25_line.specs.laws.{Peer.{MaySay, MayMake, MayAcknowledge, MayNumber}, Tape.{same_octets, is_item}}
+use Rattle.x25_possible_links.specs.{declared.stand.Numbers.{Numbers}, laws.Link.{sends_as, heard}}
+use Rattle.x25_possible_peers.proofs.LinkLemmas.{number_is, one_more, sent_is}
+use Rattle.x25_possible_peers.specs.laws.{LinkAsPeers.{IsGiven}, LinkPeers.{IsShown}}
 use Rattle.x25_window.specs.code.Modulo.{resolved}
 use Rattle.x25_line.specs.laws.Peer as peer
-use Rattle.x25_line.specs.laws.Peer.{Peer, MaySay, MayMake, MayAcknowledge, MayNumber}
 use Rattle.x25_line.specs.laws.Said as read
-use Rattle.x25_line.specs.laws.Said.{Said, Carried}
-use Rattle.x25_line.specs.laws.Tape.{same_octets, is_item}
-use Rattle.x25_possible.specs.laws.Possible.{IsIn}
 use Rattle.x25_possible_links.specs.laws.Link as link
-use Rattle.x25_possible_links.specs.laws.Link.{may_acknowledge, may_number, sends_as, heard}
-use Rattle.x25_possible_links.specs.declared.frame.Frame.{Frame}
 use Rattle.x25_possible_links.specs.declared.frame.Frame.TheVariants as frame
-use Rattle.x25_possible_links.specs.declared.stand.Numbers.{Numbers}
-use Rattle.x25_possible_links.specs.declared.stand.Stand.{Stand}
-use Rattle.x25_possible_links.specs.declared.stand.Stand.TheVariants.{Up}
-use Rattle.x25_possible_peers.specs.laws.LinkPeers.{numbers_of, differs, frames_of, IsShown}
-use Rattle.x25_possible_peers.specs.laws.LinkAsPeers.{IsGiven}
-use Rattle.x25_possible_peers.proofs.LinkLemmas.{number_is, one_more, sent_is}
 
 pub record MaySayIt (p : Peer) (said : Said) (r : Stand) : Type 0 where
   pub next : Peer

@@ -1,19 +1,15 @@
 -- What the rules of a channel allow in d1 a peer may do, where a message may get as long as it does.
-use Rattle.std.proofs.Common.{◌≡◌, ℕ, ◌+◌, ◌-◌, ◌%◌, ◌≤◌, ◌==◌, Bool, true, false, not, ◌&&◌, ◌||◌, length, Option, Some, None, refl, sym, ap, ap₂, ◌∙◌, arith}
-use Rattle.std.proofs.Common.{nat_le, nat_lt}
-use Rattle.std.proofs.lemmas.Bool.{and_parts, eqb-true, leb-true, ltb-true, le-leb, not-true}
-use Rattle.std.proofs.lemmas.List.{length_push}
-use Rattle.std.proofs.lemmas.Option.{cond_some}
-use Rattle.x25_circuit.specs.Message.{Piece, More, Last, no_part, joining, joined, may_have_q, q_of, user_of}
+use Rattle.x25_possible_peers.proofs.Names.{◌≡◌, ℕ, ◌+◌, ◌-◌, ◌%◌, ◌≤◌, ◌==◌, Bool, true, false, not, ◌&&◌, ◌||◌, length, Option, Some, None, refl, sym, ap}
+use Rattle.x25_possible_peers.proofs.Names.{ap₂, ◌∙◌, arith, nat_le, nat_lt, eqb-true, leb-true, le-leb, length_push, cond_some, Piece, More, Last, PeerStretch}
+use Rattle.std.proofs.lemmas.Bool.{and_parts, ltb-true, not-true}
+use Rattle.x25_circuit.specs.Message.{no_part, joining, joined, may_have_q, q_of, user_of}
+use Rattle.x25_handshakes.specs.laws.PeerStretch.{Sends, MayDo, does, packet_of}
+use Rattle.x25_possible.specs.Channel.{fits as within, may_number, may_ack, may_follow, may_talk, is_one_message, talked}
+use Rattle.x25_possible_peers.proofs.{Names.{Deed, Says, Interrupts, Confirms, sends_as, Limits, Phase, item_of, talk_of}, PeerLemmas.{grounds, joining_push}}
+use Rattle.x25_possible_peers.specs.laws.Peers.{data_of}
 use Rattle.x25_handshakes.specs.laws.Stretch as theirs
 use Rattle.x25_handshakes.specs.laws.PeerStretch as stretch
-use Rattle.x25_handshakes.specs.laws.PeerStretch.{PeerStretch, Deed, Sends, Says, Interrupts, Confirms, MayDo, does, packet_of}
-use Rattle.x25_possible.specs.Channel.{sends_as, fits as within, may_number, may_ack, may_follow, may_talk, is_one_message, talked}
-use Rattle.x25_possible.specs.declared.phase.Limits.{Limits}
-use Rattle.x25_possible.specs.declared.phase.Phase.{Phase}
 use Rattle.x25_possible.specs.declared.phase.Phase.TheVariants as phase
-use Rattle.x25_possible_peers.specs.laws.Peers.{item_of, talk_of, data_of}
-use Rattle.x25_possible_peers.proofs.PeerLemmas.{grounds, joining_push}
 
 pub record MayDoIt (l : Limits) (y : PeerStretch) (p : theirs.Packet) (r : Phase) : Type 0 where
   pub longest : ℕ

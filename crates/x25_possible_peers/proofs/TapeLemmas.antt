@@ -1,24 +1,14 @@
 -- A tape of a peer is one of an end that keeps the rules of a channel.
-use Rattle.std.proofs.Common.{◌≡◌, inl, ℕ, List, [], ◌∷◌, ◌++◌, map, refl, sym, ap, subst}
-use Rattle.x25_bits.specs.declared.role.Role.{Role}
-use Rattle.x25_bits.specs.declared.role.Role.TheVariants.{Dte, Dce}
-use Rattle.x25_circuit.specs.Notice.{CallRequest}
-use Rattle.x25_handshakes.specs.laws.Handshake.{Side, Live, Left, At}
+use Rattle.x25_possible_peers.proofs.Names.{◌≡◌, inl, ℕ, List, [], ◌∷◌, ◌++◌, refl, sym, ap, subst, Role, Dte, Dce, CallRequest, Side, Live, Left, At}
+use Rattle.x25_possible_peers.proofs.Names.{PeerStretch, PeerCall, CallDeed, PlacesCall, AcceptsCall, InTransfer, does_call, call_taking, InCall, Clears}
+use Rattle.x25_possible_peers.proofs.Names.{does_channel, channel_packet_of, channel_taking, takes, Item, Stands, Phase, item_of, phase_of, IsTakenSo, IsOfRole}
+use Rattle.std.proofs.Common.{map}
+use Rattle.x25_handshakes.specs.laws.PeerChannel.{ChannelDeed}
+use Rattle.x25_possible.specs.{Channel.{channel_rules}, declared.packet.Packet.{Packet}, declared.phase.Phase.TheVariants.{Idle}}
+use Rattle.x25_possible.specs.laws.Possible.{Other, Begins as RunBegins, Sends as RunSends, Shows as RunShows, Takes as RunTakes}
+use Rattle.x25_possible_peers.proofs.{Names.{Stage, Unused, Waiting, Offered, Crossed, Talking}, PeerLemmas.{channel_sends, channel_takes}}
+use Rattle.x25_possible_peers.specs.laws.Peers.{NotCollided, confirmed, PeerStands, Begins, Does, Shown, Hears}
 use Rattle.x25_handshakes.specs.laws.Stretch as theirs
-use Rattle.x25_handshakes.specs.laws.PeerStretch.{PeerStretch}
-use Rattle.x25_handshakes.specs.laws.PeerCalls.{PeerCall, CallDeed, PlacesCall}
-use Rattle.x25_handshakes.specs.laws.PeerCalls.{AcceptsCall, InTransfer, does_call, call_taking}
-use Rattle.x25_handshakes.specs.laws.PeerChannel.{ChannelDeed, InCall, Clears, does_channel, channel_packet_of, channel_taking}
-use Rattle.x25_possible.specs.Channel.{channel_rules, takes}
-use Rattle.x25_possible.specs.laws.Possible.{Item, Other, Stands}
-use Rattle.x25_possible.specs.laws.Possible.{Begins as RunBegins, Sends as RunSends, Shows as RunShows, Takes as RunTakes}
-use Rattle.x25_possible.specs.declared.packet.Packet.{Packet}
-use Rattle.x25_possible.specs.declared.phase.Phase.{Phase}
-use Rattle.x25_possible.specs.declared.phase.Phase.TheVariants.{Idle}
-use Rattle.x25_possible_peers.specs.laws.Peers.{item_of, phase_of, IsTakenSo, IsOfRole, NotCollided, confirmed}
-use Rattle.x25_possible_peers.specs.laws.Peers.{PeerStands, Begins, Does, Shown, Hears}
-use Rattle.x25_possible_peers.proofs.PeerLemmas.{channel_sends, channel_takes}
-use Rattle.x25_handshakes.specs.laws.Calls.{Stage, Unused, Waiting, Offered, Crossed, Talking}
 
 -- ---- the DCE's call never collides
 

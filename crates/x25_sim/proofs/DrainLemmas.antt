@@ -1,13 +1,7 @@
 -- Deliveries, one after another.
-use Rattle.std.proofs.Common.{◌≡◌, ◌∙◌, ℕ, zero, suc, Bool, Some, None, ap, refl}
-use Rattle.x25_bits.specs.declared.role.Role.{Role}
-use Rattle.x25_station.specs.declared.config.Cfg.{Cfg}
-use Rattle.x25_world.specs.World.{World, Receives}
+use Rattle.x25_sim.proofs.Names.{◌≡◌, ◌∙◌, ℕ, zero, suc, Some, None, ap, refl, Role, Cfg, World, Receives, FitsWorld, next_end, Shown, quiet, and_then}
+use Rattle.x25_sim.proofs.Names.{event_turn, delivered_to, drained}
 use Rattle.x25_world.specs.code.ShownWorld.{ShownWorld}
-use Rattle.x25_world.specs.code.FitsWorld.{FitsWorld}
-use Rattle.x25_world.specs.Healing.{next_end}
-use Rattle.x25_sim.specs.declared.stage.Shown.{Shown}
-use Rattle.x25_sim.specs.Stage.{quiet, and_then, event_turn, delivered_to, drained}
 
 module _ (cfg : Cfg) (shown : Shown) where
   pub drained_all : (n : ℕ) (w : World) → n ≡ 0 → drained cfg shown n w ≡ quiet w

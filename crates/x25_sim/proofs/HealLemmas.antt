@@ -1,12 +1,7 @@
 -- Rounds of pulls, one after another.
-use Rattle.std.proofs.Common.{◌≡◌, ℕ, suc, ◌+◌, ◌-◌, ◌<◌, Bool, true, false, Option, Some, None, ap, arith, refl}
-use Rattle.std.specs.Prelude.{is_none, is_some, not, option_map}
-use Rattle.x25_bits.specs.declared.role.Role.{Role}
-use Rattle.x25_station.specs.declared.config.Cfg.{Cfg}
-use Rattle.x25_world.specs.World.{World}
-use Rattle.x25_world.specs.Healing.{next_end}
-use Rattle.x25_sim.specs.declared.stage.Shown.{Shown}
-use Rattle.x25_sim.specs.Stage.{Turn, quiet, and_then, pulled, unless_empty, emptied}
+use Rattle.x25_sim.proofs.Names.{◌≡◌, ℕ, suc, ◌<◌, Bool, true, false, Option, Some, None, ap, arith, refl, Role, Cfg, World, next_end, Shown, Turn, quiet}
+use Rattle.x25_sim.proofs.Names.{and_then, pulled, unless_empty, emptied}
+use Rattle.std.{proofs.Common.{◌+◌, ◌-◌}, specs.Prelude.{is_none, is_some, not, option_map}}
 
 -- whether there is none, by whether there is some
 pub none_by_some : {A B : Type 0} (f : A → B) (o : Option A) (b : Bool) → is_some o ≡ not b → b ≡ is_none (option_map f o)

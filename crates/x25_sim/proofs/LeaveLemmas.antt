@@ -1,19 +1,9 @@
 -- A turn that is made in parts.
-use Rattle.std.proofs.Common.{◌≡◌, ◌∙◌, ℕ, Bool, List, ◌++◌, Option, ap, sym, subst}
-use Rattle.std.specs.Prelude.{◌||◌}
-use Rattle.std.proofs.lemmas.List.{append-nil}
-use Rattle.std.proofs.Math.Bool.{or-false}
-use Rattle.x25_io.specs.code.Written.{AppendsPrefix}
-use Rattle.x25_station.specs.declared.config.Cfg.{Cfg}
-use Rattle.x25_world.specs.World.{World}
-use Rattle.x25_sim.specs.declared.stage.Shown.{Shown}
-use Rattle.x25_sim.specs.declared.stage.Stage.{Stage}
-use Rattle.x25_sim.specs.Telling.{sayings_text, has_refusal}
-use Rattle.x25_sim.specs.Stage.{Turn, quiet, and_then}
-use Rattle.x25_sim.specs.code.Stands.{Stands}
-use Rattle.x25_sim.specs.code.Leaves.{Leaves}
+use Rattle.x25_sim.proofs.Names.{◌≡◌, ◌∙◌, ℕ, Bool, List, ◌++◌, Option, ap, sym, subst, append-nil, AppendsPrefix, Cfg, World, Shown, Stage, sayings_text}
+use Rattle.std.{proofs.Math.Bool.{or-false}, specs.Prelude.{◌||◌}}
 use Rattle.x25_io.proofs.ToldLemmas.{prefix_more, told_prefix}
-use Rattle.x25_sim.proofs.StandLemmas.{StandsAt, BeginsAt, parts_text, parts_refused}
+use Rattle.x25_sim.proofs.{Names.{has_refusal, Turn, quiet, and_then, Stands}, StandLemmas.{StandsAt, BeginsAt, parts_text, parts_refused}}
+use Rattle.x25_sim.specs.code.Leaves.{Leaves}
 
 module _ (cfg : Cfg) (shown : Shown) (old now next : Option (List ℕ)) (s u : Stage) (told : List ℕ) (refused : Bool) (whole : Turn) where
   -- nothing of it is left

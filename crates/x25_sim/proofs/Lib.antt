@@ -1,3 +1,4 @@
+pub mod Names
 pub mod rows
 pub mod SayingLemmas
 pub mod StepLemmas

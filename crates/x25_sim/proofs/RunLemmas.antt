@@ -1,41 +1,25 @@
 -- What is written for a script is the transcript of a run.
-use Rattle.std.proofs.Common.{◌≡◌, ◌∙◌, inl, inr, ℕ, zero, suc, nat_lt, nat_le, Bool, true, false, List, [], ◌∷◌, ◌++◌, length, drop, map, remove, Option, Some}
-use Rattle.std.proofs.Common.{None, append_assoc, ap, sym, subst, refl, arith, ◌<◌}
-use Rattle.std.proofs.lemmas.List.{append-nil}
-use Rattle.std.proofs.Math.Seq.{drop-append_seam}
-use Rattle.std.specs.Prelude.{cond, ◌&&◌}
-use Rattle.x25_bits.specs.declared.role.Role.{Role}
-use Rattle.x25_bits.specs.declared.role.Role.TheVariants.{Dte, Dce}
-use Rattle.x25_link.specs.Station.{awaits_ua}
-use Rattle.x25_line.specs.{laws.Stations.{is_visible}, laws.Loss.{replaced}}
-use Rattle.x25_station.specs.declared.config.Cfg.{Cfg}
-use Rattle.x25_station.specs.Config.{Settings, settings_from}
-use Rattle.x25_station.specs.laws.ReadLaw.{RequestsOctets}
-use Rattle.x25_station.specs.Step.{Outcome, Did, Refused, fires, commands}
-use Rattle.x25_script.specs.ScriptLine.{PlainCommand, call, clear, send, interrupt, reset, restart, pull, connect, relink, with_given, PlainLine, command}
-use Rattle.x25_script.specs.ScriptLine.{drain, heal, is_taken, taken}
-use Rattle.std.specs.Option.{unwrap_or}
-use Rattle.x25_script.specs.Reading.{line_in}
-use Rattle.x25_script.specs.laws.ReadingLaw.{IsOctet, PartInOctets, AsksInOctets, IsInOctets, ReadsOctets}
-use Rattle.x25_io.specs.Lines.{lines_of}
-use Rattle.x25_world.specs.World.{World, OnTap, AtEnd, mirrored, Act, Commands, Receives, Fires, Loses, Damages, Event, WorldOutcome, Happened, Declined}
-use Rattle.x25_world.specs.World.{of_station, delivered, on_line, is_on_line, acts, swapped_back, acts_at, happens, refusal_of, after, run, AreAccepted, start}
-use Rattle.x25_world.specs.World.{connected, established}
-use Rattle.x25_world.specs.declared.error.WorldError.{WorldError}
-use Rattle.x25_world.specs.laws.Claims.{ActsInOctets, AreInOctets, IsUpOnce, IsUpAtMostOnce, IsBeginning, IsNoConnect, NoneConnects, UpOnceUnlessConnected}
-use Rattle.x25_world.specs.laws.Claims.{Always, UntilSecondUp}
-use Rattle.x25_world.specs.laws.SessionClaims.{Throughout, ThroughoutAlong}
-use Rattle.x25_sim.specs.Telling.{Saying, enters, taps, reads_nothing, refuses}
+use Rattle.x25_sim.proofs.Names.{◌≡◌, ◌∙◌, ℕ, zero, suc, Bool, true, false, List, [], ◌∷◌, ◌++◌, length, drop, map, Option, Some, None, append_assoc, ap, sym}
+use Rattle.x25_sim.proofs.Names.{subst, refl, arith, ◌<◌, append-nil, Role, Dte, Dce, Cfg, line_in, lines_of, World, OnTap, Receives, Event, WorldOutcome}
+use Rattle.x25_sim.proofs.Names.{Happened, Declined, happens, refusal_of, after, start, WorldError, Saying, taps, refuses, next_end, Turn, and_then, frames_if}
+use Rattle.x25_sim.proofs.Names.{marked, told_between, turn_of, event_turn, delivered_to, drained, tried_of, tried, both_tried, fired, pulled, unless_empty}
+use Rattle.x25_sim.proofs.Names.{emptied, healed, line_turn, asked_in, asked_turn, turn, turns, set_up, opened, simulated, Shown}
+use Rattle.std.{proofs.Common.{inl, inr, nat_lt, nat_le, remove}, proofs.Math.Seq.{drop-append_seam}, specs.Option.{unwrap_or}, specs.Prelude.{cond, ◌&&◌}}
 use Rattle.x25_console.specs.Commands.{command_asked, part_asked}
 use Rattle.x25_io.specs.HeldLine.{most_line}
-use Rattle.x25_world.specs.Healing.{next_end}
-use Rattle.x25_sim.specs.Stage.{Turn, and_then, frames_if, frames_told, marks_if, marked, step_told, told_between, turn_of, event_turn, delivered_to, drained}
-use Rattle.x25_sim.specs.Stage.{tried_of, tried, both_tried, most_times, fired, pulled, unless_empty, emptied, healed, line_turn, asked_in, asked_turn, turn}
-use Rattle.x25_sim.specs.Stage.{turns, connecting, set_up, opened, simulated}
-use Rattle.x25_sim.specs.declared.stage.Shown.{Shown}
+use Rattle.x25_line.specs.laws.{Loss.{replaced}, Stations.{is_visible}}
+use Rattle.x25_link.specs.Station.{awaits_ua}
+use Rattle.x25_script.specs.ScriptLine.{PlainCommand, call, clear, send, interrupt, reset, restart, pull, connect, relink, with_given, PlainLine, command}
+use Rattle.x25_script.specs.{ScriptLine.{drain, heal, is_taken, taken}, laws.ReadingLaw.{IsOctet, PartInOctets, AsksInOctets, IsInOctets, ReadsOctets}}
+use Rattle.x25_sim.specs.{Stage.{frames_told, marks_if, step_told, most_times, connecting}, Telling.{enters, reads_nothing}}
 use Rattle.x25_sim.specs.laws.RunLaw.{entries_in, frames_in, begins, IsNoConnectLine, NoneAsks, IsRun, ScriptsAreRuns, OfScripts, OfScriptsSetUp, OfAllScripts}
 use Rattle.x25_sim.specs.laws.RunLaw.{UpOnceUnlessAsked, ScriptsAreTold, ScriptsAreTapped}
+use Rattle.x25_station.specs.{Config.{Settings, settings_from}, Step.{Outcome, Did, Refused, fires, commands}, laws.ReadLaw.{RequestsOctets}}
 use Rattle.x25_world.proofs.WorldLemmas.{run_append, accepted_append, octets_append}
+use Rattle.x25_world.specs.World.{AtEnd, mirrored, Act, Commands, Fires, Loses, Damages, of_station, delivered, on_line, is_on_line, acts, swapped_back}
+use Rattle.x25_world.specs.{World.{acts_at, run, AreAccepted, connected, established}, laws.Claims.{Always, UntilSecondUp}}
+use Rattle.x25_world.specs.laws.Claims.{ActsInOctets, AreInOctets, IsUpOnce, IsUpAtMostOnce, IsBeginning, IsNoConnect, NoneConnects, UpOnceUnlessConnected}
+use Rattle.x25_world.specs.laws.SessionClaims.{Throughout, ThroughoutAlong}
 
 -- ---- a world only grows
 

@@ -1,14 +1,12 @@
 -- The text of what is said, one saying after another.
-use Rattle.std.proofs.Common.{◌≡◌, ◌∙◌, ◌+◌, ◌<◌, ◌≤◌, ℕ, List, [], ◌∷◌, ◌++◌, Some, None, slice_get, length, take, drop, map, get_or, ap, refl, sym, arith}
-use Rattle.std.proofs.lemmas.Grind.{flat_map-append}
-use Rattle.std.proofs.lemmas.List.{append-nil, map-append, take_more, take-append-drop, drop-append-le, length-take-le}
-use Rattle.std.proofs.lemmas.Option.{get_or_from_slice_get, slice_get-get_or}
-use Rattle.x25_bits.specs.declared.role.Role.{Role}
+use Rattle.x25_sim.proofs.Names.{◌≡◌, ◌∙◌, ◌<◌, ℕ, List, [], ◌∷◌, ◌++◌, Some, None, length, drop, map, ap, refl, sym, arith, append-nil, Role, OnTap, Saying}
+use Rattle.std.proofs.{Common.{◌+◌, ◌≤◌, slice_get, take, get_or}, lemmas.Grind.{flat_map-append}}
+use Rattle.std.proofs.lemmas.{List.{map-append, take_more, take-append-drop, drop-append-le, length-take-le}, Option.{get_or_from_slice_get, slice_get-get_or}}
 use Rattle.x25_console.specs.Telling.{entries_text}
+use Rattle.x25_sim.{proofs.Names.{taps, saying_line, sayings_text}, specs.Telling.{enters_at}}
 use Rattle.x25_station.specs.Entry.{StationEntry}
 use Rattle.x25_transcript.specs.EntryText.{entry_line}
-use Rattle.x25_world.specs.World.{OnTap, tapped}
-use Rattle.x25_sim.specs.Telling.{Saying, enters_at, taps, saying_line, sayings_text}
+use Rattle.x25_world.specs.World.{tapped}
 
 pub text-append : (xs ys : List Saying) → sayings_text (xs ++ ys) ≡ sayings_text xs ++ sayings_text ys
 text-append xs ys = flat_map-append saying_line xs ys

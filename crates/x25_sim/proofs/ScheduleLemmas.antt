@@ -1,20 +1,14 @@
 -- The line `heal` of a script does what the schedule of healing says.
-use Rattle.std.proofs.Common.{◌≡◌, ◌∙◌, ℕ, zero, suc, Bool, List, [], ◌∷◌, ◌++◌, Option, Some, None, ap, sym, subst, arith, refl}
-use Rattle.x25_bits.specs.declared.role.Role.{Role}
-use Rattle.x25_bits.specs.declared.role.Role.TheVariants.{Dte, Dce}
-use Rattle.x25_station.specs.declared.config.Cfg.{Cfg}
-use Rattle.x25_script.specs.ScriptLine.{pull}
+use Rattle.x25_sim.proofs.Names.{◌≡◌, ◌∙◌, ℕ, zero, suc, List, [], ◌∷◌, ◌++◌, Option, Some, None, ap, sym, subst, arith, refl, Role, Dte, Dce, Cfg, World}
+use Rattle.x25_sim.proofs.Names.{Event, WorldOutcome, Happened, Declined, happens, after, next_end, Turn, and_then, turn_of, event_turn, delivered_to, drained}
 use Rattle.x25_console.specs.Commands.{command_asked}
-use Rattle.x25_world.specs.World.{World, Act, Commands, Fires, Event, WorldOutcome, Happened, Declined, happens, after, run}
-use Rattle.x25_world.specs.Healing as schedule
-use Rattle.x25_world.specs.Healing.{next_end, receipt, all_received, arrivals_from, arrivals, deliveries, one_if, if_accepted, firing, pull_round, pull_rounds}
-use Rattle.x25_world.specs.Healing.{fire_and_pull, healing, ArrivesByHealing, HealingBringsAll, RestShowsAll, HealingRestShowsAll}
-use Rattle.x25_world.specs.laws.SessionClaims.{Throughout}
-use Rattle.x25_world.specs.laws.WaitClaims.{pull_at}
-use Rattle.x25_sim.specs.Stage.{Turn, and_then, turn_of, event_turn, delivered_to, drained, tried_of, tried, both_tried, most_times, fired, pulled}
-use Rattle.x25_sim.specs.Stage.{unless_empty, emptied, healed, line_turn}
-use Rattle.x25_sim.specs.declared.stage.Shown.{Shown}
+use Rattle.x25_script.specs.ScriptLine.{pull}
+use Rattle.x25_sim.{proofs.Names.{tried_of, tried, both_tried, fired, pulled, unless_empty, emptied, healed, line_turn, Shown}, specs.Stage.{most_times}}
 use Rattle.x25_sim.specs.laws.RunLaw.{HealIsTheSchedule, HealRestShowsAll, HealBringsAll}
+use Rattle.x25_world.specs.Healing.{receipt, all_received, arrivals_from, arrivals, deliveries, one_if, if_accepted, firing, pull_round, pull_rounds}
+use Rattle.x25_world.specs.Healing.{fire_and_pull, healing, ArrivesByHealing, HealingBringsAll, RestShowsAll, HealingRestShowsAll}
+use Rattle.x25_world.specs.{World.{Act, Commands, Fires, run}, laws.SessionClaims.{Throughout}, laws.WaitClaims.{pull_at}}
+use Rattle.x25_world.specs.Healing as schedule
 
 module _ (cfg : Cfg) (shown : Shown) where
   run_append : (xs ys : List Event) (w : World) → run cfg (xs ++ ys) w ≡ run cfg ys (run cfg xs w)

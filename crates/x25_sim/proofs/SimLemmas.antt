@@ -1,21 +1,9 @@
 -- A whole script.
-use Rattle.std.proofs.Common.{◌≡◌, ◌∙◌, ℕ, Bool, false, List, [], Option, ap, refl, sym, subst}
-use Rattle.x25_io.specs.Lines.{lines_of}
-use Rattle.x25_io.specs.Loose.{asked_lines, asked_text}
-use Rattle.x25_io.specs.code.Written.{AppendsPrefix}
-use Rattle.x25_station.specs.declared.config.Cfg.{Cfg}
-use Rattle.x25_sim.specs.declared.stage.Shown.{Shown}
-use Rattle.x25_sim.specs.Telling.{sayings_text, has_refusal}
-use Rattle.x25_sim.specs.Stage.{turns, opened, simulated, sim_text}
-use Rattle.x25_io.specs.HeldLine.{HoldsLine}
-use Rattle.x25_sim.specs.code.Stream.{Simulates}
-use Rattle.x25_io.specs.declared.held_line.HeldLine.{HeldLine}
-use Rattle.x25_sim.specs.declared.simulator.Simulator.{Simulator}
-use Rattle.x25_sim.specs.declared.stage.Stage.{Stage}
-use Rattle.x25_io.specs.code.LinesLead.{LinesLead}
-use Rattle.x25_io.proofs.LooseLemmas.{lines_asked}
-use Rattle.x25_io.proofs.TakerLemmas.{between}
-use Rattle.x25_sim.proofs.StandLemmas.{StandsAt, BeginsAt, begins_before, parts_text, parts_refused}
+use Rattle.x25_sim.proofs.Names.{◌≡◌, ◌∙◌, ℕ, Bool, false, List, [], Option, ap, refl, sym, subst, lines_of, AppendsPrefix, Cfg, Shown, sayings_text}
+use Rattle.x25_io.proofs.{LooseLemmas.{lines_asked}, TakerLemmas.{between}}
+use Rattle.x25_io.specs.{HeldLine.{HoldsLine}, Loose.{asked_lines, asked_text}, code.LinesLead.{LinesLead}, declared.held_line.HeldLine.{HeldLine}}
+use Rattle.x25_sim.proofs.{Names.{has_refusal, turns, opened, simulated, Stage}, StandLemmas.{StandsAt, BeginsAt, begins_before, parts_text, parts_refused}}
+use Rattle.x25_sim.specs.{Stage.{sim_text}, code.Stream.{Simulates}, declared.simulator.Simulator.{Simulator}}
 
 module _ (cfg : Cfg) (down : Bool) (shown asked : Shown) (same : asked ≡ shown) (old now : Option (List ℕ)) (stage : Stage) (script : List ℕ) where
   -- what comes before the script failed

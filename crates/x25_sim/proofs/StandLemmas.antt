@@ -1,25 +1,15 @@
 -- Where the simulator stands after a turn.
-use Rattle.std.proofs.Common.{◌≡◌, ◌∙◌, ℕ, Bool, true, false, List, [], ◌∷◌, ◌++◌, Option, Some, None, append_assoc, ap, sym, subst, refl, codes, inl, inr}
+use Rattle.x25_sim.proofs.Names.{◌≡◌, ◌∙◌, ℕ, Bool, true, false, List, [], ◌∷◌, ◌++◌, Option, Some, None, append_assoc, ap, sym, subst, refl, append-nil}
+use Rattle.x25_sim.proofs.Names.{AppendsPrefix, Dte, Dce, Cfg, World, WorldOutcome, Event, Receives, Happened, Declined, happens, refusal_of, after, start}
+use Rattle.x25_sim.proofs.Names.{FitsWorld, WorldError, Shown, Stage, Saying, refuses, sayings_text, saying_line, has_refusal, Turn, quiet, and_then, frames_if}
+use Rattle.x25_sim.proofs.Names.{marked, turn_of, tried_of, tried, event_turn, told_between, asked_turn, set_up, opened, Stands, refusal_line}
+use Rattle.std.proofs.{Common.{codes, inl, inr}, Math.Bool.{or_assoc, or-false, or-true}, lemmas.List.Folds.{list_any-append}}
 use Rattle.std.specs.Prelude.{◌⊎◌, ◌||◌}
-use Rattle.std.proofs.lemmas.List.{append-nil}
-use Rattle.std.proofs.lemmas.List.Folds.{list_any-append}
-use Rattle.std.proofs.Math.Bool.{or_assoc, or-false, or-true}
-use Rattle.x25_io.specs.code.Written.{AppendsPrefix, Tells}
-use Rattle.x25_bits.specs.declared.role.Role.TheVariants.{Dte, Dce}
-use Rattle.x25_station.specs.declared.config.Cfg.{Cfg}
-use Rattle.x25_world.specs.World.{World, WorldOutcome, Event, Receives, Happened, Declined, AreAccepted, happens, refusal_of, after, start, connected}
-use Rattle.x25_world.specs.code.FitsWorld.{FitsWorld}
-use Rattle.x25_world.specs.declared.error.WorldError.{WorldError}
-use Rattle.x25_sim.specs.declared.stage.Shown.{Shown}
-use Rattle.x25_sim.specs.declared.stage.Stage.{Stage}
-use Rattle.x25_sim.specs.Telling.{Saying, refuses, reads_nothing, sayings_text, saying_line, mark_line, refusal_number, is_refusal, has_refusal}
-use Rattle.x25_sim.specs.Stage.{Turn, quiet, and_then, frames_if, marked, marks_if, turn_of, tried_of, tried, event_turn, told_between, asked_turn, connecting}
-use Rattle.x25_sim.specs.Stage.{set_up, opened}
-use Rattle.x25_sim.specs.code.Stands.{Stands, opening}
-use Rattle.x25_console.specs.Telling.{refusal_line}
 use Rattle.x25_io.proofs.ToldLemmas.{prefix_more}
-use Rattle.x25_sim.proofs.SayingLemmas.{text-append}
-use Rattle.x25_sim.proofs.StepLemmas.{happened_turn, declined_turn, happened_tried, declined_tried, step_accepts, refusal_told}
+use Rattle.x25_io.specs.code.Written.{Tells}
+use Rattle.x25_sim.proofs.{SayingLemmas.{text-append}, StepLemmas.{happened_turn, declined_turn, happened_tried, declined_tried, step_accepts, refusal_told}}
+use Rattle.x25_sim.specs.{Stage.{marks_if, connecting}, Telling.{reads_nothing, mark_line, refusal_number, is_refusal}, code.Stands.{opening}}
+use Rattle.x25_world.specs.World.{AreAccepted, connected}
 
 -- where it stands, by the turn that led there
 abbrev pub StandsAt : Cfg → Shown → Option (List ℕ) → Option (List ℕ) → Stage → List ℕ → Bool → Turn → Type 0

@@ -1,23 +1,13 @@
 -- A step of the world, as it is told.
-use Rattle.std.proofs.Common.{◌≡◌, ◌∙◌, ℕ, Bool, true, false, List, [], ◌∷◌, ◌++◌, length, drop, map, Some, None, append_assoc, ap, sym, refl}
-use Rattle.std.proofs.lemmas.List.{append-nil}
-use Rattle.std.proofs.Math.Seq.{drop-append_seam}
-use Rattle.std.proofs.lemmas.Option.{same_Some}
-use Rattle.x25_bits.specs.declared.role.Role.{Role}
-use Rattle.x25_bits.specs.declared.role.Role.TheVariants.{Dte}
-use Rattle.x25_station.specs.declared.config.Cfg.{Cfg}
+use Rattle.x25_sim.proofs.Names.{◌≡◌, ◌∙◌, ℕ, Bool, true, false, List, [], ◌∷◌, ◌++◌, length, drop, map, Some, None, append_assoc, ap, sym, refl, append-nil}
+use Rattle.x25_sim.proofs.Names.{Role, Dte, Cfg, World, start, OnTap, Event, WorldOutcome, Happened, Declined, refusal_of, after, FitsWorld, WorldError, taps}
+use Rattle.x25_sim.proofs.Names.{refuses, sayings_text, saying_line, has_refusal, refusal_line, quiet, and_then, frames_if, marked, told_between, turn_of}
+use Rattle.std.proofs.{Math.Seq.{drop-append_seam}, lemmas.Option.{same_Some}}
+use Rattle.x25_sim.{proofs.Names.{tried_of, Shown}, proofs.SayingLemmas.{text-append}, specs.Stage.{frames_told, step_told}}
+use Rattle.x25_sim.specs.{Telling.{enters, enters_at, refusal_number}, code.Stands.{opening}}
 use Rattle.x25_station.specs.Entry.{StationEntry}
-use Rattle.x25_world.specs.World.{World, start, entered, tapped, OnTap, AtEnd, Event, WorldOutcome, Happened, Declined, refusal_of, after}
-use Rattle.x25_world.specs.code.ShownWorld.{ShownWorld, line_from}
-use Rattle.x25_world.specs.code.FitsWorld.{FitsWorld}
-use Rattle.x25_world.specs.declared.error.WorldError.{WorldError}
-use Rattle.x25_sim.specs.Telling.{enters, enters_at, taps, refuses, sayings_text, saying_line, refusal_number, has_refusal}
-use Rattle.x25_console.specs.Telling.{refusal_line}
-use Rattle.x25_sim.specs.Stage.{quiet, and_then, frames_if, frames_told, marked, step_told, told_between, turn_of, tried_of}
-use Rattle.x25_sim.specs.declared.stage.Shown.{Shown}
-use Rattle.x25_sim.specs.code.Stands.{opening}
 use Rattle.x25_world.proofs.Established.{connected_tells, connected_taps}
-use Rattle.x25_sim.proofs.SayingLemmas.{text-append}
+use Rattle.x25_world.specs.{World.{entered, tapped, AtEnd}, code.ShownWorld.{ShownWorld, line_from}}
 
 entries_first : (shown : Shown) (entries : List AtEnd) (frames : List OnTap)
     → sayings_text (step_told shown entries frames) ≡ sayings_text (map enters entries) ++ sayings_text (frames_told shown frames)

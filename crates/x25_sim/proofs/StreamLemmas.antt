@@ -1,25 +1,11 @@
 -- A script, line by line.
-use Rattle.std.proofs.Common.{◌≡◌, ◌∙◌, ◌<◌, ◌≤◌, ℕ, Bool, false, List, [], ◌∷◌, ◌++◌, length, Option, None, Result, append_assoc, ap, sym, subst, refl}
-use Rattle.std.proofs.Common.{if◌then◌else◌}
-use Rattle.std.specs.Io.KnownBytes.{Appends}
-use Rattle.std.proofs.lemmas.Bool.{le-leb, lt-leb}
-use Rattle.std.proofs.lemmas.List.{append-nil}
-use Rattle.x25_io.specs.HeldLine.{most_line}
-use Rattle.x25_io.specs.code.Written.{AppendsPrefix}
-use Rattle.x25_io.specs.declared.fault.Fault.{Fault}
-use Rattle.x25_script.specs.Reading.{line_in}
+use Rattle.x25_sim.proofs.Names.{◌≡◌, ◌∙◌, ◌<◌, ℕ, false, List, [], ◌∷◌, ◌++◌, length, Option, None, append_assoc, ap, sym, subst, refl, append-nil}
+use Rattle.x25_sim.proofs.Names.{AppendsPrefix, line_in, Cfg, World, Shown, sayings_text, has_refusal, Turn, quiet, and_then, asked_in, asked_turn, turn, turns}
+use Rattle.std.{proofs.Common.{◌≤◌, Result, if◌then◌else◌}, proofs.lemmas.Bool.{le-leb, lt-leb}, specs.Io.KnownBytes.{Appends}}
+use Rattle.x25_io.specs.{HeldLine.{most_line}, declared.fault.Fault.{Fault}}
 use Rattle.x25_script.specs.ScriptLine.{taken}
-use Rattle.x25_station.specs.declared.config.Cfg.{Cfg}
-use Rattle.x25_world.specs.World.{World}
-use Rattle.x25_sim.specs.declared.stage.Shown.{Shown}
-use Rattle.x25_sim.specs.Telling.{sayings_text, has_refusal}
-use Rattle.x25_sim.specs.Stage.{Turn, quiet, and_then, asked_in, asked_turn, turn, turns}
-use Rattle.x25_sim.specs.code.Stands.{Stands, Stood, Turns}
-use Rattle.x25_sim.specs.code.Leaves.{Leaves}
-use Rattle.x25_sim.specs.code.Stream.{WritesLines}
-use Rattle.x25_sim.specs.declared.stage.Stage.{Stage}
-use Rattle.x25_sim.proofs.LeaveLemmas.{none_left, part_done, part_failed}
-use Rattle.x25_sim.proofs.StandLemmas.{StandsAt, BeginsAt}
+use Rattle.x25_sim.proofs.{LeaveLemmas.{none_left, part_done, part_failed}, Names.{Stands, Stage}, StandLemmas.{StandsAt, BeginsAt}}
+use Rattle.x25_sim.specs.code.{Leaves.{Leaves}, Stands.{Stood, Turns}, Stream.{WritesLines}}
 
 -- a line that is too long
 pub asks_nothing : (line : List ℕ) → most_line < length line → asked_in line ≡ None

@@ -1,18 +1,12 @@
 -- What was written, by the text of a script and the laws of all scripts.
-use Rattle.std.proofs.Common.{◌≡◌, ℕ, Bool, true, false, List, Option, Some, None}
 use Rattle.std.specs.Io.KnownBytes.{Appends}
-use Rattle.x25_station.specs.declared.config.Cfg.{Cfg}
-use Rattle.x25_station.specs.Config.{config_refusal}
-use Rattle.x25_world.specs.World.{World}
 use Rattle.x25_io.specs.code.Runs.{OfInput}
-use Rattle.x25_world.specs.laws.Claims.{ArrivesAll, HasNoProcedureError, IsLawful, IsNamed}
-use Rattle.x25_world.specs.laws.SessionClaims.{MeetInStep, AreLawfulWhereMet, AreNamedInSessions, AllArrive, UnmetAreToldNothing, OpenStretchesMeet}
-use Rattle.x25_world.specs.laws.SessionClaims.{SessionsKeepOrder}
-use Rattle.x25_world.specs.laws.SessionWindow.{UpIsInWindow}
-use Rattle.x25_sim.specs.Stage.{simulated, sim_text}
-use Rattle.x25_sim.specs.declared.stage.Shown.{Shown}
+use Rattle.x25_sim.{proofs.Names.{◌≡◌, ℕ, Bool, true, false, List, Option, Some, None, Cfg, World, simulated, Shown}, specs.Stage.{sim_text}}
 use Rattle.x25_sim.specs.laws.RunLaw.{IsInWindow, OfScripts, OfScriptsSetUp, OfAllScripts, ScriptsAreTold, ScriptsAreTapped}
 use Rattle.x25_sim.specs.laws.WritesRun.{Writes, WritesRun, WritesSetUp}
+use Rattle.x25_station.specs.Config.{config_refusal}
+use Rattle.x25_world.specs.laws.{Claims.{ArrivesAll, HasNoProcedureError, IsLawful, IsNamed}, SessionClaims.{SessionsKeepOrder}, SessionWindow.{UpIsInWindow}}
+use Rattle.x25_world.specs.laws.SessionClaims.{MeetInStep, AreLawfulWhereMet, AreNamedInSessions, AllArrive, UnmetAreToldNothing, OpenStretchesMeet}
 
 writes : (Holds : Cfg → World → Type 0) (cfg : Cfg) (down : Bool) (shown : Shown) (script : List ℕ) (old now : Option (List ℕ)) → ScriptsAreTold
     → ScriptsAreTapped → Appends old now (sim_text cfg down shown script)

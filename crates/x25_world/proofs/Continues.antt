@@ -1,20 +1,17 @@
 -- What a step leaves of a stretch that is open after it: it goes on, or has just begun.
-use Rattle.std.proofs.Common.{◌≡◌, ◌⊎◌, inl, inr, ℕ, suc, ◌≤◌, List, [], ◌∷◌, ◌++◌, length, Option, Some, None, Bool, true, false, nat_lt, nat_le, ◌&&◌}
-use Rattle.std.proofs.Common.{if◌then◌else◌, refl, sym, ap, ◌∙◌, arith, append-nil}
-use Rattle.x25_bits.specs.{declared.role.Role.{Role}, declared.role.Role.TheVariants.{Dte, Dce}}
-use Rattle.x25_packet.specs.Packet.{PlainPacket, call, accept, clear, clear_conf, user_data, rr, rnr, interrupt, interrupt_conf, reset, reset_conf}
-use Rattle.x25_packet.specs.declared.marks.Marks.{Marks}
-use Rattle.x25_circuit.specs.{declared.state.State.{State}, declared.state.State.TheVariants.{Free, Calling, Arriving, Collision, Open, Resetting, Clearing}}
-use Rattle.x25_circuit.specs.{declared.params.Params.{Params}, declared.error.CircuitError.TheVariants.{BadParameter, Full, TooLong, InterruptOutstanding}}
-use Rattle.x25_circuit.specs.{Params.{Proposal, default_params, may_answer, field_for, said_in}, Cause.{may_clear_for, may_reset_for}}
-use Rattle.x25_circuit.specs.Message.{Piece, piece_of, cut}
-use Rattle.x25_circuit.specs.Circuit.{CircuitSettings, Talk, silent, Circuit, talking, outgoing, incoming as terms_in, is_open, is_open_in, waits}
-use Rattle.x25_circuit.specs.Notice.{CallRequest, connected}
-use Rattle.x25_circuit.specs.Hearing.{Answer, answers, goes, clears_for, request_in, collides, connects, row_call, row_accept, row_clear, row_clear_conf}
-use Rattle.x25_circuit.specs.Hearing.{row_reset, row_reset_conf, unless, takes, hears_status, confirms, row_open, row_data, data_ground, number_ground}
-use Rattle.x25_circuit.specs.Calling.{Outcome, Done, Refused, Request, Calls, Accepts, Clears, Sends, Interrupts, Resets, SaysReady, SaysNotReady, does}
-use Rattle.x25_circuit.specs.Calling.{keeps_on, call_sent, may_call, call_in, accept_with, accept_in, clear_in, send_in, interrupt_in, reset_in}
-use Rattle.x25_circuit.specs.Calling.{ready_in, outcome, Pulled, pulls_nothing, pull_open, pull_in, pulled}
+use Rattle.x25_world.proofs.Names.{◌≡◌, ◌⊎◌, inl, inr, ℕ, suc, ◌≤◌, List, [], ◌∷◌, ◌++◌, length, Option, Some, None, Bool, true, false, nat_lt, nat_le, ◌&&◌}
+use Rattle.x25_world.proofs.Names.{if◌then◌else◌, refl, sym, ap, ◌∙◌, arith, append-nil, Role, Dte, Dce, PlainPacket, call, accept, clear, user_data, Marks}
+use Rattle.x25_world.proofs.Names.{State, Free, Calling, Arriving, Open, Clearing, BadParameter, Proposal, default_params, may_answer, field_for, may_clear_for}
+use Rattle.x25_world.proofs.Names.{Piece, Talk, silent, Circuit, is_open, is_open_in, waits, Answer, answers, Done, Calls, outcome}
+use Rattle.x25_circuit.specs.Calling.{Outcome, Refused, Request, Accepts, Clears, Sends, Interrupts, Resets, SaysReady, SaysNotReady, does, keeps_on, call_sent}
+use Rattle.x25_circuit.specs.Calling.{may_call, call_in, accept_with, accept_in, clear_in, send_in, interrupt_in, reset_in, ready_in, Pulled, pulls_nothing}
+use Rattle.x25_circuit.specs.{Calling.{pull_open, pull_in, pulled}, Cause.{may_reset_for}, Circuit.{CircuitSettings, talking, outgoing, incoming as terms_in}}
+use Rattle.x25_circuit.specs.Hearing.{goes, clears_for, request_in, collides, connects, row_call, row_accept, row_clear, row_clear_conf, row_reset}
+use Rattle.x25_circuit.specs.Hearing.{row_reset_conf, unless, takes, hears_status, confirms, row_open, row_data, data_ground, number_ground}
+use Rattle.x25_circuit.specs.{Message.{piece_of, cut}, Notice.{CallRequest, connected}, Params.{said_in}}
+use Rattle.x25_circuit.specs.declared.{error.CircuitError.TheVariants.{Full, TooLong, InterruptOutstanding}, params.Params.{Params}}
+use Rattle.x25_circuit.specs.declared.state.State.TheVariants.{Collision, Resetting}
+use Rattle.x25_packet.specs.Packet.{clear_conf, rr, rnr, interrupt, interrupt_conf, reset, reset_conf}
 use Rattle.x25_window.specs.code.Modulo.{resolved}
 
 pub never : {A : Type 0} → false ≡ true → A

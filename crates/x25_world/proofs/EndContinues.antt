@@ -1,14 +1,12 @@
 -- What a move of a layer's end leaves of a stretch that is open after it, and what it adds to the transcript.
-use Rattle.std.proofs.Common.{◌≡◌, ℕ, List, [], ◌∷◌, ◌++◌, Option, Some, None, Bool, true, false, ◌==◌, if◌then◌else◌, refl, sym, subst, append-nil}
-use Rattle.std.proofs.lemmas.Bool.{eqb-true, cond_both}
-use Rattle.x25_packet.specs.{Packet.{PlainPacket, restart, restart_conf}, Spelling.{channel_of}}
-use Rattle.x25_circuit.specs.{Circuit.{Circuit, is_open}, Hearing.{answers}, Calling.{Outcome, Done, Refused, Calls, outcome}, Cause.{may_restart_for}}
-use Rattle.x25_layer.specs.{Ranges.{is_channel}, Layer.{LayerSettings, Layer, put_at, answers_on, drops, answers_in, layer_answers, restarting_from}}
-use Rattle.x25_layer.specs.Calls.{LayerRequest, Asks, Dials, Restarts, PullsAll, LayerOutcome, Accepted, Declined, puts_at_once, where_room, if_at_once}
-use Rattle.x25_layer.specs.Calls.{outcome_on, dialled, free_channel, outcome_ready, outcome_in, layer_outcome, layer_pulled}
-use Rattle.x25_layer.specs.{declared.error.LayerError.{LayerError}, laws.Transcript.{Entry}}
-use Rattle.x25_layer.specs.laws.TwoLayers.{requested, pulled_in, moves_in, entries_asked, entries_told}
-use Rattle.x25_layer.specs.laws.Apart.{OwnMove, Requests, Pulls, Takes, GoesDown, as_move, coming, alone, own_moves}
+use Rattle.x25_world.proofs.Names.{◌≡◌, ℕ, List, [], ◌∷◌, ◌++◌, Option, Some, None, Bool, true, false, ◌==◌, if◌then◌else◌, refl, sym, subst, append-nil}
+use Rattle.x25_world.proofs.Names.{eqb-true, cond_both, PlainPacket, restart, restart_conf, channel_of, Circuit, is_open, answers, Done, Calls, outcome}
+use Rattle.x25_world.proofs.Names.{LayerSettings, Layer, answers_on, drops, answers_in, layer_answers, LayerRequest, Dials, Restarts, PullsAll, LayerOutcome}
+use Rattle.x25_world.proofs.Names.{Accepted, where_room, outcome_on, dialled, free_channel, outcome_in, layer_outcome, layer_pulled, LayerError, Entry}
+use Rattle.x25_world.proofs.Names.{requested, pulled_in, moves_in, entries_asked, OwnMove, Requests, Pulls, Takes, as_move, alone, own_moves}
+use Rattle.x25_circuit.specs.{Calling.{Outcome, Refused}, Cause.{may_restart_for}}
+use Rattle.x25_layer.specs.{Calls.{Asks, Declined, puts_at_once, if_at_once, outcome_ready}, Layer.{put_at, restarting_from}, Ranges.{is_channel}}
+use Rattle.x25_layer.specs.laws.{Apart.{GoesDown, coming}, TwoLayers.{entries_told}}
 use Rattle.x25_world.proofs.Continues.{never, AfterPacket, AfterCall, stays_heard, stays_called, packet_heard, AfterOutcome, outcome_called, pulled_called}
 use Rattle.x25_world.proofs.sessions.SessionTrace.{TakesNone}
 use Rattle.x25_circuit.specs.declared.error.CircuitError.TheVariants as circuit_error

@@ -1,15 +1,12 @@
 -- Set-up: SABM and UA are taken, by which both ends come up, and both put RESTART, as two stations from a link just set up.
-use Rattle.std.proofs.Common.{◌≡◌, ℕ, List, [], ◌∷◌, ◌++◌, map, true, None, Ok, refl, sym, ap, ap₂, ◌∙◌, subst, arith}
-use Rattle.x25_bits.specs.{declared.role.Role.{Role}, declared.role.Role.TheVariants.{Dte, Dce}}
-use Rattle.x25_frame.specs.{Frame.{PlainFrame, sabm, ua}, Spelling.{spelling_of}}
-use Rattle.x25_link.specs.{declared.phase.Phase.TheVariants.{Down, Waiting}, laws.SetUp.{Is}}
+use Rattle.x25_world.proofs.Names.{◌≡◌, ℕ, List, [], ◌∷◌, ◌++◌, map, true, None, Ok, refl, sym, ap, ap₂, ◌∙◌, subst, arith, Role, Dte, Dce, PlainFrame, sabm}
+use Rattle.x25_world.proofs.Names.{ua, spelling_of, Waiting, Cfg, settings_from, longest_packet, link_up, entries_noted, Station, new_station, Step, follows}
+use Rattle.x25_world.proofs.Names.{receives, IsKept, World, mirrored, entered, tapped, after_step, delivered, after, Event, Receives, happens, refusal_of}
+use Rattle.x25_world.proofs.Names.{AreAccepted, connected, established, link_of, both_put, links_by, Laws, is_up, pumped, LinkStep}
 use Rattle.x25_layer.specs.Layer.{at_rest}
-use Rattle.x25_station.specs.{declared.config.Cfg.{Cfg}, Config.{settings_from, longest_packet}, Entry.{link_up, entries_noted}, Station.{Station, new_station}}
-use Rattle.x25_station.specs.{Step.{Step, follows, receives}, laws.KeepLaw.{IsKept}}
-use Rattle.x25_world.specs.World.{World, mirrored, entered, tapped, after_step, delivered, after, Event, Receives, happens, refusal_of, AreAccepted, connected}
-use Rattle.x25_world.specs.{World.{established}, laws.Claims.{link_of}, laws.SessionWindow.{restart_of, both_put, links_by}, laws.LawsBelow.{Laws}}
+use Rattle.x25_link.specs.{Link.{put_step}, Station.{with_nothing, fresh}, declared.phase.Phase.TheVariants.{Down}, laws.SetUp.{Is}}
 use Rattle.x25_peer.proofs.sessions.LinkSteps.{handed_up}
-use Rattle.x25_link.specs.{Station.{with_nothing, fresh, is_up, pumped}, Hearing.{LinkStep}, Link.{put_step}}
+use Rattle.x25_world.specs.laws.SessionWindow.{restart_of}
 
 -- ---- an end that comes up
 

@@ -1,13 +1,10 @@
 -- The octets that spell a frame are octets, at most as many as the longest frame has.
-use Rattle.std.proofs.Common.{◌≡◌, ◌∙◌, ℕ, zero, suc, ◌+◌, ◌-◌, ◌*◌, ◌/◌, ◌%◌, ◌≤◌, ◌<◌, Bool, true, false, not, List, [], ◌∷◌, ◌++◌, length, map, take, drop}
-use Rattle.std.proofs.{Common.{replicate, subst, arith, refl}, lemmas.List.{length-append, length-map, length-replicate}}
-use Rattle.std.proofs.lemmas.List.Elements.{All-nil, All-cons, All-append}
-use Rattle.x25_bits.specs.{Bits.{bit}, FrameCheck.{number_of, bits_of, add, divisor, divided, remainder, inverted, fcs_of}, FrameCheck.Sealed.{seal_of}}
-use Rattle.x25_bits.specs.{declared.role.Role.{Role}, declared.role.Role.TheVariants.{Dte, Dce}}
-use Rattle.x25_frame.specs.Frame.{PlainFrame, info, rr, rnr, rej, sabm, disc, ua, dm, frmr}
-use Rattle.x25_frame.specs.Spelling.{is_command, address_of, control_of, information_of, IsInRange, MayCarry, IsWithin, body_of, spelling_of}
-use Rattle.x25_station.specs.{Config.{longest_packet}, laws.ReadLaw.{AreOctets}}
-use Rattle.x25_world.specs.laws.TapOctets.{AreOfFrame}
+use Rattle.x25_world.proofs.Names.{◌≡◌, ◌∙◌, ℕ, zero, suc, ◌+◌, ◌-◌, ◌*◌, ◌≤◌, ◌<◌, Bool, true, false, not, List, [], ◌∷◌, ◌++◌, length, map, take, drop, subst}
+use Rattle.x25_world.proofs.Names.{arith, refl, length-map, All-nil, number_of, add, divisor, divided, fcs_of, Role, Dte, Dce, PlainFrame, info, sabm, ua, frmr}
+use Rattle.x25_world.proofs.Names.{information_of, spelling_of, longest_packet, AreOctets, AreOfFrame}
+use Rattle.std.proofs.{Common.{◌/◌, ◌%◌, replicate}, lemmas.List.{length-append, length-replicate}, lemmas.List.Elements.{All-cons, All-append}}
+use Rattle.x25_bits.specs.{Bits.{bit}, FrameCheck.{bits_of, remainder, inverted}, FrameCheck.Sealed.{seal_of}}
+use Rattle.x25_frame.specs.{Frame.{rr, rnr, rej, disc, dm}, Spelling.{is_command, address_of, control_of, IsInRange, MayCarry, IsWithin, body_of}}
 
 -- ---- the frame check sequence has sixteen bits
 

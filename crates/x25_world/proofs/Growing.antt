@@ -1,14 +1,10 @@
 -- What a step of an end adds: packets, entries of its transcript, and octets on the tap and on the line.
-use Rattle.std.proofs.Common.{◌≡◌, ℕ, zero, suc, List, [], ◌∷◌, ◌++◌, map, length, Result, Ok, Contains, refl, sym, ap, ap₂, subst, ◌∙◌, arith, append_assoc}
-use Rattle.std.proofs.{Common.{append-nil}, lemmas.List.{map-append, length-map}}
-use Rattle.x25_bits.specs.{declared.role.Role.{Role}, declared.role.Role.TheVariants.{Dte, Dce}}
-use Rattle.x25_frame.specs.{Frame.{PlainFrame}, Spelling.{spelling_of}}
-use Rattle.x25_packet.specs.{Packet.{PlainPacket}, Spelling.{longest_user}, declared.error.PacketError.{PacketError}, Taking.{read_in}}
-use Rattle.x25_link.specs.Hearing.{other}
-use Rattle.x25_station.specs.{declared.config.Cfg.{Cfg}, laws.ReadLaw.{AreOctets}, Entry.{StationEntry}}
-use Rattle.x25_world.specs.{World.{OnTap, AtEnd, tapped, entered}, laws.Claims.{entry_of_end, entries_at}}
-use Rattle.x25_line.specs.{laws.Sessions.{Entry, sent_in}, laws.SessionClaims.{Each, octets_of}}
+use Rattle.x25_world.proofs.Names.{◌≡◌, ℕ, zero, suc, List, [], ◌∷◌, ◌++◌, map, length, Result, Ok, Contains, refl, sym, ap, ap₂, subst, ◌∙◌, arith}
+use Rattle.x25_world.proofs.Names.{append_assoc, append-nil, map-append, length-map, Role, Dte, Dce, PlainFrame, spelling_of, PlainPacket, longest_user}
+use Rattle.x25_world.proofs.Names.{PacketError, read_in, other, Cfg, AreOctets, StationEntry, OnTap, AtEnd, tapped, entered, entry_of_end, entries_at, sent_in}
+use Rattle.x25_world.proofs.Names.{Each, octets_of}
 use Rattle.x25_line.proofs.sessions.SessionLines.{octets_append, octets_sent}
+use Rattle.x25_line.specs.laws.Sessions.{Entry}
 use Rattle.x25_peer.proofs.sessions.LinkSteps.{AreReadBack}
 
 -- ---- octets, by the packets that they are read as

@@ -1,29 +1,19 @@
 -- What rest shows at a world of two stations; and how its two links heal, while the layers put nothing.
-use Rattle.std.proofs.Common.{◌≡◌, ℕ, List, [], ◌∷◌, ◌++◌, map, true, false, ◌&&◌, if◌then◌else◌, Option, Some, None, refl, sym, ap, ◌∙◌, subst, suc, length}
-use Rattle.std.proofs.{Common.{◌≤◌, inl}, lemmas.Bool.{eq-eqb, and_from}}
-use Rattle.std.specs.Prelude.{◌==◌}
-use Rattle.x25_bits.specs.{declared.role.Role.{Role}, declared.role.Role.TheVariants.{Dte, Dce}}
-use Rattle.x25_frame.specs.Spelling.{spelling_of}
-use Rattle.x25_line.specs.laws.Sessions.{Meeting, Sessions, from_nothing, begun_by, IsTimely, AreTimely}
-use Rattle.x25_line.specs.laws.SessionClaims.{Each, octets_of}
+use Rattle.x25_world.proofs.Names.{◌≡◌, ℕ, List, [], ◌∷◌, ◌++◌, map, true, false, ◌&&◌, if◌then◌else◌, Option, Some, None, refl, sym, ap, ◌∙◌, subst, suc}
+use Rattle.x25_world.proofs.Names.{length, ◌≤◌, inl, eq-eqb, Role, Dte, Dce, spelling_of, Meeting, Sessions, from_nothing, begun_by, IsTimely, AreTimely, Each}
+use Rattle.x25_world.proofs.Names.{octets_of, waits_up_to, HasAllOf, Name, Cfg, Settings, settings_from, link_settings, layer_settings, all_put, view_of}
+use Rattle.x25_world.proofs.Names.{follows, layer_at, unless, fires, ConnectKeeps, stretch, World, mirrored, Declined, Receives, acts, delivered, fired}
+use Rattle.x25_world.proofs.Names.{of_station, is_on_line, after, after_step, happens, refusal_of, run, AreAccepted, link_of, station_at, SessionLaws}
+use Rattle.x25_world.proofs.Names.{Throughout, AllArrive, at_end, last_session, handed_in, IsDrained, receipt, all_received, firing, AreLinksOf, RestShows}
+use Rattle.x25_world.proofs.Names.{timer_silent, LinkError, LinkSettings, LinkStation, is_up, awaits_ua, LinkStep, other, take_step, timer_step, timer_refusal}
+use Rattle.std.{proofs.lemmas.Bool.{and_from}, specs.Prelude.{◌==◌}}
 use Rattle.x25_line.specs.Healing.{IsDelivery, EachRestShows, IsAtRestOrOut, HasTries, OneIsFree, EachSessionHeals, SessionsHealUnlessBothBusy, FindsIn}
 use Rattle.x25_line.specs.Healing.{EachFindsIn, SessionsDrainEnd}
-use Rattle.x25_layer.specs.{code.FitsLayer.{waits_up_to}, laws.Law.{HasAllOf}}
-use Rattle.x25_handshakes.specs.laws.Names.{Name}
-use Rattle.x25_station.specs.{declared.config.Cfg.{Cfg}, Config.{Settings, settings_from, link_settings, layer_settings}, Station.{all_put, view_of}}
-use Rattle.x25_station.specs.{Step.{follows, layer_at, unless, fires}, laws.KeepLaw.{ConnectKeeps}, Station.Told.{stretch}}
-use Rattle.x25_world.specs.World.{World, mirrored, Declined, Receives, acts, delivered, fired, of_station, is_on_line, after, after_step, happens, refusal_of}
-use Rattle.x25_world.specs.{World.{run, AreAccepted}, laws.Claims.{link_of, station_at}, laws.LawsBelow.{SessionLaws}}
-use Rattle.x25_world.specs.{laws.SessionClaims.{Throughout, AllArrive}, laws.SessionWindow.{at_end}, laws.Sessions.{last_session, handed_in}}
-use Rattle.x25_world.specs.Healing.{IsDrained, receipt, all_received, firing, AreLinksOf, StopsAtRest, RestShows, PutsNothing, PutsNothingAt, NonePut, Heals}
-use Rattle.x25_world.specs.Healing.{MayHeal, HealsWhereNonePut, DrainsWhereNonePut}
-use Rattle.x25_world.proofs.{Known.{true_false, IsConfigured, is_configured}, WorldLemmas.{refusal-swapped}}
-use Rattle.x25_world.proofs.sessions.SessionReaches.{Leads, then_leads, joined_at, known_sessions}
-use Rattle.x25_world.proofs.{sessions.SessionJoined.{SessionsJoined}, Growing.{octets_put}, sessions.SessionFollows.{silent}}
-use Rattle.x25_world.proofs.{sessions.SessionRuns.{back_after, throughout_joined}, sessions.SessionsAlong.{Alike, joined_alike, run_of, links_are}}
-use Rattle.x25_peer.proofs.Granted.{timer_silent}
-use Rattle.x25_link.specs.{declared.error.LinkError.{LinkError}, Station.{LinkSettings, LinkStation, is_up, awaits_ua}}
-use Rattle.x25_link.specs.{Hearing.{LinkStep, other}, Link.{take_step, timer_step, timer_refusal, timer_runs, abandon_step}, laws.RestLaw.{IsAtRest}}
+use Rattle.x25_world.proofs.{Growing.{octets_put}, Known.{true_false, IsConfigured, is_configured}, Names.{timer_runs, abandon_step, IsAtRest}}
+use Rattle.x25_world.proofs.{WorldLemmas.{refusal-swapped}, sessions.SessionFollows.{silent}, sessions.SessionJoined.{SessionsJoined}}
+use Rattle.x25_world.proofs.sessions.{SessionReaches.{Leads, then_leads, joined_at, known_sessions}, SessionRuns.{back_after, throughout_joined}}
+use Rattle.x25_world.proofs.sessions.SessionsAlong.{Alike, joined_alike, run_of, links_are}
+use Rattle.x25_world.specs.Healing.{StopsAtRest, PutsNothing, PutsNothingAt, NonePut, Heals, MayHeal, HealsWhereNonePut, DrainsWhereNonePut}
 use Rattle.x25_link.specs.Link as link
 use Rattle.x25_line.specs.laws.Stations as line
 use Rattle.x25_line.specs.laws.Sessions as links

@@ -1,24 +1,14 @@
 -- How the two links of a world heal while the layers put packets: each event of the world asks a link for a delivery, where octets come, and then for
 -- packets that are handed down to it.
-use Rattle.std.proofs.Common.{◌≡◌, ℕ, List, [], ◌∷◌, ◌++◌, Bool, true, false, refl, sym, ap, ◌∙◌, subst}
-use Rattle.x25_bits.specs.{declared.role.Role.{Role}, declared.role.Role.TheVariants.{Dte, Dce}}
-use Rattle.x25_link.specs.{declared.phase.Phase.{Phase}, declared.phase.Phase.TheVariants.{Waiting}, laws.RestLaw.{IsAtRest}}
-use Rattle.x25_line.specs.{laws.Sessions.{Sessions, IsTimely, AreTimely}, laws.SessionClaims.{Each}}
-use Rattle.x25_line.specs.laws.HealingPuts.{LinkMayHeal, AreFree, IsDeliverOrPut, IsDeliveryOrPut, SessionsFreeThroughout, SessionsHaveArrived}
-use Rattle.x25_line.specs.laws.HealingPuts.{PutsHealSessions}
-use Rattle.x25_station.specs.declared.config.Cfg.{Cfg}
-use Rattle.x25_station.specs.laws.KeepLaw.{ConnectKeeps}
-use Rattle.x25_world.specs.World.{World, Event, happens, after, run}
-use Rattle.x25_world.specs.{laws.Claims.{AreInOctets}, laws.LawsBelow.{SessionLaws}, laws.SessionClaims.{Throughout}}
-use Rattle.x25_world.specs.laws.SessionWindow.{all_at}
-use Rattle.x25_world.specs.Healing.{firing, AreReceiptsAndRequests, FreeThroughout, HealsWithPuts}
-use Rattle.x25_world.proofs.{Known.{IsConfigured, is_configured, true_false}, sessions.SessionReaches.{TakesAndPuts, asked_of, known_sessions}}
-use Rattle.x25_world.proofs.sessions.SessionJoined.{SessionsJoined}
-use Rattle.x25_line.proofs.HealingSteps.{links_append}
-use Rattle.x25_world.proofs.{sessions.SessionRuns.{next, throughout_joined}, sessions.SessionsAlong.{Alike, joined_alike, alike_goes, links_are}}
-use Rattle.x25_world.proofs.HealingLemmas.{c_of, d_of, both_alike, none_of, fired_then, gone_are}
-use Rattle.x25_peer.proofs.sessions.LinkSteps.{puts_of}
-use Rattle.x25_link.specs.Station.{LinkSettings, LinkStation, is_up, is_busy, awaits_ua}
+use Rattle.x25_world.proofs.Names.{◌≡◌, ℕ, List, [], ◌∷◌, ◌++◌, Bool, true, false, refl, sym, ap, ◌∙◌, subst, Role, Dte, Dce, Waiting, IsAtRest, Sessions}
+use Rattle.x25_world.proofs.Names.{IsTimely, AreTimely, Each, AreFree, Cfg, ConnectKeeps, World, Event, happens, after, run, AreInOctets, SessionLaws}
+use Rattle.x25_world.proofs.Names.{Throughout, all_at, firing, AreReceiptsAndRequests, FreeThroughout, HealsWithPuts, links_append, puts_of, LinkSettings}
+use Rattle.x25_line.specs.laws.HealingPuts.{LinkMayHeal, IsDeliverOrPut, IsDeliveryOrPut, SessionsFreeThroughout, SessionsHaveArrived, PutsHealSessions}
+use Rattle.x25_link.specs.{Station.{is_busy}, declared.phase.Phase.{Phase}}
+use Rattle.x25_world.proofs.{HealingLemmas.{c_of, d_of, both_alike, none_of, fired_then, gone_are}, Known.{IsConfigured, is_configured, true_false}}
+use Rattle.x25_world.proofs.{Names.{LinkStation, is_up, awaits_ua}, sessions.SessionJoined.{SessionsJoined}}
+use Rattle.x25_world.proofs.sessions.{SessionReaches.{TakesAndPuts, asked_of, known_sessions}, SessionRuns.{next, throughout_joined}}
+use Rattle.x25_world.proofs.sessions.SessionsAlong.{Alike, joined_alike, alike_goes, links_are}
 use Rattle.x25_line.specs.laws.Stations as line
 use Rattle.x25_line.specs.laws.Sessions as links
 

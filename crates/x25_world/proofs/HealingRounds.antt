@@ -1,21 +1,17 @@
 -- Healing as a whole: firings, and rounds of pulls; all arrives.
-use Rattle.std.proofs.Common.{◌≡◌, ℕ, zero, suc, ◌+◌, ◌-◌, ◌*◌, ◌≤◌, ◌<◌, Bool, true, false, List, [], ◌∷◌, ◌++◌, length, ◌&&◌, inl, Option, Some, None, refl}
-use Rattle.std.proofs.{Common.{sym, ap, ◌∙◌, subst, arith}, lemmas.Bool.{and_parts, not-true}}
-use Rattle.std.specs.Prelude.{is_none, is_some, not, option_map}
-use Rattle.x25_bits.specs.{declared.role.Role.{Role}, declared.role.Role.TheVariants.{Dte, Dce}}
-use Rattle.x25_station.specs.{declared.config.Cfg.{Cfg}, Config.{settings_from, layer_settings, config_refusal}, Command.{Requests}, Station.{Station}}
-use Rattle.x25_station.specs.{Station.Told.{is_at_rest}, Step.{Outcome, Did, Refused, commands}}
-use Rattle.x25_link.specs.{Station.{LinkStation, is_up}, Link.{is_idle, timer_runs}, laws.RestLaw.{IsAtRest}}
-use Rattle.x25_layer.specs.{Calls.{PullsAll}, laws.WaitLaw.{PullsNone}}
-use Rattle.x25_world.specs.World.{World, AtEnd, mirrored, WorldOutcome, Happened, Declined, of_station, swapped_back, Event, happens, after, run}
-use Rattle.x25_world.specs.{laws.Claims.{AreInOctets, IsBeginning}, laws.SessionClaims.{Throughout}}
-use Rattle.x25_world.specs.laws.WaitClaims.{pull_at, AllWaitForUsers, HasNoneToPull, PullsLeaveNone, UnpulledWaitForUsers}
-use Rattle.x25_world.specs.Healing.{receipt, all_received, firing, next_end, arrivals, deliveries, one_if, if_accepted, behind, both_tried, pull_round}
-use Rattle.x25_world.specs.Healing.{unless_empty, pull_rounds, fire_and_pull, healing, received_by, received_in, IsDrained, AreReceiptsAndRequests}
-use Rattle.x25_world.specs.Healing.{FreeThroughout, BothMayHeal, HaveArrived, HealsWithPuts, RestShows, ArrivesByHealing, AllArrives, RestShowsAll}
-use Rattle.x25_world.specs.{code.ShownWorld.{ShownWorld}, code.FitsWorld.{FitsRun, Leaves}, code.FitsHealing.{most_times, TellingWorld, GoesBy}}
-use Rattle.x25_world.proofs.{WorldLemmas.{run_append, accepted_append, octets_append}, HealingSchedule.{count_append, tried_is, Begun, goes_on, rest_is}}
-use Rattle.x25_line.proofs.Lists.{each_append}
+use Rattle.x25_world.proofs.Names.{◌≡◌, ℕ, zero, suc, ◌+◌, ◌-◌, ◌*◌, ◌≤◌, ◌<◌, Bool, true, false, List, [], ◌∷◌, ◌++◌, length, ◌&&◌, inl, Option, Some, None}
+use Rattle.x25_world.proofs.Names.{refl, sym, ap, ◌∙◌, subst, arith, and_parts, Role, Dte, Dce, Cfg, settings_from, layer_settings, config_refusal, Station}
+use Rattle.x25_world.proofs.Names.{Outcome, Did, Refused, commands, LinkStation, is_up, timer_runs, IsAtRest, PullsAll, PullsNone, World, AtEnd, mirrored}
+use Rattle.x25_world.proofs.Names.{WorldOutcome, Happened, Declined, of_station, swapped_back, Event, happens, after, run, AreInOctets, IsBeginning, Throughout}
+use Rattle.x25_world.proofs.Names.{PullsLeaveNone, UnpulledWaitForUsers, receipt, all_received, firing, next_end, arrivals, deliveries, one_if, if_accepted}
+use Rattle.x25_world.proofs.Names.{behind, received_in, IsDrained, AreReceiptsAndRequests, FreeThroughout, HealsWithPuts, RestShows, ShownWorld, FitsRun}
+use Rattle.std.{proofs.lemmas.Bool.{not-true}, specs.Prelude.{is_none, is_some, not, option_map}}
+use Rattle.x25_link.specs.Link.{is_idle}
+use Rattle.x25_station.specs.{Command.{Requests}, Station.Told.{is_at_rest}}
+use Rattle.x25_world.proofs.{HealingSchedule.{count_append, tried_is, Begun, goes_on, rest_is}, Names.{TellingWorld, GoesBy, each_append}}
+use Rattle.x25_world.{proofs.WorldLemmas.{run_append, accepted_append, octets_append}, specs.Healing.{ArrivesByHealing, AllArrives, RestShowsAll}}
+use Rattle.x25_world.specs.Healing.{both_tried, pull_round, unless_empty, pull_rounds, fire_and_pull, healing, received_by, BothMayHeal, HaveArrived}
+use Rattle.x25_world.specs.{code.FitsHealing.{most_times}, code.FitsWorld.{Leaves}, laws.WaitClaims.{pull_at, AllWaitForUsers, HasNoneToPull}}
 
 -- ---- rounds
 

@@ -1,14 +1,12 @@
 -- The schedule of healing, event by event: lists that go on, an event that may be refused, deliveries.
-use Rattle.std.proofs.Common.{◌≡◌, ℕ, zero, suc, ◌+◌, ◌-◌, ◌≤◌, ◌<◌, ◌⊎◌, inl, inr, ◌≢◌, List, [], ◌∷◌, ◌++◌, length, map, Some, None, Result, Ok, Err, OnOk}
-use Rattle.std.proofs.Common.{IfErr, refl, sym, ap, ap₂, ◌∙◌, subst, arith, append_assoc, append-nil, length-append}
-use Rattle.x25_bits.specs.{declared.role.Role.{Role}, declared.role.Role.TheVariants.{Dte, Dce}}
-use Rattle.x25_station.specs.{declared.config.Cfg.{Cfg}, Config.{settings_from}}
-use Rattle.x25_world.specs.World.{World, AtEnd, mirrored, WorldOutcome, Happened, Declined, swapped_back, delivered, Event, happens, refusal_of, after, run}
-use Rattle.x25_world.specs.declared.error.WorldError.{WorldError}
-use Rattle.x25_world.specs.Healing.{receipt, all_received, next_end, arrivals_from, arrivals, deliveries, one_if, if_accepted, behind, received_in}
-use Rattle.x25_world.specs.{declared.told.Entered.{Entered}, code.PlainTold.{plain_told}, code.ShownWorld.{ShownWorld}}
-use Rattle.x25_world.specs.{code.FitsWorld.{FitsWorld, IsRefusal}, code.FitsHealing.{TellingWorld, telling, Tells, GoesBy, GoesPartly}}
-use Rattle.x25_world.proofs.WorldLemmas.{run_append, accepted_append}
+use Rattle.x25_world.proofs.Names.{◌≡◌, ℕ, zero, suc, ◌+◌, ◌-◌, ◌≤◌, ◌<◌, ◌⊎◌, inl, inr, List, [], ◌∷◌, ◌++◌, length, Some, None, Result, Ok, Err, OnOk, IfErr}
+use Rattle.x25_world.proofs.Names.{refl, sym, ap, ap₂, ◌∙◌, subst, arith, append_assoc, append-nil, length-append, Role, Dte, Dce, Cfg, settings_from, World}
+use Rattle.x25_world.proofs.Names.{AtEnd, mirrored, WorldOutcome, Happened, Declined, swapped_back, delivered, Event, happens, refusal_of, after, run}
+use Rattle.x25_world.proofs.Names.{WorldError, receipt, all_received, next_end, arrivals, deliveries, one_if, if_accepted, behind, received_in, ShownWorld}
+use Rattle.std.proofs.Common.{◌≢◌}
+use Rattle.x25_world.proofs.{Names.{FitsWorld, IsRefusal, TellingWorld, GoesBy}, WorldLemmas.{run_append, accepted_append}}
+use Rattle.x25_world.specs.{Healing.{arrivals_from}, code.FitsHealing.{telling, Tells, GoesPartly}, code.PlainTold.{plain_told}}
+use Rattle.x25_world.specs.declared.told.Entered.{Entered}
 use Rattle.x25_world.specs.declared.error.WorldError.TheVariants as error
 
 -- ---- lists of events

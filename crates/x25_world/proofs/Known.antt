@@ -1,7 +1,7 @@
 -- The settings of a world, as the laws of its links want them.
-use Rattle.std.proofs.{Common.{◌≡◌, ◌≤◌, Bool, true, false, ◌&&◌, nat_le, if◌then◌else◌, Option, Some, None, refl}, lemmas.Bool.{and_parts, leb-true}}
+use Rattle.x25_world.proofs.Names.{◌≡◌, ◌≤◌, Bool, true, false, ◌&&◌, nat_le, if◌then◌else◌, Option, Some, None, refl, and_parts, leb-true, Cfg, StationError}
+use Rattle.x25_world.proofs.Names.{config_refusal}
 use Rattle.x25_layer.specs.Ranges.{is_number, are_ranges}
-use Rattle.x25_station.specs.{declared.config.Cfg.{Cfg}, declared.error.StationError.{StationError}, Config.{config_refusal}}
 use Rattle.x25_station.specs.declared.error.StationError.TheVariants as error
 
 -- ---- the settings

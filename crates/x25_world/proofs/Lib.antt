@@ -1,3 +1,4 @@
+pub mod Names
 pub mod Known
 pub mod Growing
 pub mod Established

@@ -1,8 +1,6 @@
 -- Frames on the line, as clauses see them: one that is taken off, and one in the place of another.
-use Rattle.std.proofs.{Common.{◌≡◌, ℕ, zero, suc, List, [], ◌∷◌, map, take, drop, refl, ap, ◌∙◌}, Math.ListN.{set}}
-use Rattle.std.proofs.lemmas.List.{map-append, map-set, take-map, drop-map}
-use Rattle.std.specs.List.{remove}
-use Rattle.x25_line.specs.laws.Loss.{replaced}
+use Rattle.x25_world.proofs.Names.{◌≡◌, ℕ, zero, suc, List, [], ◌∷◌, map, take, drop, refl, ap, ◌∙◌, map-append, remove, replaced}
+use Rattle.std.proofs.{Math.ListN.{set}, lemmas.List.{map-set, take-map, drop-map}}
 
 pub map-remove : {X Y : Type 0} (f : X → Y) (xs : List X) (k : ℕ) → map f (remove xs k) ≡ remove (map f xs) k
 map-remove f xs k = map-append f (take k xs) (drop (suc k) xs) ∙ cc (take-map f k xs, drop-map f (suc k) xs)

@@ -1,7 +1,6 @@
 -- A frame of a set-up is on the line where one of its places has it.
-use Rattle.std.proofs.Common.{◌≡◌, ℕ, ◌+◌, ◌<◌, Bool, true, false, ◌||◌, List, [], length, take, Some, None, slice_get, sym, ap, ap₂, ◌∙◌}
-use Rattle.std.proofs.{lemmas.Option.{get_or_from_slice_get, slice_get-get_or}, lemmas.List.Folds.{list_any_at, list_any_more}}
-use Rattle.std.specs.List.{list_any}
+use Rattle.x25_world.proofs.Names.{◌≡◌, ℕ, ◌+◌, ◌<◌, Bool, true, false, ◌||◌, List, [], length, take, Some, None, slice_get, sym, ap, ap₂, ◌∙◌, list_any}
+use Rattle.std.proofs.lemmas.{List.Folds.{list_any_at, list_any_more}, Option.{get_or_from_slice_get, slice_get-get_or}}
 
 -- what stands at this place passes the test
 pub found_at : {X : Type 0} (p : X → Bool) (xs : List X) (i : ℕ) (x : X) → i < length xs → Some x ≡ slice_get xs i → p x ≡ true → list_any p xs ≡ true

@@ -1,24 +1,16 @@
 -- Where the link is set up once, each end has one session, these are in order, and all that the ends told of their layers is in them.
-use Rattle.std.proofs.Common.{◌≡◌, ℕ, zero, suc, ◌+◌, ◌≤◌, ◌⊎◌, inl, inr, List, [], ◌∷◌, true, Option, Some, None, refl, sym, ap, ◌∙◌, subst, arith}
-use Rattle.x25_bits.specs.{declared.role.Role.{Role}, declared.role.Role.TheVariants.{Dte, Dce}}
-use Rattle.x25_link.specs.{Hearing.{other}, Station.{is_up, LinkStation, LinkSettings}}
-use Rattle.x25_line.specs.{laws.Sessions.{SessionEnd, Sessions}, laws.SessionClaims.{Each, OnlyBegunHaveLists}}
-use Rattle.x25_line.specs.{laws.StationClaims.{AcceptsNoConnectAt}, laws.SessionEvents.{IsUnasked, NoneBeginUnasked}}
-use Rattle.x25_layer.specs.{Layer.{goes_up}, laws.Law.{HandsUpLawfully, HasAllOf}, laws.NameLaw.{first_name, counted}, laws.Apart.{own_run}}
-use Rattle.x25_layer.specs.laws.TwoLayers.{started}
-use Rattle.x25_station.specs.{declared.config.Cfg.{Cfg}, Entry.{StationEntry, link_up, link_down, layer_entries}, Station.{Station}}
-use Rattle.x25_station.specs.Command.{Connects, Relinks}
-use Rattle.x25_world.specs.declared.error.WorldError.{WorldError}
-use Rattle.x25_world.specs.World.{World, Act, Commands, Event, WorldOutcome, Happened, Declined, refusal_of, happens, after, run, established}
-use Rattle.x25_world.specs.laws.Claims.{station_at, entries_at, ups_in, IsUpAtMostOnce, handed_at, IsLawful, IsNamed, ArrivesAll, AreInOctets}
-use Rattle.x25_world.specs.{laws.Claims.{IsNoConnect, NoneConnects, link_of}, laws.SessionWindow.{Asks, at_end, all_at}, laws.LawsBelow.{SessionLaws}}
-use Rattle.x25_world.specs.laws.Sessions.{Progress, none_begun, after_entry, after_entries, progress_at, session_at, last_session}
-use Rattle.x25_world.proofs.{Established.{just_set_up}, sessions.SessionRuns.{next}}
-use Rattle.x25_world.proofs.{Known.{IsConfigured}, sessions.SessionTrace.{Done, layer_of, own}}
-use Rattle.x25_world.proofs.sessions.SessionReaches.{SessionsReach, Leads, reach_on, known_sessions}
-use Rattle.x25_world.proofs.sessions.SessionJoined.{HaveAll, IsEnd, HasMet, PairIsInOrder, SessionsJoined}
-use Rattle.x25_world.proofs.{sessions.SessionKnown.{met_in_order, nothing_in_order}, sessions.claims.SessionMeets.{begun_both, meet_in_step}}
-use Rattle.x25_world.proofs.{sessions.claims.SessionLawful.{own_lawful, are_named}, sessions.claims.SessionArrives.{all_arrive, open_stretches_meet}}
+use Rattle.x25_world.proofs.Names.{◌≡◌, ℕ, zero, suc, ◌+◌, ◌≤◌, ◌⊎◌, inl, inr, List, [], ◌∷◌, true, Option, Some, None, refl, sym, ap, ◌∙◌, subst, arith, Role}
+use Rattle.x25_world.proofs.Names.{Dte, Dce, other, is_up, LinkStation, LinkSettings, SessionEnd, Sessions, Each, OnlyBegunHaveLists, goes_up, HandsUpLawfully}
+use Rattle.x25_world.proofs.Names.{HasAllOf, first_name, counted, own_run, started, Cfg, StationEntry, link_up, link_down, layer_entries, Station, Connects}
+use Rattle.x25_world.proofs.Names.{Relinks, WorldError, World, Act, Commands, Event, WorldOutcome, Happened, Declined, refusal_of, happens, after, run}
+use Rattle.x25_world.proofs.Names.{established, station_at, entries_at, IsUpAtMostOnce, AreInOctets, link_of, Asks, at_end, all_at, SessionLaws, Progress}
+use Rattle.x25_line.specs.laws.{SessionEvents.{IsUnasked, NoneBeginUnasked}, StationClaims.{AcceptsNoConnectAt}}
+use Rattle.x25_world.proofs.{Established.{just_set_up}, Known.{IsConfigured}, Names.{none_begun, after_entry, after_entries, session_at, last_session}}
+use Rattle.x25_world.proofs.sessions.{SessionJoined.{HaveAll, IsEnd, HasMet, PairIsInOrder, SessionsJoined}, SessionKnown.{met_in_order, nothing_in_order}}
+use Rattle.x25_world.proofs.sessions.{SessionReaches.{SessionsReach, Leads, reach_on, known_sessions}, SessionRuns.{next}, SessionTrace.{Done, layer_of, own}}
+use Rattle.x25_world.proofs.sessions.claims.{SessionArrives.{all_arrive, open_stretches_meet}, SessionLawful.{own_lawful, are_named}}
+use Rattle.x25_world.proofs.sessions.claims.SessionMeets.{begun_both, meet_in_step}
+use Rattle.x25_world.specs.laws.{Claims.{ups_in, handed_at, IsLawful, IsNamed, ArrivesAll, IsNoConnect, NoneConnects}, Sessions.{progress_at}}
 use Rattle.x25_line.specs.laws.Stations as line
 use Rattle.x25_line.specs.laws.Sessions as links
 

@@ -1,16 +1,13 @@
 -- What an end did is its act by the definition, and its refusal is due.
-use Rattle.std.proofs.Common.{◌≡◌, ℕ, true, false, ◌&&◌, if◌then◌else◌, List, [], ◌∷◌, ◌++◌, map, Some, None, slice_get, Result, Ok, Err, OnOk, OnErr, IfErr}
-use Rattle.std.proofs.{Common.{◌⊎◌, inl, inr, refl, ap, sym, ◌∙◌}, lemmas.List.{append-nil}}
-use Rattle.std.specs.List.{remove}
-use Rattle.x25_bits.specs.{Role.{other}, declared.role.Role.{Role}, declared.role.Role.TheVariants.{Dte, Dce}}
-use Rattle.x25_frame.specs.Spelling.{spelling_of}
-use Rattle.x25_link.specs.Station.{awaits_ua}
-use Rattle.x25_station.specs.{declared.config.Cfg.{Cfg}, declared.error.StationError.{StationError}, Entry.{StationEntry}}
-use Rattle.x25_station.specs.{code.FitsStation.{FitsStation, Leaves, Sends, Enters, Refuses}, Config.{Settings, settings_from}}
-use Rattle.x25_station.specs.Step.{Step, Outcome, Did, Refused, fires, receives}
-use Rattle.x25_world.specs.{declared.error.WorldError.{WorldError}, Error.{error_of}}
-use Rattle.x25_world.specs.World.{World, WorldOutcome, Happened, Declined, after_step, of_station, delivered, on_line, is_on_line, fired, refusal_of, entered}
-use Rattle.x25_world.specs.{code.ShownLine.{ShownLine, line_to, with_line_to, with_room_of, put_by, TakesFew}, code.FitsWorld.{FitsSide, HasHappened}}
+use Rattle.x25_world.proofs.Names.{◌≡◌, ℕ, true, false, ◌&&◌, if◌then◌else◌, List, [], ◌∷◌, ◌++◌, map, Some, None, slice_get, Result, Ok, Err, OnOk, OnErr}
+use Rattle.x25_world.proofs.Names.{IfErr, ◌⊎◌, inl, inr, refl, ap, sym, ◌∙◌, remove, Role, Dte, Dce, spelling_of, awaits_ua, Cfg, StationError, StationEntry}
+use Rattle.x25_world.proofs.Names.{FitsStation, Settings, settings_from, Step, Outcome, Did, Refused, fires, receives, WorldError, World, WorldOutcome}
+use Rattle.x25_world.proofs.Names.{Happened, Declined, after_step, of_station, delivered, on_line, is_on_line, fired, refusal_of, entered, ShownLine}
+use Rattle.std.proofs.lemmas.List.{append-nil}
+use Rattle.x25_bits.specs.Role.{other}
+use Rattle.x25_station.specs.code.FitsStation.{Leaves, Sends, Enters, Refuses}
+use Rattle.x25_world.{proofs.Names.{HasHappened}, specs.Error.{error_of}, specs.code.FitsWorld.{FitsSide}}
+use Rattle.x25_world.specs.code.ShownLine.{line_to, with_line_to, with_room_of, put_by, TakesFew}
 use Rattle.x25_station.specs.declared.error.StationError.TheVariants as station
 use Rattle.x25_station.specs.declared.station.Station as code
 use Rattle.x25_station.specs.declared.step.Step as code_step
@@ -98,6 +95,16 @@ pub lets_fire : (c : Settings) (w : World) → (awaits_ua w.near.link.phase && i
 lets_fire c w runs = ap (λ b. if b then Declined error.OnLine else of_station c w (fires c w.near)) runs
 
 -- ---- the front octets arrive
+
+removed_none : (frames : List (List ℕ)) → None ≡ slice_get frames 0 → remove frames 0 ≡ frames
+removed_none [] none = refl
+removed_none (octets ∷ left) none = absurd (cc)
+
+-- where there is none the line stays
+pub none_taken : (at : Role) (line : ShownLine) → None ≡ slice_get (line_to line at) 0
+    → with_line_to line at (remove (line_to line at) 0) ≡ line
+none_taken Dte line none = ap (with_line_to line Dte) (removed_none line.to_dte none)
+none_taken Dce line none = ap (with_line_to line Dce) (removed_none line.to_dce none)
 
 taken_off : (at : Role) {line : ShownLine} {w : World} (octets : List ℕ) (left : List (List ℕ))
     → FitsShared at line w (octets ∷ left) → FitsShared at (with_line_to line at (remove (line_to line at) 0)) w left

@@ -1,16 +1,14 @@
 -- The window along a run from a link just set up: two stations by themselves do as the links of the world do, with one machine behind them.
-use Rattle.std.proofs.Common.{◌≡◌, ℕ, ◌<◌, ◌⊎◌, inl, inr, List, [], ◌∷◌, ◌++◌, Bool, true, false, ◌||◌, refl, sym, ap, ap₂, ◌∙◌, subst, arith}
-use Rattle.x25_bits.specs.declared.role.Role.TheVariants.{Dte, Dce}
-use Rattle.x25_line.specs.{laws.Line.{Line}, laws.Stations.{StationEnd}, laws.StationClaims.{IsSetUpOnce}, laws.Sessions.{SessionEnd, Sessions, begun_by}}
+use Rattle.x25_world.proofs.Names.{◌≡◌, ℕ, ◌<◌, ◌⊎◌, inl, inr, List, [], ◌∷◌, ◌++◌, Bool, true, false, ◌||◌, refl, sym, ap, ap₂, ◌∙◌, subst, arith, Dte, Dce}
+use Rattle.x25_world.proofs.Names.{StationEnd, SessionEnd, Sessions, begun_by, Cfg, ConnectKeeps, World, Event, run, established, AreInOctets, IsUpOnce}
+use Rattle.x25_line.proofs.sessions.SessionsForgotten.{Alike}
+use Rattle.x25_line.specs.laws.{Line.{Line}, StationClaims.{IsSetUpOnce}}
 use Rattle.x25_line.specs.laws.WholeNumbers.{machine_run, machine_happens, MachineGoesAlong, OnceStaysOnce}
-use Rattle.x25_station.specs.{declared.config.Cfg.{Cfg}, laws.KeepLaw.{ConnectKeeps}}
-use Rattle.x25_world.specs.{World.{World, Event, run, established}, laws.Claims.{AreInOctets, IsUpOnce, Always, link_of}, laws.LawsBelow.{SessionLaws}}
-use Rattle.x25_world.specs.laws.SessionWindow.{IsBehindWorld, both_put, links_by, machine_by, StaysInWindow}
-use Rattle.x25_world.proofs.{Known.{IsConfigured, is_configured}, Established.{just_set_up}, SetUpOnce.{ups_are_begun, are_first}}
-use Rattle.x25_world.proofs.{sessions.SessionReaches.{joined_at}, sessions.SessionJoined.{SessionsJoined}, sessions.SessionRuns.{next, begin_joined}}
-use Rattle.x25_world.proofs.sessions.SessionsAlong.{After, asked_in, along}
-use Rattle.x25_line.proofs.sessions.SessionsForgotten.{Lasts, Alike, runs_alike}
-use Rattle.x25_link.specs.Station.{LinkSettings}
+use Rattle.x25_world.proofs.{Established.{just_set_up}, Known.{IsConfigured, is_configured}}
+use Rattle.x25_world.proofs.{Names.{link_of, SessionLaws, both_put, links_by, Lasts, runs_alike, LinkSettings}, SetUpOnce.{ups_are_begun, are_first}}
+use Rattle.x25_world.proofs.sessions.{SessionJoined.{SessionsJoined}, SessionReaches.{joined_at}, SessionRuns.{next, begin_joined}}
+use Rattle.x25_world.{proofs.sessions.SessionsAlong.{After, asked_in, along}, specs.laws.Claims.{Always}}
+use Rattle.x25_world.specs.laws.SessionWindow.{IsBehindWorld, machine_by, StaysInWindow}
 use Rattle.x25_line.specs.laws.Stations as line
 
 -- ---- a station by itself, and one with its sessions

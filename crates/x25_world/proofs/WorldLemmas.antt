@@ -1,21 +1,13 @@
 -- An end that acts, in its world: the other end is as it was. And lists of events, one more at a time.
-use Rattle.std.proofs.Common.{◌≡◌, IfOk, ℕ, nat_lt, ◌&&◌, List, [], ◌∷◌, ◌++◌, length, map, drop, Option, Some, None, Result}
-use Rattle.std.proofs.{Common.{Ok, Err, OnOk, OnErr, IfErr, ◌⊎◌, inl, inr, refl, ap, sym, ◌∙◌, subst, append_assoc, arith}, Math.Seq.{drop-append_seam}}
-use Rattle.std.proofs.lemmas.{List.{append-nil, drop_all}, Bool.{cond_both}}
-use Rattle.x25_bits.specs.{declared.role.Role.{Role}, declared.role.Role.TheVariants.{Dte, Dce}}
-use Rattle.x25_frame.specs.Spelling.{spelling_of}
-use Rattle.x25_link.specs.Station.{awaits_ua}
-use Rattle.x25_line.specs.laws.Stations.{is_visible}
-use Rattle.x25_station.specs.{declared.config.Cfg.{Cfg}, declared.error.StationError.{StationError}, Entry.{StationEntry}, code.FitsStation.{FitsStation}}
-use Rattle.x25_station.specs.{Config.{Settings, settings_from, config_refusal}, Step.{Step, Outcome, Did, Refused, commands, fires}}
-use Rattle.x25_world.specs.declared.error.WorldError.{WorldError}
-use Rattle.x25_world.specs.World.{World, mirrored, Event, Act, Commands, Receives, Fires, Loses, Damages, WorldOutcome, Happened, Declined, after_step}
-use Rattle.x25_world.specs.World.{of_station, delivered, on_line, is_on_line, acts, acts_at, tapped, entered, swapped_back, AtEnd, happens, after, refusal_of}
-use Rattle.x25_world.specs.World.{run, AreAccepted, connected, start}
-use Rattle.x25_world.specs.laws.Claims.{ActsInOctets, AreInOctets, IsUpOnce, IsUpAtMostOnce}
-use Rattle.x25_world.specs.{code.ShownLine.{ShownLine}, code.ShownWorld.{ShownWorld, shown_with, line_from}}
-use Rattle.x25_world.specs.code.FitsWorld.{FitsWorld, FitsRun, EachRunHolds, Claims, and_then, HasHappened, HasActed, HasActedAt, RefusesConfig}
-use Rattle.x25_world.proofs.Established.{connected_tells}
+use Rattle.x25_world.proofs.Names.{◌≡◌, ℕ, nat_lt, ◌&&◌, List, [], ◌∷◌, ◌++◌, length, map, drop, Option, Some, None, Result, Ok, Err, OnOk, OnErr, IfErr, ◌⊎◌}
+use Rattle.x25_world.proofs.Names.{inl, inr, refl, ap, sym, ◌∙◌, subst, append_assoc, arith, cond_both, Role, Dte, Dce, spelling_of, awaits_ua, is_visible, Cfg}
+use Rattle.x25_world.proofs.Names.{StationError, StationEntry, FitsStation, Settings, settings_from, config_refusal, Step, Outcome, Did, Refused, commands}
+use Rattle.x25_world.proofs.Names.{fires, WorldError, World, mirrored, Event, Act, Commands, Receives, Fires, Loses, Damages, WorldOutcome, Happened, Declined}
+use Rattle.x25_world.proofs.Names.{after_step, of_station, delivered, on_line, is_on_line, acts, tapped, entered, swapped_back, AtEnd, happens, after}
+use Rattle.x25_world.proofs.Names.{refusal_of, run, AreAccepted, connected, start, ActsInOctets, AreInOctets, IsUpOnce, IsUpAtMostOnce, ShownLine, ShownWorld}
+use Rattle.std.proofs.{Common.{IfOk}, Math.Seq.{drop-append_seam}, lemmas.List.{append-nil, drop_all}}
+use Rattle.x25_world.{proofs.Established.{connected_tells}, proofs.Names.{FitsWorld, FitsRun, HasHappened}, specs.World.{acts_at}}
+use Rattle.x25_world.specs.code.{FitsWorld.{EachRunHolds, Claims, and_then, HasActed, HasActedAt, RefusesConfig}, ShownWorld.{shown_with, line_from}}
 use Rattle.x25_station.specs.declared.station.Station as code
 use Rattle.x25_world.specs.declared.error.WorldError.TheVariants as error
 

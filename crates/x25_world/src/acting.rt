@@ -104,8 +104,8 @@ pub fn command(
         HasActed cfg at near.new line.new (entered at out.new.entries.items) result w
         (of_station (settings_from at cfg) w (commands (settings_from at cfg) w.near (command_of cmd.entry))) }
 {
-    if let Err(error) = reserve_frames(line) {
-        return refuse(near, out, error);
+    if line.reserve().is_err() {
+        return refuse(near, out, WorldError::NoMemory);
     }
     match near.command(cmd, out) {
         Ok(()) => {
@@ -125,14 +125,14 @@ fn deliver(at: Role, near: &mut Station, line: &mut Line, out: &mut Step) -> Res
         HasActed cfg at near.new line.new (entered at out.new.entries.items) result w
         (delivered (settings_from at cfg) w w.back) }
 {
-    if let Err(error) = reserve_frames(line) {
-        return refuse(near, out, error);
+    if line.reserve().is_err() {
+        return refuse(near, out, WorldError::NoMemory);
     }
-    let Some(octets) = line.get(at, 0) else {
+    let Some(frame) = line.take(at, 0) else {
         return refuse(near, out, WorldError::Empty);
     };
-    near.receive(octets, out);
-    line.remove(at, 0);
+    near.receive(frame.octets.as_slice(), out);
+    line.keep(frame);
     put(at, line, &mut out.frames);
     Ok(())
 }
@@ -162,8 +162,8 @@ fn fire(at: Role, near: &mut Station, line: &mut Line, out: &mut Step) -> Result
     if awaits_frames(at, near, line) {
         return refuse(near, out, WorldError::OnLine);
     }
-    if let Err(error) = reserve_frames(line) {
-        return refuse(near, out, error);
+    if line.reserve().is_err() {
+        return refuse(near, out, WorldError::NoMemory);
     }
     match near.t1(out) {
         Ok(()) => {
@@ -180,19 +180,6 @@ fn awaits_frames(at: Role, near: &Station, line: &Line) -> bool
         result ≡ (awaits_ua w.near.link.phase && is_on_line (settings_from at cfg) w) }
 {
     near.status().awaits_ua && is_on_line(at, line)
-}
-
-// Room for the frames that a step of a station answers.
-fn reserve_frames(line: &mut Line) -> Result<(), WorldError>
-    ensures frames { OnOk result (9 ≤ line.new.room) }
-    ensures line { line.new ≡ with_room_of line.new line.old }
-    ensures few { TakesFew 9 line.old line.new }
-    ensures refused { IfErr result (λ e. e ≡ WorldError.NoMemory) }
-{
-    if line.reserve().is_err() {
-        return Err(WorldError::NoMemory);
-    }
-    Ok(())
 }
 
 /// A place for what an event tells, and the entries of a step that has none: their memory takes the place of that which

@@ -1,5 +1,5 @@
 ghost use Rattle.std.specs.Prelude.{◌≡◌, ◌+◌, ◌*◌, ◌<◌, ◌≤◌, ◌++◌, max, [], length, map, remove, OnOk, OnErr, ◌∷◌};
-ghost use Rattle.std.specs.Prelude.{option_copied, vec_len, vec_capacity, IfOk};
+ghost use Rattle.std.specs.Prelude.{option_copied, option_map, nat_le, vec_len, vec_capacity, IfOk};
 ghost use Rattle.std.specs.Prelude.{slice_get};
 ghost use Rattle.x25_line.specs.laws.Loss.{replaced};
 ghost use Rattle.x25_world.specs.code.ShownLine.{ShownLine, line_to, with_line_to, with_room_of};
@@ -18,10 +18,10 @@ const LONGEST_FRAME: usize = 4103;
 /// Of how many frames that left the line the memory is kept.
 const MOST_LEFT: usize = 25;
 
-// A frame on the line, in memory for its octets, or for those of the longest frame.
+/// A frame on the line, in memory for its octets, or for those of the longest frame.
 #[derive(Drop)]
-struct Laid {
-    octets: Vec<u8>,
+pub(crate) struct Laid {
+    pub(crate) octets: Vec<u8>,
     ghost memory: { vec_capacity octets ≤ max (vec_len octets) 4103 },
 }
 
@@ -107,12 +107,24 @@ impl Line {
         ensures same { self.new ≡ with_room_of self.new self.old }
         ensures few { TakesFew 9 self.old self.new }
     {
+        if has_room(&self.to_dce) && has_room(&self.to_dte) && self.blanks.len() >= MOST_FRAMES {
+            self.room = MOST_FRAMES;
+            return Ok(());
+        }
+        self.make_room()
+    }
+
+    // Makes room as `reserve` does, where there is too little.
+    #[cold]
+    fn make_room(&mut self) -> Result<(), AllocError>
+        ensures room { OnOk result (9 ≤ self.new.room) }
+        ensures same { self.new ≡ with_room_of self.new self.old }
+        ensures few { TakesFew 9 self.old self.new }
+    {
         grow(&mut self.to_dce)?;
         grow(&mut self.to_dte)?;
-        if self.blanks.len() < MOST_FRAMES {
-            self.left.reserve_exact(MOST_LEFT - self.left.len())?;
-            make_blanks(&mut self.blanks, self.alloc)?;
-        }
+        self.left.reserve_exact(MOST_LEFT - self.left.len())?;
+        make_blanks(&mut self.blanks, self.alloc)?;
         self.room = MOST_FRAMES;
         Ok(())
     }
@@ -152,15 +164,34 @@ impl Line {
         }
     }
 
-    /// The frame at this place on the line to this end, 0 at the front, is taken off it.
-    #[inline(always)]
-    pub fn remove(&mut self, to: Role, place: usize)
-        requires { place < length (line_to self.old to) }
-        ensures { self.new ≡ with_line_to self.old to (remove (line_to self.old to) place) }
+    /// The frame at this place on the line to this end, 0 at the front, where there is one, comes off it.
+    pub(crate) fn take(&mut self, to: Role, place: usize) -> Option<Laid>
+        ensures frame { option_map (λ frame. frame.octets.items) result ≡ slice_get (line_to self.old to) place }
+        ensures line { self.new ≡ with_line_to self.old to (remove (line_to self.old to) place) }
     {
         match to {
-            Role::Dce => keep(&mut self.left, take_off(&mut self.to_dce, place)),
-            Role::Dte => keep(&mut self.left, take_off(&mut self.to_dte, place)),
+            Role::Dce => take_off(&mut self.to_dce, place),
+            Role::Dte => take_off(&mut self.to_dte, place),
+        }
+    }
+
+    /// The memory of a frame that left the line serves again.
+    pub(crate) fn keep(&mut self, frame: Laid)
+        ensures { self.new ≡ self.old }
+    {
+        let Laid { mut octets } = frame;
+        if octets.capacity() <= LONGEST_FRAME && self.left.len() < self.left.capacity() {
+            octets.clear();
+            self.left.push_reserved(Left { octets });
+        }
+    }
+
+    /// The frame at this place on the line to this end, 0 at the front, is lost.
+    pub fn remove(&mut self, to: Role, place: usize)
+        ensures { self.new ≡ with_line_to self.old to (remove (line_to self.old to) place) }
+    {
+        if let Some(frame) = self.take(to, place) {
+            self.keep(frame);
         }
     }
 
@@ -181,7 +212,6 @@ impl Line {
 }
 
 // Makes blanks, as many as a step may need. Err: no memory.
-#[cold]
 fn make_blanks(blanks: &mut Vec<Blank>, alloc: Global) -> Result<(), AllocError>
     requires places { vec_capacity blanks.old ≤ 9 }
     ensures enough { OnOk result (9 ≤ vec_len blanks.new) }
@@ -230,22 +260,14 @@ fn lay(queue: &mut VecDeque<Laid>, octets: Vec<u8>)
     queue.push_back_reserved(Laid { octets });
 }
 
-// The memory of a frame that left the line serves again.
-#[inline(always)]
-fn keep(left: &mut Vec<Left>, frame: Option<Laid>)
-    ensures { vec_capacity left.new ≡ vec_capacity left.old }
+// Whether there are places for the frames of a step.
+fn has_room(queue: &VecDeque<Laid>) -> bool
+    ensures { result ≡ nat_le (deque_len queue.now + 9) (deque_capacity queue.now) }
 {
-    if let Some(Laid { mut octets }) = frame
-        && octets.capacity() <= LONGEST_FRAME
-        && left.len() < left.capacity()
-    {
-        octets.clear();
-        left.push_reserved(Left { octets });
-    }
+    queue.capacity() - queue.len() >= MOST_FRAMES
 }
 
-// Makes room for the frames of a step, by places for as many again as there are, or for those. Err: no memory.
-#[inline(always)]
+// Makes places for as many frames again as there are, and for those of a step. Err: no memory.
 fn grow(queue: &mut VecDeque<Laid>) -> Result<(), AllocError>
     ensures items { queue.new.items ≡ queue.old.items }
     ensures len { deque_len queue.new ≡ deque_len queue.old }
@@ -253,16 +275,13 @@ fn grow(queue: &mut VecDeque<Laid>) -> Result<(), AllocError>
     ensures more { deque_capacity queue.old ≤ deque_capacity queue.new }
     ensures few { deque_capacity queue.new ≤ max (deque_capacity queue.old) (2 * deque_len queue.old + 9) }
 {
-    if queue.capacity() - queue.len() >= MOST_FRAMES {
-        return Ok(());
-    }
     queue.reserve_exact(queue.len().max(MOST_FRAMES))
 }
 
 // The frame at this place is taken out, with no move of others where it is the first.
 #[inline(always)]
 fn take_off(queue: &mut VecDeque<Laid>, place: usize) -> Option<Laid>
-    requires { place < length queue.old.items }
+    ensures frame { result ≡ slice_get queue.old.items place }
     ensures items { queue.new.items ≡ remove queue.old.items place }
     ensures len { deque_len queue.new ≤ deque_len queue.old }
     ensures capacity { deque_capacity queue.new ≡ deque_capacity queue.old }

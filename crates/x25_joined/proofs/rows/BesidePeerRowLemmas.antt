@@ -1,45 +1,26 @@
 -- The worked row of a program and a peer, by computing.
-use Rattle.std.proofs.Common.{ℕ, true, List, [], ◌∷◌, ◌<◌, length, refl, arith}
-use Rattle.std.proofs.lemmas.List.Elements.{All-nil, All-cons}
-use Rattle.std.specs.Fmt.{digits}
-use Rattle.std.specs.Prelude.{codes, Some}
-use Rattle.hex.specs.Hex.{decode_pairs}
-use Rattle.x25_bits.specs.FrameCheck.{fcs_of, number_of, divided, low_bits, add, divisor}
-use Rattle.x25_bits.specs.FrameCheck.Sealed.{is_sealed}
-use Rattle.x25_bits.specs.declared.role.Role.TheVariants.{Dte}
-use Rattle.x25_frame.specs.Reading.{frame_of}
-use Rattle.x25_packet.specs.Packet.{call, restart, restart_conf}
-use Rattle.x25_packet.specs.Digits.{halves_of, packed}
-use Rattle.x25_packet.specs.Facilities.{facilities_of}
-use Rattle.x25_packet.specs.Classes.{are_facilities, own_in}
-use Rattle.x25_packet.specs.Grammar.{read_of}
+use Rattle.x25_joined.proofs.Names.{ℕ, true, List, [], ◌∷◌, ◌<◌, length, refl, arith, All-nil, All-cons, decode_pairs, Dte, line_in, lines_of, frame_line}
+use Rattle.std.specs.{Fmt.{digits}, Prelude.{codes, Some}}
+use Rattle.x25_bits.specs.{FrameCheck.{fcs_of, number_of, divided, low_bits, add, divisor}, FrameCheck.Sealed.{is_sealed}}
 use Rattle.x25_circuit.specs.Hearing.{request_in}
-use Rattle.x25_link.specs.Station.{pumped}
-use Rattle.x25_line.specs.laws.Sessions.{Entry, Meeting}
-use Rattle.x25_line.specs.laws.Peer.{Peer, numbered_to, told_to, taking, hearing}
-use Rattle.x25_line.specs.laws.PeerSessions.{PeerEnd, begins, now, with_now, nothing, put}
-use Rattle.x25_line.specs.laws.Loss.{nothing as none_lost, gone}
-use Rattle.x25_line.specs.laws.Ends.{sends, listens, moves, takes_sabm}
-use Rattle.x25_handshakes.specs.laws.PeerCalls.{PlacesCall}
-use Rattle.x25_handshakes.specs.laws.PeerChannel.{InCall}
-use Rattle.x25_handshakes.specs.laws.Handshake.{At, PeerStep}
-use Rattle.x25_handshakes.specs.laws.Layers.{LayerPacket, Restart}
-use Rattle.x25_handshakes.specs.laws.PeerLayer.{PeerChannels, LayerDeed, InChannel, does_layer, layer_taking}
-use Rattle.x25_handshakes.specs.laws.PeerLayers.{other_role}
-use Rattle.x25_layer.specs.laws.PeerJoined as layer_peer
-use Rattle.x25_script.specs.Reading.{parts_of, number_in, small_number_in, params_in, with_params_in, call_in, accept_in, send_in, interrupt_in, with_fields}
-use Rattle.x25_script.specs.Reading.{part_in, with_in, command_in, lose_in, damage_in, drain_in, line_in}
-use Rattle.x25_io.specs.Lines.{lines_of}
-use Rattle.x25_transcript.specs.EntryText.{entry_line}
-use Rattle.x25_console.specs.Telling.{frame_line, refusal_line}
-use Rattle.x25_station.specs.Config.{Settings, settings_from}
-use Rattle.x25_pipe.specs.Pipe.{saying_line, event_in, event_turn, turn, turns, piped}
-use Rattle.x25_world.specs.laws.TapOctets.{AreOfFrame}
-use Rattle.x25_peer.specs.laws.BesideSessions as beside
-use Rattle.x25_peer.specs.laws.BesideSessions.{BesideSessions, links, their_now, their_layer, layer_went}
+use Rattle.x25_console.specs.Telling.{refusal_line}
+use Rattle.x25_frame.specs.Reading.{frame_of}
+use Rattle.x25_handshakes.specs.laws.{Handshake.{At, PeerStep}, Layers.{LayerPacket, Restart}, PeerCalls.{PlacesCall}, PeerChannel.{InCall}}
+use Rattle.x25_handshakes.specs.laws.{PeerLayer.{PeerChannels, LayerDeed, InChannel, does_layer, layer_taking}, PeerLayers.{other_role}}
+use Rattle.x25_joined.proofs.{Names.{Settings, settings_from, saying_line, event_in, event_turn, turn, turns, piped, AreOfFrame}, rows.JoinedRowLemmas.{opens}}
 use Rattle.x25_joined.specs.laws.BesidePeer.{Program, nothing_read, bare, reads, ReachedProgram, at_start, goes_on, Reads, Takes, Elsewhere}
 use Rattle.x25_joined.specs.rows.BesidePeerRows.{of_all_forms, CallIsAccepted}
-use Rattle.x25_joined.proofs.rows.JoinedRowLemmas.{opens}
+use Rattle.x25_line.specs.laws.{Ends.{sends, listens, moves, takes_sabm}, Loss.{nothing as none_lost, gone}, Peer.{Peer, numbered_to, told_to, taking, hearing}}
+use Rattle.x25_line.specs.laws.{PeerSessions.{PeerEnd, begins, now, with_now, nothing, put}, Sessions.{Entry, Meeting}}
+use Rattle.x25_link.specs.Station.{pumped}
+use Rattle.x25_packet.specs.{Classes.{are_facilities, own_in}, Digits.{halves_of, packed}, Facilities.{facilities_of}, Grammar.{read_of}}
+use Rattle.x25_packet.specs.Packet.{call, restart, restart_conf}
+use Rattle.x25_peer.specs.laws.BesideSessions.{BesideSessions, links, their_now, their_layer, layer_went}
+use Rattle.x25_script.specs.Reading.{parts_of, number_in, small_number_in, params_in, with_params_in, call_in, accept_in, send_in, interrupt_in, with_fields}
+use Rattle.x25_script.specs.Reading.{part_in, with_in, command_in, lose_in, damage_in, drain_in}
+use Rattle.x25_transcript.specs.EntryText.{entry_line}
+use Rattle.x25_layer.specs.laws.PeerJoined as layer_peer
+use Rattle.x25_peer.specs.laws.BesideSessions as beside
 
 abbrev IsOctet : ℕ → Type 0
 IsOctet octet = octet < 256

@@ -1,26 +1,16 @@
 -- The worked rows, by computing.
-use Rattle.std.proofs.Common.{◌≡◌, ◌∙◌, ℕ, nat_eq, Bool, true, false, ◌&&◌, List, [], ◌∷◌, ◌<◌, ap, sym, refl, arith}
-use Rattle.std.proofs.lemmas.List.Elements.{All-nil, All-cons}
-use Rattle.std.specs.Fmt.{digits}
-use Rattle.std.specs.List.{list_all}
-use Rattle.std.specs.Prelude.{not, ◌==◌, ◌≢◌, codes}
-use Rattle.hex.specs.Hex.{decode_pairs}
-use Rattle.x25_bits.specs.FrameCheck.{fcs_of, number_of, divided, low_bits, add, divisor}
-use Rattle.x25_bits.specs.FrameCheck.Sealed.{is_sealed}
+use Rattle.x25_joined.proofs.Names.{◌≡◌, ◌∙◌, ℕ, Bool, true, false, ◌&&◌, List, [], ◌∷◌, ◌<◌, ap, sym, refl, arith, All-nil, All-cons, decode_pairs, line_in}
+use Rattle.x25_joined.proofs.Names.{IsOpen, lines_of, frame_line, saying_line, event_in, event_turn, turn, turns, piped, AreOfFrame}
+use Rattle.std.{proofs.Common.{nat_eq}, specs.Fmt.{digits}, specs.List.{list_all}, specs.Prelude.{not, ◌==◌, ◌≢◌, codes}}
+use Rattle.x25_bits.specs.{FrameCheck.{fcs_of, number_of, divided, low_bits, add, divisor}, FrameCheck.Sealed.{is_sealed}}
+use Rattle.x25_console.specs.Telling.{refusal_line}
 use Rattle.x25_frame.specs.Reading.{frame_of}
-use Rattle.x25_packet.specs.Digits.{halves_of, packed}
-use Rattle.x25_packet.specs.Facilities.{facilities_of}
-use Rattle.x25_packet.specs.Classes.{own_in}
-use Rattle.x25_packet.specs.Grammar.{read_of}
-use Rattle.x25_link.specs.Station.{pumped}
-use Rattle.x25_script.specs.Reading.{parts_of, number_in, small_number_in, params_in, with_params_in, call_in, accept_in, send_in, interrupt_in, with_fields}
-use Rattle.x25_script.specs.Reading.{command_in, lose_in, damage_in, drain_in, line_in}
-use Rattle.x25_io.specs.Lines.{IsOpen, lines_of}
-use Rattle.x25_transcript.specs.EntryText.{entry_line}
-use Rattle.x25_console.specs.Telling.{frame_line, refusal_line}
-use Rattle.x25_pipe.specs.Pipe.{saying_line, event_in, event_turn, turn, turns, piped}
-use Rattle.x25_world.specs.laws.TapOctets.{AreOfFrame}
 use Rattle.x25_joined.specs.rows.JoinedRows.{LinkIsSetUp, LostSabmGoesAgain, FiringHasToWait, OtherLinesDoNothing, MessageArrives}
+use Rattle.x25_link.specs.Station.{pumped}
+use Rattle.x25_packet.specs.{Classes.{own_in}, Digits.{halves_of, packed}, Facilities.{facilities_of}, Grammar.{read_of}}
+use Rattle.x25_script.specs.Reading.{parts_of, number_in, small_number_in, params_in, with_params_in, call_in, accept_in, send_in, interrupt_in, with_fields}
+use Rattle.x25_script.specs.Reading.{command_in, lose_in, damage_in, drain_in}
+use Rattle.x25_transcript.specs.EntryText.{entry_line}
 
 -- ---- lines of users, and what comes in the place of a frame
 

@@ -1,10 +1,9 @@
 -- What holds of two ends over sessions: one session of each stands, which meet or may yet meet; and what is on the lines is of these.
-use Rattle.std.proofs.Common.{◌≡◌, ◌≤◌, ◌+◌, ◌⊎◌, ℕ, suc, List, [], ◌∷◌, ◌++◌, inl, inr, refl, arith, subst}
-use Rattle.x25_line.specs.{laws.Said.{sabm_of, ua_of, disc_of, Sabm, Disc, Ua}, laws.Ends.{Stand, Out, Asking, In, Letter, letter, how_many, OfTells, AreOf}}
-use Rattle.x25_line.specs.{laws.Loss.{LessAt}, laws.Ends.{IsSpoilt}}
-use Rattle.x25_line.proofs.ends.Lines.{count_push, count_less, AllTold, AllTags, tags_push, tags_more, tags_less, told_push, told_less, of_tells}
-use Rattle.x25_line.proofs.ends.Lines.{sabm_free, Of, AfterUa, after_none, after_push, after_less, after_base, AllAsked, asked_none, asked_map, asked_now}
-use Rattle.x25_line.proofs.ends.Lines.{asked_push, asked_less}
+use Rattle.x25_line.proofs.Names.{◌≡◌, ◌≤◌, ◌+◌, ◌⊎◌, ℕ, suc, List, [], ◌∷◌, ◌++◌, inl, inr, refl, arith, subst, sabm_of, ua_of, disc_of, Sabm, Ua, Stand, Out}
+use Rattle.x25_line.{proofs.Names.{Asking, In, Letter, letter, OfTells, AreOf, LessAt, IsSpoilt}, proofs.ends.Lines.{asked_less}, specs.laws.Ends.{how_many}}
+use Rattle.x25_line.proofs.ends.Lines.{count_push, count_less, AllTold, AllTags, tags_push, tags_more, tags_less, told_push, told_less, of_tells, sabm_free, Of}
+use Rattle.x25_line.proofs.ends.Lines.{AfterUa, after_none, after_push, after_less, after_base, AllAsked, asked_none, asked_map, asked_now, asked_push}
+use Rattle.x25_line.specs.laws.Said.{Disc}
 
 -- Where a SABM of y that is older than its session may be on the line to x, whose line is `out`: x is about to be in the session that stands.
 abbrev pub IsOlder : ℕ → ℕ → List Letter → Stand → Type 0

@@ -1,8 +1,7 @@
 -- The lines between two ends over sessions, and what is said of them.
-use Rattle.std.proofs.Common.{◌≡◌, ◌≤◌, ◌<◌, ◌+◌, ◌⊎◌, inl, inr, ℕ, zero, suc, List, [], ◌∷◌, ◌++◌, refl, sym, ap, subst, arith}
+use Rattle.x25_line.proofs.Names.{◌≡◌, ◌≤◌, ◌<◌, ◌+◌, ◌⊎◌, inl, inr, ℕ, zero, suc, List, [], ◌∷◌, ◌++◌, refl, sym, ap, subst, arith, LessAt, nothing, gone}
 use Rattle.x25_line.proofs.{Lists.{each_append, each_map}, Losses.{each_less}}
-use Rattle.x25_line.specs.laws.Loss.{LessAt, nothing, gone, hurt, deeper}
-use Rattle.x25_line.specs.{laws.Said.{sabm_of, ua_of, Said, Tells, Sabm, Else}, laws.Ends.{Letter, IsSpoilt, how_many, OfSabm, OfTells, AreOf}}
+use Rattle.x25_line.{proofs.Names.{hurt, deeper, sabm_of, ua_of, Said, Tells, Sabm, Else, Letter, IsSpoilt, OfSabm, OfTells, AreOf}, specs.laws.Ends.{how_many}}
 use Rattle.x25_line.specs.laws.StationClaims.{Each}
 
 -- one or the other

@@ -1,7 +1,7 @@
 -- Which sessions meet: one to one, and in order at both ends; and the same as the other end has it.
-use Rattle.std.proofs.Common.{◌≡◌, ◌≤◌, ◌<◌, ℕ, List, [], ◌∷◌, ◌⊎◌, inl, inr, map, refl, ap, ◌∙◌, arith}
-use Rattle.x25_line.specs.{laws.Sessions.{Meeting, turned}, laws.SessionClaims.{Each, SomeMet, IsNoEarlier, IsAbove, InStep}}
+use Rattle.x25_line.proofs.Names.{◌≡◌, ◌≤◌, ◌<◌, ℕ, List, [], ◌∷◌, ◌⊎◌, inl, inr, map, refl, ap, ◌∙◌, arith, Meeting, turned, Each, SomeMet}
 use Rattle.x25_line.proofs.Lists.{each_map, each_over}
+use Rattle.x25_line.specs.laws.SessionClaims.{IsNoEarlier, IsAbove, InStep}
 
 -- ---- of all that met, and of some
 

@@ -1,15 +1,12 @@
 -- Whatever an end does keeps what holds of two ends over sessions.
-use Rattle.std.proofs.Common.{◌≡◌, ◌≤◌, ◌+◌, ◌⊎◌, inl, inr, ℕ, suc, List, [], ◌∷◌, ◌++◌, map, Option, refl, sym, subst, arith, ap}
-use Rattle.x25_line.specs.{laws.Said.{sabm_of, ua_of, disc_of, Said, Carried, Tells, Sabm, Disc, Ua, Else, Odd}, laws.Sessions.{Meeting, turned}}
-use Rattle.x25_line.specs.laws.SessionClaims.{Each, InStep}
-use Rattle.x25_line.specs.laws.Ends.{Stand, Out, Asking, In, Letter, letter, Two, two_swapped, how_many, OfTells, IsPatient, heard, Moves, free, odd}
-use Rattle.x25_line.specs.laws.Ends.{asks, closes, leaves, hears, takes_ua, takes_sabm, waits_on, takes_disc, loses, begin_at, IsSpoilt}
-use Rattle.x25_line.proofs.ends.Meetings.{IsPaired, IsBegun, begun_later, paired_anew, above_paired, begun_turned, paired_turned, in_step_turned}
-use Rattle.x25_line.proofs.ends.Lines.{count_push, AllTold, told_map, Never, Of, are_none, after_clean, asked_none}
-use Rattle.x25_line.proofs.ends.Lines.{asked_now, asked_never, asked_begins}
-use Rattle.x25_line.specs.laws.Loss.{LessAt, gone}
+use Rattle.x25_line.proofs.Names.{◌≡◌, ◌≤◌, ◌+◌, ◌⊎◌, inl, inr, ℕ, suc, List, [], ◌∷◌, ◌++◌, map, Option, refl, sym, subst, arith, ap, sabm_of, ua_of, disc_of}
+use Rattle.x25_line.proofs.Names.{Said, Carried, Tells, Sabm, Ua, Else, Odd, Meeting, turned, Each, Stand, Out, Asking, In, Letter, letter, Two, OfTells, Moves}
+use Rattle.x25_line.proofs.Names.{free, odd, asks, closes, leaves, takes_ua, takes_sabm, waits_on, takes_disc, loses, IsSpoilt, LessAt, gone}
 use Rattle.x25_line.proofs.ends.Held.{IsOlder, Side, first_side, near_at, far_at, near_stands, far_stands, less_near, less_far, push_near, push_far, leave_near}
 use Rattle.x25_line.proofs.ends.Held.{leave_far, close_near, ask_near, ask_far, begin_near, begin_far, new_far}
+use Rattle.x25_line.proofs.ends.Lines.{count_push, AllTold, told_map, Never, Of, are_none, after_clean, asked_none, asked_now, asked_never, asked_begins}
+use Rattle.x25_line.proofs.ends.Meetings.{IsPaired, IsBegun, begun_later, paired_anew, above_paired, begun_turned, paired_turned, in_step_turned}
+use Rattle.x25_line.specs.laws.{Ends.{two_swapped, how_many, IsPatient, heard, hears, begin_at}, Said.{Disc}, SessionClaims.{InStep}}
 
 -- ---- who met
 

@@ -1,6 +1,5 @@
 -- What is known of an end in each session, once one of these is another.
-use Rattle.std.proofs.{Common.{◌≡◌, ◌==◌, ◌⊎◌, inl, inr, ℕ, Bool, true, false, if◌then◌else◌, refl, ap, ◌∙◌, sym}, lemmas.Bool.{eq-eqb, eqb-true}}
-use Rattle.x25_line.specs.{laws.Peer.{Peer}, laws.Ends.{put_for}}
+use Rattle.x25_line.proofs.Names.{◌≡◌, ◌==◌, ◌⊎◌, inl, inr, ℕ, Bool, true, false, if◌then◌else◌, refl, ap, ◌∙◌, sym, eq-eqb, eqb-true, Peer, put_for}
 
 -- a session is this one, or another by the test of put_for
 pub same_or_other : (n b : ℕ) → (n ≡ b) ⊎ ((n == b) ≡ false)

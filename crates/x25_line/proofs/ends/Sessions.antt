@@ -1,19 +1,16 @@
 -- The session that stands has a line of its own: what of the line has its number. So what holds of a link set up once holds of it.
-use Rattle.std.proofs.Common.{◌≡◌, ◌≤◌, ◌<◌, ◌==◌, ◌⊎◌, inl, inr, ℕ, suc, List, [], ◌∷◌, ◌++◌, Bool, true, false, Option, Some, None, refl, sym, ap, ◌∙◌}
-use Rattle.std.proofs.Common.{subst, arith, append-nil, length}
-use Rattle.x25_window.specs.code.Modulo.{resolved}
-use Rattle.x25_line.specs.{laws.InWindow.{IsPrefix}, laws.Said.{sabm_of, Said, Carried, Tells, Sabm, Disc, Ua, Else, Odd}}
-use Rattle.x25_line.specs.{laws.Sessions.{Meeting, turned, meets}, laws.SessionClaims.{Each, SomeMet}, laws.Peer.{Peer, fresh_peer, MaySay, MayMake}}
-use Rattle.x25_line.specs.laws.Ends.{Stand, Out, Asking, In, put_for, Letter, letter, Two, how_many, heard, OfTells, AreOf, Moves, free, odd, asks}
-use Rattle.x25_line.specs.laws.Ends.{closes, hears, takes_ua, takes_sabm, waits_on, takes_disc, loses, Ends, ends_swapped, near_now, with_near, begins}
-use Rattle.x25_line.specs.laws.Ends.{fresh_where, with_packet, Does, sends, listens, moves, begin_at, EndsReached, at_start, set_up, near_handed, far_handed}
-use Rattle.x25_line.specs.{laws.Ends.{near_does, far_does}, laws.EndClaims.{InOrder, MetInOrder, KeepSessions, OfAnyTwoEnds}}
+use Rattle.x25_line.proofs.Names.{◌≡◌, ◌≤◌, ◌<◌, ◌==◌, ◌⊎◌, inl, inr, ℕ, suc, List, [], ◌∷◌, ◌++◌, Bool, true, false, Option, Some, None, refl, sym, ap, ◌∙◌}
+use Rattle.x25_line.proofs.Names.{subst, arith, append-nil, length, resolved, IsPrefix, sabm_of, Said, Carried, Tells, Sabm, Ua, Else, Odd, Meeting, turned}
+use Rattle.x25_line.proofs.Names.{meets, Each, SomeMet, Peer, fresh_peer, MaySay, MayMake, Stand, Out, Asking, In, put_for, Letter, letter, Two, OfTells, AreOf}
+use Rattle.x25_line.proofs.Names.{Moves, free, odd, asks, closes, takes_ua, takes_sabm, waits_on, takes_disc, loses, Ends, ends_swapped, Does, listens, moves}
+use Rattle.x25_line.proofs.{Lists.{each_map, each_over}, Losses.{untouched}, Names.{EndsReached, LessAt, nothing, gone, hurt, deeper, IsSpoilt}}
 use Rattle.x25_line.proofs.Order.{Told, told, only, IsApart, only_append, only_quiet, Left, left_front, left_deeper, Hold, starts, hold_turned, handed, says}
-use Rattle.x25_line.proofs.{Order.{left, makes, in_order, valid_front}, ends.Meetings.{IsPaired, near_turned, far_turned, all_meet, some_meets}}
-use Rattle.x25_line.proofs.{ends.Lines.{AllTags, tags_less}, Losses.{untouched}, ends.Held.{Side, near_at, near_stands}}
-use Rattle.x25_line.specs.{laws.Loss.{LessAt, nothing, gone, hurt, deeper}, laws.Ends.{IsSpoilt}}
+use Rattle.x25_line.proofs.{Order.{left, makes, in_order, valid_front}, ends.Held.{Side, near_at, near_stands}, ends.Lines.{AllTags, tags_less}}
+use Rattle.x25_line.proofs.ends.Meetings.{IsPaired, near_turned, far_turned, all_meet, some_meets}
 use Rattle.x25_line.proofs.ends.Moves.{Held, held_turned, first_held, moves_held, told_held, come_held, popped}
-use Rattle.x25_line.proofs.{ends.Puts.{same_or_other, put_same, put_other, put_apart, put_alike}, Lists.{each_map, each_over}}
+use Rattle.x25_line.proofs.ends.Puts.{same_or_other, put_same, put_other, put_apart, put_alike}
+use Rattle.x25_line.specs.laws.{EndClaims.{InOrder, MetInOrder, KeepSessions, OfAnyTwoEnds}, Ends.{near_handed, far_handed, near_does, far_does}, Said.{Disc}}
+use Rattle.x25_line.specs.laws.Ends.{how_many, heard, hears, near_now, with_near, begins, fresh_where, with_packet, sends, begin_at, at_start, set_up}
 
 -- ---- the line of one session
 

@@ -1,7 +1,5 @@
 -- Worked moments of healing, by computing.
-use Rattle.std.proofs.Common.{refl}
-use Rattle.x25_link.specs.Station.{pumped}
-use Rattle.x25_line.specs.rows.HealingRows.{OneBusyIsReached}
+use Rattle.x25_line.{proofs.Names.{refl, pumped}, specs.rows.HealingRows.{OneBusyIsReached}}
 
 pub one_busy_is_reached : OneBusyIsReached
 unfolding pumped

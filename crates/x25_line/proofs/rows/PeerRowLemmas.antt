@@ -1,13 +1,9 @@
 -- The worked rows, by computing.
-use Rattle.std.proofs.Common.{◌≡◌, [], ◌∷◌, ◌++◌, true, false, Ok, arith, refl, ap}
-use Rattle.x25_bits.specs.declared.role.Role.TheVariants.{Dte, Dce}
-use Rattle.x25_frame.specs.{Frame.{PlainFrame, rr}, Spelling.{spelling_of}, Reading.{frame_of}, laws.ReadingLaw.{ReadsSpelled}}
-use Rattle.x25_link.specs.Station.{pumped}
-use Rattle.x25_line.specs.{laws.Stations.{Put, Deliver, acts}, rows.StationRows.{dte}, laws.Peer.{Peer, fresh_peer, numbered_to, told_to}}
-use Rattle.x25_line.specs.laws.PeerJoined.{JoinedOnce, start, our_end, with_peer, Ours, HandsDown, Sends, Hears, ReachedOnce, at_start, goes_on}
-use Rattle.x25_line.specs.laws.Tape.{judges, notes, IsSilent, Begins, Acts, Shows, Comes}
+use Rattle.x25_line.proofs.Names.{◌≡◌, [], ◌∷◌, ◌++◌, true, false, Ok, arith, refl, ap, Dte, Dce, PlainFrame, rr, spelling_of, frame_of, ReadsSpelled, pumped}
+use Rattle.x25_line.proofs.Names.{Put, Deliver, dte, Peer, fresh_peer, numbered_to, told_to, JoinedOnce, our_end, Ours, HandsDown, Sends, Hears, ReachedOnce}
+use Rattle.x25_line.proofs.{Names.{at_start, goes_on}, rows.StationRowLemmas.{taken_as, comes, packet_frame, info_reads, ready_reads}}
+use Rattle.x25_line.specs.laws.{PeerJoined.{start, with_peer}, Stations.{acts}, Tape.{judges, notes, IsSilent, Begins, Acts, Shows, Comes}}
 use Rattle.x25_line.specs.rows.PeerRows.{polling_frame, OddPeerMoves, SilentTapeMoves, TapeTells}
-use Rattle.x25_line.proofs.rows.StationRowLemmas.{taken_as, comes, packet_frame, info_reads, ready_reads}
 
 module _ (reads : ReadsSpelled) where
   pub odd_peer_moves : OddPeerMoves

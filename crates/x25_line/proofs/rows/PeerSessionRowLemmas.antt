@@ -1,16 +1,10 @@
 -- The worked row, by computing.
-use Rattle.std.proofs.Common.{◌≡◌, ℕ, List, [], ◌∷◌, ◌++◌, true, Ok, arith, refl, ap, subst}
-use Rattle.x25_bits.specs.declared.role.Role.TheVariants.{Dte, Dce}
-use Rattle.x25_frame.specs.{Frame.{PlainFrame, sabm, ua}, Spelling.{spelling_of}, Reading.{frame_of}, laws.ReadingLaw.{ReadsSpelled}}
-use Rattle.x25_link.specs.Station.{pumped}
-use Rattle.x25_line.specs.{laws.Stations.{Deliver, Connect}, rows.StationRows.{dte}, laws.Sessions.{Entry, acts, from_nothing}}
-use Rattle.x25_line.specs.laws.Peer.{Peer, numbered_to, told_to}
-use Rattle.x25_line.specs.laws.PeerSessions.{PeerSessions, begins, now, with_now, both_ends, with_peer, begin_with, ReachedInSessions}
-use Rattle.x25_line.specs.{laws.Ends.{Out, Asking, letter, moves, asks, takes_sabm}, laws.Said.{said}, rows.PeerSessionRows.{CrossingPeerMoves}}
-use Rattle.x25_line.specs.rows.PeerRows.{polling_frame}
+use Rattle.x25_line.proofs.Names.{◌≡◌, ℕ, List, [], ◌∷◌, ◌++◌, true, Ok, arith, refl, ap, subst, Dte, Dce, PlainFrame, sabm, ua, spelling_of, frame_of}
+use Rattle.x25_line.proofs.Names.{ReadsSpelled, pumped, Deliver, Connect, dte, Entry, acts, from_nothing, Peer, numbered_to, told_to, PeerSessions, both_ends}
+use Rattle.x25_line.proofs.{Losses.{untouched}, Names.{with_peer, ReachedInSessions, Out, Asking, letter, moves, asks, takes_sabm, said, gone}}
 use Rattle.x25_line.proofs.{rows.SessionRowLemmas.{taken_as, comes}, rows.StationRowLemmas.{info_reads, bare_reads}, sessions.Letters.{puts_frame}}
-use Rattle.x25_line.specs.laws.Loss.{gone}
-use Rattle.x25_line.proofs.{Losses.{untouched}, sessions.SessionWith.{tells_does}}
+use Rattle.x25_line.{proofs.sessions.SessionWith.{tells_does}, specs.laws.PeerSessions.{begins, now, with_now, begin_with}, specs.rows.PeerRows.{polling_frame}}
+use Rattle.x25_line.specs.rows.PeerSessionRows.{CrossingPeerMoves}
 use Rattle.x25_line.specs.laws.PeerSessions as sessions
 
 module _ (reads : ReadsSpelled) where

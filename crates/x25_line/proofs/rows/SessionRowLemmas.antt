@@ -1,13 +1,10 @@
 -- The worked rows of sessions, by computing: what comes is what the frame is that was spelled.
-use Rattle.std.proofs.Common.{◌≡◌, ℕ, List, [], ◌∷◌, true, false, if◌then◌else◌, Result, Ok, arith, refl, sym, ap, ◌∙◌, subst}
-use Rattle.x25_bits.specs.{declared.role.Role.{Role}, declared.role.Role.TheVariants.{Dte, Dce}}
-use Rattle.x25_frame.specs.{Frame.{PlainFrame, rr, sabm, ua}, Spelling.{spelling_of}, Reading.{frame_of}, laws.ReadingLaw.{ReadsSpelled}}
-use Rattle.x25_frame.specs.declared.error.FrameError.{FrameError}
-use Rattle.x25_link.specs.{Station.{LinkSettings, is_up, pumped}, Hearing.{other}, Link.{alone, closed_by, hears}}
-use Rattle.x25_line.specs.{laws.Stations.{Put, Deliver, T1, Connect, Abandon, Lose, Near, Far}, rows.StationRows.{dte, dce}, laws.Said.{said}}
-use Rattle.x25_line.specs.laws.Sessions.{Entry, Sessions, after_step, meets, delivered, swapped, acts, happens, run, from_nothing, from_set_up}
-use Rattle.x25_line.specs.rows.SessionRows.{IsFirst, SetsUpFromNothing, IsSecond, SetsUpAgain}
+use Rattle.x25_line.proofs.Names.{◌≡◌, ℕ, List, [], ◌∷◌, true, false, if◌then◌else◌, Result, Ok, arith, refl, sym, ap, ◌∙◌, subst, Role, Dte, Dce, PlainFrame}
+use Rattle.x25_line.proofs.Names.{rr, sabm, ua, spelling_of, frame_of, ReadsSpelled, FrameError, LinkSettings, is_up, pumped, other, alone, closed_by, hears}
+use Rattle.x25_line.proofs.Names.{Put, Deliver, T1, Connect, Abandon, Lose, Near, Far, dte, said, Entry, Sessions, after_step, meets, delivered, swapped, acts}
+use Rattle.x25_line.proofs.Names.{happens, run, from_nothing, from_set_up}
 use Rattle.x25_line.proofs.rows.StationRowLemmas.{packet_frame, crossing_frame, info_reads, bare_reads, ready_reads}
+use Rattle.x25_line.specs.rows.{SessionRows.{IsFirst, SetsUpFromNothing, IsSecond, SetsUpAgain}, StationRows.{dce}}
 
 -- the two stations once octets that read as this have come to the near end
 abbrev pub taken_as : LinkSettings → Result PlainFrame FrameError → Entry → List Entry → Sessions → Sessions

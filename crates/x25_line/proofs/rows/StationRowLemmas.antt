@@ -1,15 +1,11 @@
 -- The worked rows, by computing: what comes is what the frame is that was spelled, so no frame check sequence is computed.
-use Rattle.std.proofs.Common.{◌≡◌, ℕ, ◌<◌, List, [], ◌∷◌, map, Bool, true, false, Result, Ok, Err, arith, refl, sym, ap, ◌∙◌, subst}
-use Rattle.x25_bits.specs.{declared.role.Role.{Role}, declared.role.Role.TheVariants.{Dte, Dce}}
-use Rattle.x25_frame.specs.{Frame.{PlainFrame, info, rr, sabm, disc, ua, dm}, Spelling.{spelling_of}, Reading.{frame_of}, laws.ReadingLaw.{ReadsSpelled}}
-use Rattle.x25_frame.specs.{declared.error.FrameError.{FrameError}, declared.error.FrameError.TheVariants.{Short}}
-use Rattle.x25_link.specs.{declared.phase.Phase.TheVariants.{Down, Waiting, Closed}, declared.phase.Reason.TheVariants.{Reset, Counts, Disc}}
-use Rattle.x25_link.specs.{Station.{LinkSettings, fresh, pumped}, Hearing.{other}, Link.{alone, closed_by, hears, is_idle}}
-use Rattle.x25_line.specs.laws.Stations.{Stations, Put, Deliver, T1, Connect, Disconnect, Abandon, LinkEvent, Near, Far, after_step, acts, delivered}
-use Rattle.x25_line.specs.laws.Stations.{stations_swapped, happens, run, start}
-use Rattle.x25_line.specs.rows.StationRows.{dte, dce, IsAcrossFive, PacketGoes, PacketsCross, lost, LostComesAgain, damaged, DamagedComesAgain, DisconnectEnds}
+use Rattle.x25_line.proofs.Names.{◌≡◌, ℕ, ◌<◌, List, [], ◌∷◌, map, Bool, true, false, Result, Ok, Err, arith, refl, sym, ap, ◌∙◌, subst, Role, Dte, Dce}
+use Rattle.x25_line.proofs.Names.{PlainFrame, info, rr, sabm, disc, ua, dm, spelling_of, frame_of, ReadsSpelled, FrameError, Short, Down, Waiting, Closed}
+use Rattle.x25_line.proofs.Names.{Reset, Counts, Disc, LinkSettings, fresh, pumped, other, alone, closed_by, hears, is_idle, Stations, Put, Deliver, T1}
+use Rattle.x25_line.proofs.Names.{Connect, Disconnect, Abandon, LinkEvent, Near, Far, stations_swapped, start, dte}
+use Rattle.x25_line.{proofs.StationLines.{AreParting, parts_of, part_reads}, specs.laws.Stations.{after_step, acts, delivered, happens, run}}
+use Rattle.x25_line.specs.rows.StationRows.{dce, IsAcrossFive, PacketGoes, PacketsCross, lost, LostComesAgain, damaged, DamagedComesAgain, DisconnectEnds}
 use Rattle.x25_line.specs.rows.StationRows.{AbandonEnds, ConnectSetsUp, ConnectIsDeclined}
-use Rattle.x25_line.proofs.StationLines.{AreParting, parts_of, part_reads}
 
 -- the world once octets that read as this have come to the near end
 abbrev pub taken_as : LinkSettings → Result PlainFrame FrameError → List ℕ → List (List ℕ) → Stations → Stations

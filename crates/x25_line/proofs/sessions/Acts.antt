@@ -1,13 +1,8 @@
 -- What each act leaves: of its end what each step of a station keeps, the other end as it was, and of the line to it all but one entry at most.
-use Rattle.std.proofs.{Common.{◌≡◌, ℕ, ◌≤◌, List, [], ◌∷◌, length, refl}, lemmas.Bool.{leb-true}}
-use Rattle.std.specs.Prelude.{nat_le}
-use Rattle.x25_link.specs.Station.{LinkSettings, LinkStation, is_up}
-use Rattle.x25_link.specs.Link.{take_step, put_step, timer_step, connect_step, disconnect_step, abandon_step, put_refusal, timer_refusal, connect_refusal}
-use Rattle.x25_link.specs.Link.{disconnect_refusal}
-use Rattle.x25_line.specs.laws.Stations.{Act, Put, Deliver, T1, Connect, Disconnect, Abandon, Probe, Lose, Damage, is_visible}
-use Rattle.x25_line.specs.laws.Sessions.{Entry, Sessions, delivered, with_octets, acts}
-use Rattle.x25_line.specs.{laws.Loss.{LessAt, gone, Less}, laws.PeerSessions.{IsSeenIn}}
-use Rattle.x25_line.proofs.{Losses.{untouched, removes, replaces}, Choices.{unless_by, if_by}}
+use Rattle.x25_line.proofs.Names.{◌≡◌, ℕ, ◌≤◌, List, [], ◌∷◌, length, refl, leb-true, nat_le, LinkSettings, LinkStation, is_up, take_step, put_step, timer_step}
+use Rattle.x25_line.proofs.Names.{connect_step, disconnect_step, abandon_step, put_refusal, timer_refusal, connect_refusal, disconnect_refusal, Act, Put}
+use Rattle.x25_line.proofs.Names.{Deliver, T1, Connect, Disconnect, Abandon, Probe, Lose, Damage, is_visible, Entry, Sessions, delivered, with_octets, acts}
+use Rattle.x25_line.proofs.{Choices.{unless_by, if_by}, Losses.{untouched, removes, replaces}, Names.{LessAt, gone, Less, IsSeenIn}}
 
 pub record Keeps (c : LinkSettings) (P : LinkStation → Type 0) : Type 0 where
   pub takes : (o : List ℕ) (s : LinkStation) → P s → P (take_step c o s).side.near

@@ -1,14 +1,9 @@
 -- What the rules look at in the octets on a line.
-use Rattle.std.proofs.Common.{◌≡◌, ℕ, List, [], ◌∷◌, ◌++◌, true, if◌then◌else◌, Ok, refl, sym, ap, ◌∙◌}
-use Rattle.x25_bits.specs.declared.role.Role.{Role}
-use Rattle.x25_frame.specs.{Frame.{PlainFrame, sabm}, Spelling.{spelling_of}, Reading.{frame_of}}
-use Rattle.x25_link.specs.{declared.phase.Phase.{Phase}, declared.phase.Phase.TheVariants.{Up}, Station.{LinkSettings, is_up}, Hearing.{other}}
-use Rattle.x25_line.specs.laws.Sessions.{Entry, Meeting, letters, meets, sent_in}
-use Rattle.x25_line.specs.{laws.PeerSessions.{stand_of, IsSeenIn, Puts, put}, laws.Ends.{OfSabm, AreOf, IsSpoilt}}
-use Rattle.x25_line.specs.laws.Loss.{LessAt, nothing, gone, hurt, deeper}
-use Rattle.x25_line.proofs.{StationLines.{visible_is}, sessions.SessionLines.{Read}, sessions.SessionMay.{entry}}
-use Rattle.x25_line.specs.laws.Stations.{is_visible}
-use Rattle.x25_line.specs.laws.Said.{Said, Sabm, Else, Odd as OddSaid, said, letter}
+use Rattle.x25_line.proofs.Names.{◌≡◌, ℕ, List, [], ◌∷◌, ◌++◌, true, if◌then◌else◌, Ok, refl, sym, ap, ◌∙◌, Role, PlainFrame, sabm, spelling_of, frame_of}
+use Rattle.x25_line.proofs.Names.{Phase, Up, LinkSettings, is_up, other, Entry, Meeting, letters, meets, sent_in, stand_of, IsSeenIn, Puts, OfSabm, AreOf}
+use Rattle.x25_line.proofs.{Names.{IsSpoilt, LessAt, nothing, gone, hurt, deeper, is_visible, Said, Sabm, Else, said}, StationLines.{visible_is}}
+use Rattle.x25_line.{proofs.sessions.SessionLines.{Read}, proofs.sessions.SessionMay.{entry}, specs.laws.PeerSessions.{put}}
+use Rattle.x25_line.specs.laws.Said.{Odd as OddSaid, letter}
 use Rattle.x25_line.specs.laws.Ends as ends
 
 -- ---- one of them

@@ -1,18 +1,16 @@
 -- A station over sessions and a peer are two ends that keep the rules, whatever the peer does within these and the line to it loses.
-use Rattle.std.proofs.Common.{◌≡◌, ◌⊎◌, inl, inr, ℕ, suc, ◌+◌, List, [], ◌∷◌, ◌++◌, refl, sym, subst, arith}
-use Rattle.x25_frame.specs.Reading.{frame_of}
-use Rattle.x25_link.specs.{declared.phase.Phase.{Phase}, declared.phase.Phase.TheVariants.{Waiting, Closed}, Station.{LinkSettings}, Hearing.{other}}
-use Rattle.x25_line.specs.{laws.Stations.{Act}, laws.Sessions.{Entry, acts}, laws.Peer.{Peer}}
-use Rattle.x25_line.specs.laws.Said.{Said, Tells, Sabm, Disc, Ua, Else, Odd as OddSaid, said, sabm_of, ua_of, disc_of}
-use Rattle.x25_line.specs.laws.Ends.{Letter, letter, how_many, AreOf, OfSabm, Two, Moves, free, odd, asks, closes, leaves, hears, takes_ua, takes_sabm}
-use Rattle.x25_line.specs.laws.Ends.{waits_on, takes_disc, loses, Ends, ends_swapped, Does, sends, listens, moves, EndsReached, far_handed, far_does}
-use Rattle.x25_line.specs.laws.PeerSessions.{PeerSessions, IsSeenIn, Puts, nothing, put, seen_by_peer, now, with_now}
-use Rattle.x25_line.specs.laws.PeerSessions.{HappensInSessions, Ours, HandsDown, Theirs, IsTimely, stand_of, both_ends, with_peer}
-use Rattle.x25_line.proofs.{Lists.{each_append}, sessions.SessionHeld.{Owes, OwesOn, owes_less}, sessions.Letters.{letters_less}, sessions.SessionSeen.{Seen}}
-use Rattle.x25_line.specs.{laws.Loss.{LessAt, Less}, laws.Ends.{IsSpoilt}}
-use Rattle.x25_line.proofs.{sessions.SessionWith.{NoneOdd, no_frmr_less, Where, where_map, outs, backs, Kept, at, IsWith}}
-use Rattle.x25_line.proofs.{Losses.{untouched}, ends.Lines.{count_push, count_less, are_push, are_less, are_none}, ends.Moves.{popped}}
-use Rattle.x25_line.proofs.{ends.Sessions.{All, all_turned, reached_all, ua_present}, ends.Meetings.{twice_turned}}
+use Rattle.x25_line.proofs.Names.{◌≡◌, ◌⊎◌, inl, inr, ℕ, suc, ◌+◌, List, [], ◌∷◌, ◌++◌, refl, sym, subst, arith, frame_of, Phase, Waiting, Closed, LinkSettings}
+use Rattle.x25_line.proofs.Names.{other, Act, Entry, acts, Peer, Said, Tells, Sabm, Ua, Else, said, sabm_of, ua_of, disc_of, Letter, letter, AreOf, OfSabm, Two}
+use Rattle.x25_line.proofs.Names.{Moves, free, odd, asks, closes, leaves, takes_ua, takes_sabm, waits_on, takes_disc, loses, Ends, ends_swapped, Does, listens}
+use Rattle.x25_line.proofs.Names.{moves, EndsReached, PeerSessions, IsSeenIn, Puts, stand_of, both_ends, with_peer, LessAt, Less, IsSpoilt}
+use Rattle.x25_line.proofs.{Lists.{each_append}, Losses.{untouched}}
+use Rattle.x25_line.proofs.ends.{Lines.{count_push, count_less, are_push, are_less, are_none}, Meetings.{twice_turned}, Moves.{popped}}
+use Rattle.x25_line.proofs.{ends.Sessions.{All, all_turned, reached_all, ua_present}, sessions.Letters.{letters_less}}
+use Rattle.x25_line.proofs.sessions.{SessionHeld.{Owes, OwesOn, owes_less}, SessionSeen.{Seen}}
+use Rattle.x25_line.proofs.sessions.SessionWith.{NoneOdd, no_frmr_less, Where, where_map, outs, backs, Kept, at, IsWith}
+use Rattle.x25_line.specs.laws.Ends.{how_many, hears, sends, far_handed, far_does}
+use Rattle.x25_line.specs.laws.PeerSessions.{nothing, put, seen_by_peer, now, with_now, HappensInSessions, Ours, HandsDown, Theirs, IsTimely}
+use Rattle.x25_line.specs.laws.Said.{Disc, Odd as OddSaid}
 
 -- ---- what an end does, beside a station
 

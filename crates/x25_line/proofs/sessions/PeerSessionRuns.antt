@@ -1,18 +1,13 @@
 -- What a station and a peer reach are two ends that keep the rules, and that says the claims.
-use Rattle.std.proofs.{Common.{◌≡◌, inl, inr, ◌≤◌, ℕ, List, [], ◌∷◌, map, length, true, refl, sym, ap, ◌∙◌}, lemmas.Bool.{and_parts}}
-use Rattle.x25_frame.specs.laws.ReadingLaw.{ReadsSpelled}
-use Rattle.x25_link.specs.{declared.phase.Phase.{Phase}, declared.phase.Phase.TheVariants.{Down, Up}, Station.{LinkSettings, is_up}}
-use Rattle.x25_line.specs.{laws.Stations.{Act, T1, Connect}, laws.Sessions.{Meeting, turned, acts, start_with}}
-use Rattle.x25_line.specs.{laws.SessionClaims.{Each, IsInOrder, MeetInStep, MetAreInOrder, UnmetHandNothingUp}, laws.LawsBelow.{SessionLaws}}
-use Rattle.x25_line.specs.laws.Peer.{fresh_peer}
-use Rattle.x25_line.specs.laws.PeerSessions.{Stand, PeerSessions, Out, In, both_ends, as_end, with_peer, begin_with, stand_of, ReachedInSessions, at_start}
-use Rattle.x25_line.specs.{laws.PeerSessions.{set_up, goes_on}, laws.PeerSessionClaims.{IdleHasArrived, EachMeetsLatest}, laws.Ends.{AreOf, Ends, ends_swapped}}
-use Rattle.x25_line.specs.laws.EndClaims.{MetInOrder, KeepSessions}
-use Rattle.x25_line.proofs.{StationClaimLemmas.{idle_all}, StationAway.{is_up_phase}, sessions.SessionSeen.{Seen, start_seen}}
-use Rattle.x25_line.proofs.{sessions.SessionMay.{MayAsk, Kind}, sessions.SessionSeenSteps.{IsTimely, station_acts}}
-use Rattle.x25_line.proofs.{sessions.SessionWith.{outs, backs, at, IsWith, station_may}, sessions.PeerMoves.{peer_held}}
-use Rattle.x25_line.proofs.{ends.Sessions.{All, all_turned, reached_all, keep_sessions, latest, some_stands, all_taken}, sessions.SessionHeld.{OwesOn}}
-use Rattle.x25_line.proofs.{Lists.{each_map}}
+use Rattle.x25_line.proofs.Names.{◌≡◌, inl, inr, ◌≤◌, ℕ, List, [], ◌∷◌, map, length, true, refl, sym, ap, ◌∙◌, and_parts, ReadsSpelled, Phase, Down, Up}
+use Rattle.x25_line.proofs.Names.{LinkSettings, is_up, Act, T1, Connect, Meeting, turned, acts, start_with, Each, SessionLaws, fresh_peer, PeerSessions}
+use Rattle.x25_line.proofs.{Lists.{each_map}, Names.{both_ends, with_peer, stand_of, ReachedInSessions, AreOf, Ends, ends_swapped}, StationAway.{is_up_phase}}
+use Rattle.x25_line.proofs.{StationClaimLemmas.{idle_all}, ends.Sessions.{All, all_turned, reached_all, keep_sessions, latest, some_stands, all_taken}}
+use Rattle.x25_line.proofs.sessions.{PeerMoves.{peer_held}, SessionHeld.{OwesOn}, SessionMay.{MayAsk, Kind}, SessionSeen.{Seen, start_seen}}
+use Rattle.x25_line.proofs.sessions.{SessionSeenSteps.{IsTimely, station_acts}, SessionWith.{outs, backs, at, IsWith, station_may}}
+use Rattle.x25_line.specs.laws.{EndClaims.{MetInOrder, KeepSessions}, PeerSessionClaims.{IdleHasArrived, EachMeetsLatest}}
+use Rattle.x25_line.specs.laws.PeerSessions.{Stand, Out, In, as_end, begin_with, at_start, set_up, goes_on}
+use Rattle.x25_line.specs.laws.SessionClaims.{IsInOrder, MeetInStep, MetAreInOrder, UnmetHandNothingUp}
 use Rattle.x25_line.specs.laws.PeerSessions as sessions
 use Rattle.x25_line.specs.laws.Ends as ends
 

@@ -1,20 +1,14 @@
 -- What is done at the near end keeps what holds of two stations over sessions: packets handed down, timer T1, connect, disconnect
 -- and abandon.
-use Rattle.std.proofs.Common.{◌≡◌, ◌≤◌, ℕ, suc, ◌+◌, List, [], ◌∷◌, length, Bool, true, false, if◌then◌else◌, Option, Some, None, refl, sym, ap, ◌∙◌, subst}
-use Rattle.std.proofs.Common.{arith}
-use Rattle.std.specs.Prelude.{nat_lt}
-use Rattle.x25_frame.specs.{Frame.{PlainFrame, sabm, disc}, laws.ReadingLaw.{ReadsSpelled}}
-use Rattle.x25_link.specs.{declared.phase.Phase.{Phase}, declared.phase.Phase.TheVariants.{Down, Waiting, Up, Closed}, declared.phase.Reason.{Reason}}
-use Rattle.x25_link.specs.{declared.phase.Reason.TheVariants.{Retries, Local, Counts}, laws.SetUp.{Is}}
-use Rattle.x25_link.specs.Station.{LinkSettings, LinkStation, is_up, with_nothing}
-use Rattle.x25_link.specs.{Hearing.{LinkStep, other}, Link.{put_step, timer_step, connect_step, disconnect_step, disconnect_refusal, abandon_step}}
-use Rattle.x25_link.specs.{laws.WindowMachine.{nothing}, laws.NoteLaw.{Tells}, laws.WindowLaw.{IsRunning, IsSound, IsOut, Ends}}
-use Rattle.x25_line.specs.{laws.StationClaims.{AreJoined}, laws.SessionNumbers.{Standing}}
-use Rattle.x25_line.specs.{laws.Sessions.{Entry, Meeting, Sessions, letters, begun_by, after_step}, laws.Said.{sabm_of, ua_of, how_many}, laws.LawsBelow.{Laws}}
-use Rattle.x25_line.proofs.{StationHears.{by_disc, by_reset}, sessions.SessionSeenActs.{by_neither}, StationLines.{AreParting}}
-use Rattle.x25_line.proofs.{StationSteps.{AsUp, up_of, Leaves, ends_joint}, StationRuns.{put_up, timer_by}, sessions.SessionLines.{count}}
-use Rattle.x25_line.proofs.{sessions.SessionHeld.{IsOf, Owes, OnLine, Held, is_out}, sessions.SessionSteps.{waiting_is_closed, stepped, went_by, apart_held}}
-use Rattle.x25_line.proofs.sessions.SessionUp.{stays_answers, follows_answers, live_goes_on}
+use Rattle.x25_line.proofs.Names.{◌≡◌, ◌≤◌, ℕ, suc, ◌+◌, List, [], ◌∷◌, length, Bool, true, false, if◌then◌else◌, Option, Some, None, refl, sym, ap, ◌∙◌, subst}
+use Rattle.x25_line.proofs.Names.{arith, nat_lt, PlainFrame, sabm, disc, ReadsSpelled, Phase, Down, Waiting, Up, Closed, Reason, Retries, Local, Counts, Is}
+use Rattle.x25_line.proofs.Names.{LinkSettings, LinkStation, is_up, with_nothing, LinkStep, other, put_step, timer_step, connect_step, disconnect_step}
+use Rattle.x25_line.proofs.Names.{disconnect_refusal, abandon_step, IsSound, IsOut, AreJoined, Standing, Entry, Meeting, Sessions, letters, begun_by}
+use Rattle.x25_line.proofs.{Names.{after_step, sabm_of, ua_of, how_many, Laws}, StationHears.{by_disc, by_reset}, StationLines.{AreParting}}
+use Rattle.x25_line.proofs.{StationRuns.{put_up, timer_by}, StationSteps.{AsUp, up_of, Leaves, ends_joint}}
+use Rattle.x25_line.proofs.sessions.{SessionHeld.{IsOf, Owes, OnLine, Held, is_out}, SessionLines.{count}, SessionSeenActs.{by_neither}}
+use Rattle.x25_line.proofs.sessions.{SessionSteps.{waiting_is_closed, stepped, went_by, apart_held}, SessionUp.{stays_answers, follows_answers, live_goes_on}}
+use Rattle.x25_link.specs.laws.{NoteLaw.{Tells}, WindowLaw.{IsRunning, Ends}, WindowMachine.{nothing}}
 use Rattle.x25_link.specs.declared.error.LinkError.TheVariants as error
 
 -- what holds of a step in which no LinkUp is noted

@@ -1,12 +1,10 @@
 -- A SABM that comes to an end that isn't Closed begins two sessions, and keeps what holds of two stations.
-use Rattle.std.proofs.Common.{◌≡◌, ◌≤◌, ℕ, suc, ◌+◌, List, [], ◌∷◌, ◌++◌, inl, inr, Bool, None, refl, sym, ap, ◌∙◌, subst, arith}
-use Rattle.x25_frame.specs.{Frame.{PlainFrame, ua}, Spelling.{spelling_of}, Reading.{frame_of}, laws.ReadingLaw.{ReadsSpelled}}
-use Rattle.x25_link.specs.{Station.{LinkSettings, fresh, is_up}, Hearing.{LinkStep, other}}
-use Rattle.x25_line.specs.{laws.Stations.{start}, laws.StationClaims.{AreJoined}, laws.Sessions.{Entry, Meeting, Sessions, letters, sent_in}}
-use Rattle.x25_line.specs.{laws.SessionNumbers.{Standing, anew}, laws.SessionClaims.{AllOf}, laws.Said.{Said, said, sabm_of, ua_of, how_many}}
+use Rattle.x25_line.proofs.Names.{◌≡◌, ◌≤◌, ℕ, suc, ◌+◌, List, [], ◌∷◌, ◌++◌, inl, inr, Bool, None, refl, sym, ap, ◌∙◌, subst, arith, PlainFrame, ua}
+use Rattle.x25_line.proofs.Names.{spelling_of, frame_of, ReadsSpelled, LinkSettings, fresh, is_up, LinkStep, other, start, AreJoined, Entry, Meeting, Sessions}
+use Rattle.x25_line.proofs.Names.{letters, sent_in, Standing, anew, AllOf, Said, said, sabm_of, ua_of, how_many}
 use Rattle.x25_line.proofs.{StationLines.{AreParting, parts_of, no_frmr_append, parting_whole}, StationRuns.{start_machine}}
-use Rattle.x25_line.proofs.sessions.SessionLines.{numbers, behind_ua, behind_last}
 use Rattle.x25_line.proofs.sessions.SessionHeld.{IsThere, EndIsThere, is_soon, is_out, OnLine, HasLists, SameLists, Held, whole_apart}
+use Rattle.x25_line.proofs.sessions.SessionLines.{numbers, behind_ua, behind_last}
 use Rattle.x25_line.proofs.sessions.SessionSteps.{end_after, stepped, nothing_handed, waiting_is_closed, asked_by, many_out}
 
 module _ {c d : LinkSettings} (joined : AreJoined c d) (reads : ReadsSpelled) where

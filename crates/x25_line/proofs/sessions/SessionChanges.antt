@@ -1,16 +1,11 @@
 -- A frame on the line to the near end is lost or damaged, which keeps what holds of two stations.
-use Rattle.std.proofs.Common.{Option, None, length, ◌≡◌, ◌≤◌, ℕ, zero, suc, List, [], ◌++◌, refl, sym, ap, ◌∙◌, subst, arith}
-use Rattle.x25_bits.specs.declared.role.Role.{Role}
-use Rattle.x25_frame.specs.laws.ReadingLaw.{ReadsSpelled}
-use Rattle.x25_link.specs.{declared.phase.Phase.{Phase}, declared.phase.Phase.TheVariants.{Waiting, Up}, Station.{LinkSettings, is_up, LinkStation}}
-use Rattle.x25_link.specs.Hearing.{other}
-use Rattle.x25_line.specs.{laws.StationClaims.{AreJoined}, laws.WholeNumbers.{given, place_of, taken_out}, laws.Sessions.{Entry, Sessions, letters}}
-use Rattle.x25_line.specs.{laws.SessionClaims.{octets_of}, laws.SessionNumbers.{Standing, place_behind_ua, place_to_hear, standing_after}}
-use Rattle.x25_line.specs.{laws.LawsBelow.{Laws}, laws.Loss.{LessAt}, laws.PeerSessions.{IsSeenIn}, laws.Said.{ua_of, how_many}}
-use Rattle.x25_line.proofs.{StationSteps.{Joint, Leads, counted_fits, left_joint, stands_still}, sessions.Letters.{letters_less}, ends.Lines.{count_less}}
+use Rattle.x25_line.proofs.Names.{Option, None, length, ◌≡◌, ◌≤◌, ℕ, zero, suc, List, [], ◌++◌, refl, sym, ap, ◌∙◌, subst, arith, Role, ReadsSpelled, Phase}
+use Rattle.x25_line.proofs.Names.{Waiting, Up, LinkSettings, is_up, LinkStation, other, AreJoined, given, place_of, taken_out, Entry, Sessions, letters}
+use Rattle.x25_line.proofs.Names.{octets_of, Standing, place_to_hear, standing_after, Laws, LessAt, IsSeenIn, ua_of, how_many}
+use Rattle.x25_line.proofs.{StationSteps.{Joint, Leads, counted_fits, left_joint, stands_still}, ends.Lines.{count_less}, sessions.Letters.{letters_less}}
+use Rattle.x25_line.proofs.sessions.{SessionActs.{waiting_owes}, SessionHeld.{is_there, is_soon, is_out, IsOf, EndIsThere, OnLine, Held, counted_there}}
 use Rattle.x25_line.proofs.sessions.SessionLines.{carried, carried_numbers, carried_orderly, Come, come_less, behind_ua, behind_less, behind_none}
-use Rattle.x25_line.proofs.sessions.SessionHeld.{is_there, is_soon, is_out, IsOf, EndIsThere, OnLine, Held, counted_there}
-use Rattle.x25_line.proofs.sessions.SessionActs.{waiting_owes}
+use Rattle.x25_line.specs.laws.SessionNumbers.{place_behind_ua}
 
 module _ {c d : LinkSettings} (joined : AreJoined c d) (reads : ReadsSpelled) (laws : Laws) {stand : Standing} {w : Sessions} (h : Held stand c d w)
     (line : OnLine c d w) {es : List Entry} {i : ℕ} (less : LessAt IsSeenIn i w.back es) where

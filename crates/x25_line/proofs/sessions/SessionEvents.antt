@@ -1,21 +1,16 @@
 -- What one event does to the sessions of two link stations, by cases of the event.
-use Rattle.std.proofs.Common.{◌≡◌, ◌<◌, ◌⊎◌, ℕ, suc, List, [], ◌∷◌, length, map, inl, inr, Bool, true, false, if◌then◌else◌, Option, Some, None, Ok, refl, sym}
-use Rattle.std.proofs.Common.{◌++◌, Err, ap, ◌∙◌, subst, arith, append-nil}
-use Rattle.std.specs.Prelude.{nat_le, option_to_list}
-use Rattle.x25_frame.specs.{Frame.{PlainFrame, info, rr, rnr, rej, sabm}, declared.error.FrameError.TheVariants.{Short}, laws.ReadingLaw.{ReadsSpelled}}
-use Rattle.x25_link.specs.{declared.error.LinkError.{LinkError}, declared.phase.Reason.{Reason}, declared.phase.Reason.TheVariants.{FrmrSent}}
-use Rattle.x25_link.specs.{laws.NoteLaw.{Tells, HandsUp, TakeHandsUp}, Station.{LinkSettings, LinkStation, is_up}, Hearing.{LinkStep, other}}
-use Rattle.x25_link.specs.{Link.{take_step, put_step, put_refusal}, laws.WindowMachine.{Window, Input}}
-use Rattle.x25_link.specs.laws.WindowLaw.{window_of, brought_by, ending_of, Follows}
-use Rattle.x25_line.specs.{laws.Stations.{Act, Put, Deliver, Lose, Damage, Near, Far, is_visible}, laws.StationClaims.{number_in}, laws.Said.{said}}
-use Rattle.x25_line.specs.laws.Sessions.{Entry, SessionEnd, Meeting, Sessions, turned, swapped, begun_by, after_step, unless, meets, delivered, acts}
-use Rattle.x25_line.specs.laws.SessionClaims.{Throughout, AllOf}
+use Rattle.x25_line.proofs.Names.{◌≡◌, ◌<◌, ◌⊎◌, ℕ, suc, List, [], ◌∷◌, length, map, inl, inr, Bool, true, false, if◌then◌else◌, Option, Some, None, Ok, refl}
+use Rattle.x25_line.proofs.Names.{sym, ◌++◌, Err, ap, ◌∙◌, subst, arith, append-nil, nat_le, option_to_list, PlainFrame, info, rr, rnr, rej, sabm, Short}
+use Rattle.x25_line.proofs.Names.{ReadsSpelled, LinkError, Reason, FrmrSent, LinkSettings, LinkStation, is_up, LinkStep, other, take_step, put_step}
+use Rattle.x25_line.proofs.Names.{put_refusal, Window, Input, window_of, brought_by, ending_of, Follows, Act, Put, Deliver, Lose, Damage, Near, Far, is_visible}
+use Rattle.x25_line.proofs.Names.{number_in, said, Entry, SessionEnd, Meeting, Sessions, turned, swapped, begun_by, after_step, unless, meets, delivered, acts}
+use Rattle.x25_line.proofs.{Choices.{unless_by, if_by}, Names.{Throughout, AllOf, SessionLaws}, StationEvents.{own_by}, StationSteps.{not_both, not_afresh}}
+use Rattle.x25_line.proofs.{ends.Meetings.{twice_turned}, sessions.SessionHeld.{extended_same, extended_other}, sessions.SessionLines.{Read, none_is_some}}
+use Rattle.x25_line.proofs.sessions.{SessionSeenRuns.{Both, both_swapped}, SessionSteps.{end_after, nothing_handed}, SessionTakes.{read_of}}
+use Rattle.x25_line.proofs.sessions.{SessionUp.{follows_no_packet}, TwoSessions.{hears_latest, running, throughout_of}}
 use Rattle.x25_line.specs.laws.SessionEvents.{NextBegins, GoesOn, HandsInSession, EachEventHandsInSession, latest, BeginsAfresh, MeetsNone, MeetsOne}
-use Rattle.x25_line.specs.{laws.SessionEvents.{EachEventMeetsLatest}, laws.LawsBelow.{SessionLaws}}
-use Rattle.x25_line.proofs.{StationSteps.{not_both, not_afresh}, StationEvents.{own_by}, sessions.SessionLines.{Read, none_is_some}}
-use Rattle.x25_line.proofs.{sessions.SessionHeld.{extended_same, extended_other}, sessions.SessionSteps.{end_after, nothing_handed}}
-use Rattle.x25_line.proofs.{sessions.SessionUp.{follows_no_packet}, sessions.SessionTakes.{read_of}, sessions.SessionSeenRuns.{Both, both_swapped}}
-use Rattle.x25_line.proofs.{sessions.TwoSessions.{hears_latest, running, throughout_of}, ends.Meetings.{twice_turned}, Choices.{unless_by, if_by}}
+use Rattle.x25_line.specs.laws.SessionEvents.{EachEventMeetsLatest}
+use Rattle.x25_link.specs.laws.NoteLaw.{Tells, HandsUp, TakeHandsUp}
 
 -- ---- a step
 

@@ -1,20 +1,14 @@
 -- What holds of two stations over set-up and re-set-up at any moment.
-use Rattle.std.proofs.Common.{◌≡◌, ◌≤◌, ◌==◌, ℕ, suc, ◌+◌, List, [], ◌∷◌, ◌++◌, ◌⊎◌, inl, inr, Bool, true, false, if◌then◌else◌, length, None, refl}
-use Rattle.std.proofs.{Common.{sym, ap, ◌∙◌, subst, arith, append-nil}, lemmas.Bool.{eq-eqb, eqb-true}}
-use Rattle.std.proofs.lemmas.List.Elements.{Contains-append_left, Contains-append_right, Contains-append_cases}
-use Rattle.std.specs.List.{Contains}
-use Rattle.x25_bits.specs.declared.role.Role.{Role}
-use Rattle.x25_frame.specs.{Frame.{PlainFrame}, Reading.{frame_of}}
-use Rattle.x25_window.specs.laws.Window.{End}
-use Rattle.x25_link.specs.{declared.phase.Phase.{Phase}, declared.phase.Phase.TheVariants.{Waiting, Closed}, Station.{LinkSettings, LinkStation, is_up, fresh}}
-use Rattle.x25_link.specs.Hearing.{other}
-use Rattle.x25_line.specs.{laws.Stations.{StationEnd, Stations}, laws.StationClaims.{NoFrmr, IsWhole, AreWhole, numbered_on}}
-use Rattle.x25_line.specs.{laws.Sessions.{Entry, SessionEnd, Sessions, letters, extended}, laws.WholeNumbers.{counted}}
-use Rattle.x25_line.specs.laws.Said.{Letter, said, sabm_of, ua_of, disc_of, how_many}
-use Rattle.x25_line.specs.{laws.SessionNumbers.{Standing, standing_after}, laws.SessionClaims.{AllOf, AreWholeIn}}
-use Rattle.x25_line.proofs.{Lists.{each_append}, StationLines.{numbered_append, AreParting, parts_of, whole_more, parting_whole, IsOrderly}}
+use Rattle.x25_line.proofs.Names.{◌≡◌, ◌≤◌, ◌==◌, ℕ, suc, ◌+◌, List, [], ◌∷◌, ◌++◌, ◌⊎◌, inl, inr, Bool, true, false, if◌then◌else◌, length, None, refl, sym}
+use Rattle.x25_line.proofs.Names.{ap, ◌∙◌, subst, arith, append-nil, eq-eqb, eqb-true, Contains-append_cases, Contains, Role, PlainFrame, frame_of, End, Phase}
+use Rattle.x25_line.proofs.Names.{Waiting, Closed, LinkSettings, LinkStation, is_up, fresh, other, StationEnd, Stations, NoFrmr, IsWhole, AreWhole, numbered_on}
+use Rattle.x25_line.proofs.Names.{Entry, SessionEnd, Sessions, letters, extended, said, sabm_of, ua_of, disc_of, how_many, Standing, standing_after, AllOf}
+use Rattle.std.proofs.lemmas.List.Elements.{Contains-append_left, Contains-append_right}
+use Rattle.x25_line.proofs.Lists.{each_append}
+use Rattle.x25_line.proofs.StationLines.{numbered_append, AreParting, parts_of, whole_more, parting_whole, IsOrderly}
 use Rattle.x25_line.proofs.StationSteps.{Joint, FitsEnd, machine_is, counted_off, counted_fits, none_put, not_both}
-use Rattle.x25_line.proofs.sessions.SessionLines.{numbers, numbers_append, many_append, by_first, behind_ua, behind_append}
+use Rattle.x25_line.{proofs.sessions.SessionLines.{numbers, numbers_append, many_append, by_first, behind_ua, behind_append}, specs.laws.Said.{Letter}}
+use Rattle.x25_line.specs.laws.{SessionClaims.{AreWholeIn}, WholeNumbers.{counted}}
 
 -- ---- the session that stands, and how an end is in it
 

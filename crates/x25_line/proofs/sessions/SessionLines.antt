@@ -1,18 +1,12 @@
 -- The line between two stations, with the sessions of its frames: the numbers on it, how many there are of a kind, and what
 -- sending, loss and damage change of these.
-use Rattle.std.proofs.Common.{◌≡◌, ◌≤◌, ℕ, zero, suc, ◌+◌, List, [], ◌∷◌, ◌++◌, inl, inr, map, Option, Some, None, Result, Ok, Err, refl, sym, ap, ◌∙◌}
-use Rattle.std.proofs.{Common.{subst, arith}, lemmas.Option.{none-some}}
-use Rattle.x25_bits.specs.declared.role.Role.{Role}
-use Rattle.x25_frame.specs.{Frame.{PlainFrame, info, rr, rnr, rej, frmr}, Spelling.{spelling_of}, Reading.{frame_of}, laws.ReadingLaw.{ReadsSpelled}}
-use Rattle.x25_frame.specs.declared.error.FrameError.{FrameError}
-use Rattle.x25_window.specs.laws.Window.{Frame}
-use Rattle.x25_link.specs.laws.WindowMachine.{ShowAll}
-use Rattle.x25_line.specs.{laws.StationClaims.{Each, number_in, numbered_on, AreWhole}, laws.Said.{Said, said, sabm_of, ua_of, disc_of, how_many}}
-use Rattle.x25_line.specs.{laws.Sessions.{Entry, letters, sent_in}, laws.SessionClaims.{octets_of, AllOf}}
-use Rattle.x25_line.specs.{laws.WholeNumbers.{place_of, taken_out}, laws.SessionNumbers.{by_answers, place_behind_ua}}
-use Rattle.x25_line.specs.{laws.Loss.{LessAt, nothing, gone, hurt, deeper}, laws.PeerSessions.{IsSeenIn}}
-use Rattle.x25_line.proofs.Losses.{each_less, octets_less}
+use Rattle.x25_line.proofs.Names.{◌≡◌, ◌≤◌, ℕ, zero, suc, ◌+◌, List, [], ◌∷◌, ◌++◌, inl, inr, map, Option, Some, None, Result, Ok, Err, refl, sym, ap, ◌∙◌}
+use Rattle.x25_line.proofs.Names.{subst, arith, Role, PlainFrame, info, rr, rnr, rej, frmr, spelling_of, frame_of, ReadsSpelled, FrameError, Frame, ShowAll}
+use Rattle.x25_line.proofs.Names.{number_in, numbered_on, AreWhole, Said, said, sabm_of, ua_of, disc_of, how_many, Entry, letters, sent_in, octets_of, AllOf}
+use Rattle.std.proofs.lemmas.Option.{none-some}
+use Rattle.x25_line.proofs.{Losses.{each_less, octets_less}, Names.{place_of, taken_out, LessAt, nothing, gone, hurt, deeper, IsSeenIn}}
 use Rattle.x25_line.proofs.StationLines.{IsOrderly, AreOrderly, consed, numbered_append, shows_less, visible_is}
+use Rattle.x25_line.specs.laws.{SessionNumbers.{by_answers, place_behind_ua}, StationClaims.{Each}}
 
 -- what octets are read as
 abbrev pub Read : Type 0

@@ -1,13 +1,8 @@
 -- What an end over sessions may do, as what is known of it goes on: the rules of a peer, of an end that is in one of our phases.
-use Rattle.std.proofs.Common.{◌≡◌, ◌≤◌, ℕ, suc, List, [], ◌∷◌, ◌++◌, Bool, true, if◌then◌else◌, Some, Ok}
-use Rattle.x25_frame.specs.{Frame.{PlainFrame, sabm, disc, ua, dm, frmr}, Reading.{frame_of}, laws.ReadingLaw.{ReadsSpelled}}
-use Rattle.x25_link.specs.{declared.phase.Phase.{Phase}, declared.phase.Phase.TheVariants.{Down, Waiting, Up, Closed}}
-use Rattle.x25_link.specs.{declared.phase.Reason.TheVariants.{FrmrSent}, Station.{LinkSettings, is_up}, Hearing.{other}, laws.SetUp.{TakesPart}}
-use Rattle.x25_link.specs.laws.WindowLaw.{ending_of}
-use Rattle.x25_line.specs.{laws.Loss.{LessAt}, laws.PeerSessions.{IsSeenIn}, laws.StationClaims.{number_in}, laws.LawsBelow.{SessionLaws}}
-use Rattle.x25_line.specs.{laws.Sessions.{Entry, Meeting, letters, meets}, laws.Peer.{Peer, fresh_peer, MaySend, MayHear}}
-use Rattle.x25_line.specs.{laws.Ends.{put_for}, laws.Said.{said, sabm_of, ua_of, disc_of, how_many}}
-use Rattle.x25_line.proofs.{StationSays.{machine_of}, sessions.SessionLines.{Read}}
+use Rattle.x25_line.proofs.Names.{◌≡◌, ◌≤◌, ℕ, suc, List, [], ◌∷◌, ◌++◌, Bool, true, if◌then◌else◌, Some, Ok, PlainFrame, sabm, disc, ua, dm, frmr, frame_of}
+use Rattle.x25_line.proofs.Names.{ReadsSpelled, Phase, Down, Waiting, Up, Closed, FrmrSent, LinkSettings, is_up, other, TakesPart, ending_of, LessAt, IsSeenIn}
+use Rattle.x25_line.proofs.Names.{number_in, SessionLaws, Entry, Meeting, letters, meets, Peer, fresh_peer, MayHear, put_for, said, sabm_of, ua_of, disc_of}
+use Rattle.x25_line.{proofs.Names.{how_many}, proofs.StationSays.{machine_of}, proofs.sessions.SessionLines.{Read}, specs.laws.Peer.{MaySend}}
 
 -- what is read of octets that it sends, and of those that come to it
 abbrev pub sends_read : LinkSettings → List ℕ → Read

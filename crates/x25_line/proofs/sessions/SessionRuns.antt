@@ -1,29 +1,21 @@
 -- Each event keeps what holds of two stations over sessions, so each run does, and what holds says the claims.
-use Rattle.std.proofs.Common.{◌≡◌, ℕ, List, [], ◌∷◌, ◌++◌, inl, inr, length, map, drop, remove, Bool, true, false, if◌then◌else◌, Option, Some, None, refl, sym}
-use Rattle.std.proofs.{Common.{ap, ◌∙◌, subst, arith}, lemmas.Bool.{leb-true}}
-use Rattle.std.specs.Prelude.{nat_le}
-use Rattle.x25_bits.specs.declared.role.Role.{Role}
-use Rattle.x25_frame.specs.{Frame.{PlainFrame}, Spelling.{spelling_of}, laws.ReadingLaw.{ReadsSpelled}}
-use Rattle.x25_link.specs.{declared.error.LinkError.{LinkError}, declared.phase.Phase.{Phase}, declared.phase.Phase.TheVariants.{Down, Waiting, Up}}
-use Rattle.x25_link.specs.{Station.{LinkSettings, is_up, with_nothing, fresh}, Hearing.{LinkStep, other}}
-use Rattle.x25_link.specs.Link.{take_step, put_step, put_refusal, timer_step, timer_refusal, timer_runs, connect_step, connect_refusal, disconnect_step}
-use Rattle.x25_link.specs.Link.{disconnect_refusal, abandon_step}
-use Rattle.x25_line.specs.laws.Stations.{Stations, Act, Put, Deliver, T1, Connect, Disconnect, Abandon, Probe, Lose, Damage, LinkEvent, Near, Far, is_visible}
-use Rattle.x25_line.specs.{laws.Stations.{start}, laws.StationClaims.{AreJoined, AreWhole}}
-use Rattle.x25_line.specs.laws.Sessions.{Entry, Meeting, Sessions, swapped, begun_by, sent_in, after_step, unless, delivered, with_octets, acts, happens, run}
-use Rattle.x25_line.specs.{laws.Sessions.{start_with, IsStart, IsTimely, IsTimelyAt, AreTimely}, laws.Loss.{replaced}}
-use Rattle.x25_line.specs.laws.SessionNumbers.{Standing, turned as other_way, is_set_up, front_sets_up, anew, place_to_hear, gone_at, standing_after, same_two}
-use Rattle.x25_line.specs.laws.SessionNumbers.{standing_acts, standing_happens, standing_run, standing_at, StandsWith, EachUpStandsWith, StandingGoesAlong}
-use Rattle.x25_line.specs.laws.SessionClaims.{Throughout, octets_of, AllOf, IsSession, Stands, EachUpStands, NoSessionSendsFrmr, AllSessionsSendWhole}
-use Rattle.x25_line.specs.laws.LawsBelow.{SessionLaws}
-use Rattle.x25_line.proofs.{StationSteps.{Holds}, StationAway.{connects_from}, StationRuns.{joined_swapped, joint_swapped, start_machine}}
-use Rattle.x25_line.proofs.{StationClaimLemmas.{is_behind, holds_order, holds_lists, holds_window, holds_whole}, sessions.SessionLines.{octets_sent}}
-use Rattle.x25_line.proofs.{Losses.{removes, replaces}, Choices.{unless_by, if_by}}
-use Rattle.x25_line.proofs.{sessions.SessionHeld.{is_there, is_out, IsThere, OnLine, Held, counted_there, stays_on}, sessions.SessionSteps.{went_by}}
-use Rattle.x25_line.proofs.sessions.SessionChanges.{change_held}
+use Rattle.x25_line.proofs.Names.{◌≡◌, ℕ, List, [], ◌∷◌, ◌++◌, inl, inr, length, map, drop, remove, Bool, true, false, if◌then◌else◌, Option, Some, None, refl}
+use Rattle.x25_line.proofs.Names.{sym, ap, ◌∙◌, subst, arith, leb-true, nat_le, Role, PlainFrame, spelling_of, ReadsSpelled, LinkError, Phase, Down, Waiting}
+use Rattle.x25_line.proofs.Names.{Up, LinkSettings, is_up, with_nothing, fresh, LinkStep, other, take_step, put_step, put_refusal, timer_step, timer_refusal}
+use Rattle.x25_line.proofs.Names.{timer_runs, connect_step, connect_refusal, disconnect_step, disconnect_refusal, abandon_step, Stations, Act, Put, Deliver, T1}
+use Rattle.x25_line.proofs.Names.{Connect, Disconnect, Abandon, Probe, Lose, Damage, LinkEvent, Near, Far, is_visible, start, AreJoined, AreWhole, Entry}
+use Rattle.x25_line.proofs.Names.{Meeting, Sessions, swapped, begun_by, sent_in, after_step, unless, delivered, with_octets, acts, happens, run, start_with}
+use Rattle.x25_line.proofs.Names.{IsStart, IsTimely, IsTimelyAt, AreTimely, replaced, Standing, anew, place_to_hear, standing_after, Throughout, octets_of}
+use Rattle.x25_line.proofs.{Choices.{unless_by, if_by}, Losses.{removes, replaces}, Names.{AllOf, SessionLaws}, StationAway.{connects_from}}
+use Rattle.x25_line.proofs.StationClaimLemmas.{is_behind, holds_order, holds_lists, holds_window, holds_whole}
+use Rattle.x25_line.proofs.{StationRuns.{joined_swapped, joint_swapped, start_machine}, StationSteps.{Holds}}
 use Rattle.x25_line.proofs.sessions.SessionActs.{up_in_session, put_held, timer_up_held, abandon_held, connect_held, timer_waiting_held, disconnect_held}
-use Rattle.x25_line.proofs.{sessions.SessionTakes.{read_of, heard_by, take_held}, sessions.SessionSeenSteps.{put_accepted}}
-use Rattle.x25_line.proofs.{sessions.SessionSeenRuns.{Both, both_swapped, event_both, begin_both}, sessions.TwoSessions.{on_line}}
+use Rattle.x25_line.proofs.sessions.{SessionChanges.{change_held}, SessionHeld.{is_there, is_out, IsThere, OnLine, Held, counted_there, stays_on}}
+use Rattle.x25_line.proofs.sessions.{SessionLines.{octets_sent}, SessionSeenRuns.{Both, both_swapped, event_both, begin_both}, SessionSeenSteps.{put_accepted}}
+use Rattle.x25_line.proofs.sessions.{SessionSteps.{went_by}, SessionTakes.{read_of, heard_by, take_held}, TwoSessions.{on_line}}
+use Rattle.x25_line.specs.laws.SessionClaims.{IsSession, Stands, EachUpStands, NoSessionSendsFrmr, AllSessionsSendWhole}
+use Rattle.x25_line.specs.laws.SessionNumbers.{turned as other_way, is_set_up, front_sets_up, gone_at, same_two, standing_acts, standing_happens, standing_run}
+use Rattle.x25_line.specs.laws.SessionNumbers.{standing_at, StandsWith, EachUpStandsWith, StandingGoesAlong}
 use Rattle.x25_line.specs.laws.Stations as one
 
 -- with what stands once `w` is `v`, by the definition

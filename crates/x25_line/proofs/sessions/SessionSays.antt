@@ -1,11 +1,8 @@
 -- What a station sends in its session, an end that keeps the rules may send.
-use Rattle.std.proofs.Common.{◌≡◌, ℕ, ◌+◌, ◌≤◌, List, [], ◌∷◌, ◌++◌, length, refl, sym, ap, ◌∙◌, append_assoc, append-nil}
-use Rattle.x25_bits.specs.declared.role.Role.{Role}
-use Rattle.x25_frame.specs.{Frame.{PlainFrame}, Spelling.{spelling_of}}
-use Rattle.x25_link.specs.{Station.{LinkSettings}, declared.phase.Phase.TheVariants.{Up}, laws.WindowMachine.{Window, Runs}}
-use Rattle.x25_line.specs.{laws.Sessions.{Entry, Meeting, sent_in}, laws.Peer.{Peer}, laws.Ends.{put_for}}
-use Rattle.x25_line.proofs.{StationSays.{machine_of, Said, MaySay, said_run}, StationLines.{good_reads}, StationSends.{AllWithin}}
-use Rattle.x25_line.proofs.{sessions.SessionMay.{entry, Known, Kind}, ends.Puts.{put_same, put_alike}}
+use Rattle.x25_line.proofs.Names.{◌≡◌, ℕ, ◌+◌, ◌≤◌, List, [], ◌∷◌, ◌++◌, length, refl, sym, ap, ◌∙◌, append_assoc, append-nil, Role, PlainFrame, spelling_of}
+use Rattle.x25_line.proofs.{Names.{LinkSettings, Up, Window, Runs, Entry, Meeting, sent_in, Peer, put_for}, StationLines.{good_reads}}
+use Rattle.x25_line.proofs.{StationSays.{machine_of, Said, MaySay, said_run}, StationSends.{AllWithin}, ends.Puts.{put_same, put_alike}}
+use Rattle.x25_line.proofs.sessions.SessionMay.{entry, Known, Kind}
 
 pub sent_append : (b : ℕ) (from : Role) (fs es : List PlainFrame) → sent_in b from (fs ++ es) ≡ sent_in b from fs ++ sent_in b from es
 sent_append b from [] es = refl

@@ -1,16 +1,11 @@
 -- A station over sessions, and what is known of it as an end that keeps the rules, after each of its steps.
-use Rattle.std.proofs.Common.{◌≡◌, ◌≤◌, ◌<◌, ◌==◌, ℕ, suc, ◌+◌, List, [], ◌++◌, inl, inr, length, true, false, Option, None, refl, sym, ap, ◌∙◌, subst}
-use Rattle.std.proofs.{Common.{arith}, lemmas.Bool.{eq-eqb}}
-use Rattle.std.specs.Prelude.{option_to_list}
-use Rattle.x25_link.specs.{declared.phase.Phase.{Phase}, declared.phase.Phase.TheVariants.{Up}, Station.{LinkSettings, is_up, with_nothing, fresh}}
-use Rattle.x25_link.specs.Hearing.{LinkStep}
-use Rattle.x25_link.specs.{laws.WindowMachine.{Window, Input}, laws.WindowLaw.{window_of, after_input, Stays}}
-use Rattle.x25_line.specs.laws.Sessions.{Entry, SessionEnd, start_with, Meeting, Sessions, letters, sent_in, begun_by, extended, after_step}
-use Rattle.x25_line.specs.{laws.Peer.{Peer, fresh_peer}, laws.Ends.{put_for, AreOf}, laws.Said.{sabm_of, how_many}}
-use Rattle.x25_line.proofs.{ends.Lines.{are_none}, sessions.Letters.{are_sent}}
-use Rattle.x25_line.proofs.{StationSays.{machine_of}, StationHears.{UpFacts}, StationSends.{AllWithin}, StationSteps.{not_both}}
-use Rattle.x25_line.proofs.{StationAway.{is_up_phase}, sessions.SessionHeld.{extended_nil, extended_same, extended_other}, sessions.SessionSteps.{stepped}}
-use Rattle.x25_line.proofs.{sessions.SessionMay.{Known, Kind}, sessions.SessionSays.{runs_said}, ends.Puts.{same_or_other, put_same, put_apart}}
+use Rattle.x25_line.proofs.Names.{◌≡◌, ◌≤◌, ◌<◌, ◌==◌, ℕ, suc, ◌+◌, List, [], ◌++◌, inl, inr, length, true, false, Option, None, refl, sym, ap, ◌∙◌, subst}
+use Rattle.x25_line.proofs.Names.{arith, eq-eqb, option_to_list, Phase, Up, LinkSettings, is_up, with_nothing, fresh, LinkStep, Window, Input, window_of}
+use Rattle.x25_line.proofs.Names.{after_input, Stays, Entry, SessionEnd, start_with, Meeting, Sessions, letters, sent_in, begun_by, extended, after_step, Peer}
+use Rattle.x25_line.proofs.{Names.{fresh_peer, put_for, AreOf, sabm_of, how_many}, StationAway.{is_up_phase}, StationHears.{UpFacts}, StationSays.{machine_of}}
+use Rattle.x25_line.proofs.{StationSends.{AllWithin}, StationSteps.{not_both}, ends.Lines.{are_none}, ends.Puts.{same_or_other, put_same, put_apart}}
+use Rattle.x25_line.proofs.sessions.{Letters.{are_sent}, SessionHeld.{extended_nil, extended_same, extended_other}, SessionMay.{Known, Kind}}
+use Rattle.x25_line.proofs.sessions.{SessionSays.{runs_said}, SessionSteps.{stepped}}
 
 -- what was handed down or taken, by sessions, once more of it came in this one
 pub put_packets : (b : ℕ) (r : Peer) (all : ℕ → Peer) (lists : ℕ → List (List ℕ)) (more : List (List ℕ)) (f : Peer → List (List ℕ)) → f r ≡ f (all b) ++ more

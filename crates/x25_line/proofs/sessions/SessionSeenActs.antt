@@ -1,19 +1,14 @@
 -- Each act of a station over sessions is what an end that keeps the rules may do, by its phase and by what comes.
-use Rattle.std.proofs.Common.{◌≡◌, ℕ, List, [], ◌∷◌, ◌++◌, ◌⊎◌, inl, inr, Bool, true, false, if◌then◌else◌, Option, Some, None, Ok, Err, refl, sym, ap, ◌∙◌}
-use Rattle.std.proofs.Common.{subst, arith, append-nil, append_assoc}
-use Rattle.x25_frame.specs.{Frame.{PlainFrame, sabm, disc, ua, dm, frmr}, Spelling.{spelling_of}, laws.ReadingLaw.{ReadsSpelled}}
-use Rattle.x25_frame.specs.declared.error.FrameError.TheVariants.{Short}
-use Rattle.x25_link.specs.{declared.phase.Phase.{Phase}, declared.phase.Phase.TheVariants.{Down, Waiting, Up, Closed}, declared.phase.Reason.{Reason}}
-use Rattle.x25_link.specs.declared.phase.Reason.TheVariants.{Retries, Disc, Dm, FrmrSent, FrmrGot, Reset, Local, Counts}
-use Rattle.x25_link.specs.{Station.{LinkSettings, LinkStation, is_up, fresh}, Hearing.{LinkStep}, Link.{take_step}}
-use Rattle.x25_link.specs.laws.SetUp.{Is, TakesPart, reset_from, waiting_after, waiting_sends, waiting_up}
-use Rattle.x25_link.specs.laws.WindowLaw.{window_of, brought_by, after_input, ending_of, ends_in, Ends, Follows, AreDeclining, StaysOut}
-use Rattle.x25_line.specs.laws.Sessions.{Entry, Meeting, Sessions, letters, meets, sent_in, after_step}
-use Rattle.x25_line.specs.{laws.Peer.{Peer}, laws.Said.{said, sabm_of, disc_of, how_many}}
-use Rattle.x25_line.proofs.{StationLines.{AreParting, parts_of, part_reads}, StationHears.{UpFacts, Hears, stays_hears, by_disc, by_reset, by_local, left_by}}
-use Rattle.x25_line.proofs.{StationSends.{AllWithin}, StationSteps.{not_afresh}, StationAway.{is_up_phase, frmr_three, waits_on}, sessions.SessionLines.{Read}}
+use Rattle.x25_line.proofs.Names.{◌≡◌, ℕ, List, [], ◌∷◌, ◌++◌, ◌⊎◌, inl, inr, Bool, true, false, if◌then◌else◌, Option, Some, None, Ok, Err, refl, sym, ap, ◌∙◌}
+use Rattle.x25_line.proofs.Names.{subst, arith, append-nil, append_assoc, PlainFrame, sabm, disc, ua, dm, frmr, spelling_of, ReadsSpelled, Short, Phase, Down}
+use Rattle.x25_line.proofs.Names.{Waiting, Up, Closed, Reason, Retries, Disc, FrmrSent, Reset, Local, Counts, LinkSettings, LinkStation, is_up, fresh, LinkStep}
+use Rattle.x25_line.proofs.Names.{take_step, Is, TakesPart, waiting_after, waiting_sends, waiting_up, window_of, brought_by, after_input, ending_of, Follows}
+use Rattle.x25_line.proofs.Names.{AreDeclining, StaysOut, Entry, Meeting, Sessions, letters, meets, sent_in, after_step, Peer, said, sabm_of, disc_of, how_many}
+use Rattle.x25_line.proofs.{StationAway.{is_up_phase, frmr_three, waits_on}, StationHears.{UpFacts, Hears, stays_hears, by_disc, by_reset, by_local, left_by}}
+use Rattle.x25_line.proofs.{StationLines.{AreParting, parts_of, part_reads}, StationSends.{AllWithin}, StationSteps.{not_afresh}, sessions.SessionLines.{Read}}
 use Rattle.x25_line.proofs.sessions.SessionMay.{entry, sends_read, hears_read, heard_in, IsClear, Known, Kind}
 use Rattle.x25_line.proofs.sessions.SessionSeen.{Seen, build_quiet, build_up, stays_seen, changed}
+use Rattle.x25_link.specs.{declared.phase.Reason.TheVariants.{Dm, FrmrGot}, laws.SetUp.{reset_from}, laws.WindowLaw.{ends_in, Ends}}
 
 -- ---- why Up is left
 

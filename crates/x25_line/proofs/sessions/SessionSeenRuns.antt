@@ -1,25 +1,19 @@
 -- Each of two stations over sessions is a peer of the other, after each list of events.
-use Rattle.std.proofs.Common.{◌≡◌, ℕ, suc, List, [], ◌∷◌, ◌++◌, inl, inr, length, map, true, false, Ok, refl, sym, ap, ◌∙◌, subst, arith}
-use Rattle.std.specs.Prelude.{nat_le}
-use Rattle.x25_frame.specs.{Frame.{PlainFrame, sabm, disc, ua, dm, frmr}, Reading.{frame_of}, laws.ReadingLaw.{ReadsSpelled}}
-use Rattle.x25_link.specs.{declared.phase.Phase.{Phase}, declared.phase.Phase.TheVariants.{Down, Waiting, Up, Closed}, Hearing.{other}}
-use Rattle.x25_link.specs.{Station.{LinkSettings, LinkStation}, Link.{put_refusal, alone, hears as takes}}
-use Rattle.x25_line.specs.{laws.Stations.{Act, Put, Deliver, T1, Connect, Lose, Damage, LinkEvent, Near, Far, is_visible}, laws.StationClaims.{AreJoined}}
-use Rattle.x25_line.specs.laws.Said.{said, sabm_of, how_many}
-use Rattle.x25_line.specs.laws.Sessions.{Entry, SessionEnd, Meeting, Sessions, turned, swapped, letters, begun_by, after_step}
-use Rattle.x25_line.specs.laws.Sessions.{delivered, acts, happens, run, IsStart, from_nothing, from_set_up, IsTimely, IsTimelyAt, AreTimely}
-use Rattle.x25_line.specs.{laws.SessionClaims.{Throughout}, laws.LawsBelow.{SessionLaws}, laws.Peer.{Peer, fresh_peer}}
-use Rattle.x25_line.specs.laws.PeerSessions.{PeerEnd, PeerSessions, both_ends, with_peer, stand_of, IsSeenIn}
-use Rattle.x25_line.specs.laws.PeerSessions.{Puts, nothing, HandsDown, Theirs, ReachedInSessions, goes_on}
-use Rattle.x25_line.specs.laws.Ends.{Letter, letter, AreOf, Ends, Does, listens, moves, free, asks, closes, leaves, hears, takes_ua, takes_sabm, waits_on}
-use Rattle.x25_line.specs.{laws.Ends.{takes_disc, loses}, laws.SessionPeers.{IsPeer, AreBothPeers}}
-use Rattle.x25_line.proofs.{Choices.{unless_both, if_both, own_both}, StationRuns.{joined_swapped, there, here}, sessions.SessionLines.{Read}}
-use Rattle.x25_line.proofs.{sessions.SessionHeld.{OwesOn}, ends.Lines.{are_less}, sessions.Acts.{Stays, Anything, acts_still}}
-use Rattle.x25_line.proofs.{sessions.SessionMay.{sends_read, hears_read, entry, heard_in, MayAsk, MayDo, Kind}, ends.Meetings.{twice_turned}}
-use Rattle.x25_line.proofs.{sessions.SessionSeen.{Seen, start_seen}, sessions.PeerSessionRuns.{owes_is}, sessions.SessionWith.{tells_does}}
-use Rattle.x25_line.proofs.sessions.Letters.{heard_said, letters_push, letters_less, puts_frame}
-use Rattle.x25_line.specs.laws.Loss.{gone, Less}
-use Rattle.x25_line.proofs.Losses.{untouched}
+use Rattle.x25_line.proofs.Names.{◌≡◌, ℕ, suc, List, [], ◌∷◌, ◌++◌, inl, inr, length, map, true, false, Ok, refl, sym, ap, ◌∙◌, subst, arith, nat_le}
+use Rattle.x25_line.proofs.Names.{PlainFrame, sabm, disc, ua, dm, frmr, frame_of, ReadsSpelled, Phase, Down, Waiting, Up, Closed, other, LinkSettings}
+use Rattle.x25_line.proofs.Names.{LinkStation, put_refusal, alone, Act, Put, Deliver, T1, Connect, Lose, Damage, LinkEvent, Near, Far, is_visible, AreJoined}
+use Rattle.x25_line.proofs.Names.{said, sabm_of, how_many, Entry, SessionEnd, Meeting, Sessions, turned, swapped, letters, begun_by, after_step, delivered}
+use Rattle.x25_line.proofs.Names.{acts, happens, run, IsStart, from_nothing, from_set_up, IsTimely, IsTimelyAt, AreTimely, Throughout, SessionLaws, Peer}
+use Rattle.x25_line.proofs.Names.{fresh_peer, PeerEnd, PeerSessions, both_ends, with_peer, stand_of, IsSeenIn, Puts, ReachedInSessions, Letter, letter, AreOf}
+use Rattle.x25_line.proofs.Names.{Ends, Does, listens, moves, free, asks, closes, leaves, takes_ua, takes_sabm, waits_on, takes_disc, loses, gone, Less}
+use Rattle.x25_line.proofs.{Choices.{unless_both, if_both, own_both}, Losses.{untouched}}
+use Rattle.x25_line.proofs.{StationRuns.{joined_swapped, there, here}, ends.Lines.{are_less}, ends.Meetings.{twice_turned}}
+use Rattle.x25_line.proofs.sessions.{Acts.{Stays, Anything, acts_still}, Letters.{heard_said, letters_push, letters_less, puts_frame}}
+use Rattle.x25_line.proofs.sessions.{PeerSessionRuns.{owes_is}, SessionHeld.{OwesOn}, SessionLines.{Read}}
+use Rattle.x25_line.proofs.sessions.{SessionMay.{sends_read, hears_read, entry, heard_in, MayAsk, MayDo, Kind}, SessionSeen.{Seen, start_seen}}
+use Rattle.x25_line.{proofs.sessions.SessionWith.{tells_does}, specs.laws.Ends.{hears}, specs.laws.PeerSessions.{nothing, HandsDown, Theirs, goes_on}}
+use Rattle.x25_line.specs.laws.SessionPeers.{IsPeer, AreBothPeers}
+use Rattle.x25_link.specs.Link.{hears as takes}
 use Rattle.x25_line.specs.laws.PeerSessions as sessions
 use Rattle.x25_line.specs.laws.Ends as ends
 use Rattle.x25_line.proofs.sessions.SessionSeenSteps as own

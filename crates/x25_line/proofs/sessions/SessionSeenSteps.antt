@@ -1,23 +1,16 @@
 -- Each event at a station over sessions is what an end that keeps the rules may do.
-use Rattle.std.proofs.Common.{◌≡◌, ◌≤◌, ℕ, suc, List, [], ◌∷◌, ◌++◌, ◌⊎◌, inl, inr, length, Bool, true, false, not, if◌then◌else◌, Option, Some, None, Ok}
-use Rattle.std.proofs.{Common.{refl, sym, ap, ◌∙◌, subst, arith, append-nil}, lemmas.Bool.{leb-true}}
-use Rattle.std.specs.Prelude.{nat_le, nat_lt, option_to_list}
-use Rattle.x25_frame.specs.Frame.{PlainFrame, sabm, disc, ua}
-use Rattle.x25_link.specs.{declared.error.LinkError.{LinkError}, declared.phase.Phase.{Phase}, declared.phase.Phase.TheVariants.{Down, Waiting, Up, Closed}}
-use Rattle.x25_link.specs.{declared.phase.Reason.TheVariants.{Retries}, Station.{LinkSettings, LinkStation, is_up, with_nothing}, Hearing.{LinkStep, other}}
-use Rattle.x25_link.specs.Link.{put_step, put_refusal, timer_step, timer_refusal, timer_runs, connect_step, connect_refusal, disconnect_step}
-use Rattle.x25_link.specs.{Link.{disconnect_refusal, abandon_step}, laws.SetUp.{Is, TakesPart, waiting_up}, laws.WindowMachine.{hands_down, nothing}}
-use Rattle.x25_link.specs.laws.WindowLaw.{window_of, Follows, IsOut}
-use Rattle.x25_window.specs.{laws.Window.{after}, laws.Window.EndStep.{HandDown}}
-use Rattle.x25_line.specs.laws.Stations.{Act, Put, Deliver, T1, Connect, Disconnect, Abandon, Probe, Lose, Damage, is_visible}
-use Rattle.x25_line.specs.{laws.Sessions.{Entry, Sessions, letters, sent_in, after_step, unless, delivered, with_octets, acts}, laws.Peer.{Peer}}
-use Rattle.x25_line.specs.laws.Said.{said, sabm_of, ua_of, how_many}
-use Rattle.x25_line.proofs.{StationHears.{sabm_or_not, sets_none_up}, StationSends.{within_push}, StationSteps.{no_packet_of, not_afresh}}
-use Rattle.x25_line.proofs.{StationAway.{connects_from, closed_takes}, sessions.SessionLines.{Read}, sessions.SessionHeld.{OwesOn}}
-use Rattle.x25_line.proofs.sessions.SessionMay.{hears_read, IsClear, Known, Kind}
-use Rattle.x25_line.proofs.sessions.SessionSeen.{Seen, build_quiet, stays_seen, reached_in, unchanged, changed}
+use Rattle.x25_line.proofs.Names.{◌≡◌, ◌≤◌, ℕ, suc, List, [], ◌∷◌, ◌++◌, ◌⊎◌, inl, inr, length, Bool, true, false, not, if◌then◌else◌, Option, Some, None, Ok}
+use Rattle.x25_line.proofs.Names.{refl, sym, ap, ◌∙◌, subst, arith, append-nil, leb-true, nat_le, nat_lt, option_to_list, PlainFrame, sabm, disc, ua, LinkError}
+use Rattle.x25_line.proofs.Names.{Phase, Down, Waiting, Up, Closed, Retries, LinkSettings, LinkStation, is_up, with_nothing, LinkStep, other, put_step}
+use Rattle.x25_line.proofs.Names.{put_refusal, timer_step, timer_refusal, timer_runs, connect_step, connect_refusal, disconnect_step, disconnect_refusal}
+use Rattle.x25_line.proofs.Names.{abandon_step, Is, TakesPart, waiting_up, window_of, Follows, IsOut, after, HandDown, Act, Put, Deliver, T1, Connect}
+use Rattle.x25_line.proofs.Names.{Disconnect, Abandon, Probe, Lose, Damage, is_visible, Entry, Sessions, letters, sent_in, after_step, unless, delivered}
+use Rattle.x25_line.proofs.{Choices.{unless_by, if_by}, Losses.{removes, replaces}, Names.{with_octets, acts, Peer, said, sabm_of, ua_of, how_many}}
+use Rattle.x25_line.proofs.{StationAway.{connects_from, closed_takes}, StationHears.{sabm_or_not, sets_none_up}, StationSends.{within_push}}
+use Rattle.x25_line.proofs.{StationSteps.{no_packet_of, not_afresh}, sessions.SessionHeld.{OwesOn}, sessions.SessionLines.{Read}}
+use Rattle.x25_line.proofs.sessions.{SessionMay.{hears_read, IsClear, Known, Kind}, SessionSeen.{Seen, build_quiet, stays_seen, reached_in, unchanged, changed}}
 use Rattle.x25_line.proofs.sessions.SessionSeenActs.{put_none, put_asks, put_closes, sets_up_seen, up_seen, out_seen, answer_seen, waiting_seen}
-use Rattle.x25_line.proofs.{Choices.{unless_by, if_by}, Losses.{removes, replaces}}
+use Rattle.x25_link.specs.laws.WindowMachine.{hands_down, nothing}
 use Rattle.x25_link.specs.declared.error.LinkError.TheVariants as error
 
 -- the UA that is awaited, or none such

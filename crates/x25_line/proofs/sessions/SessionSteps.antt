@@ -1,19 +1,15 @@
 -- Steps of the near end keep what holds of two stations over sessions: of an end that is in the session, of one that is out of it,
 -- and where sessions begin.
-use Rattle.std.proofs.Common.{◌≡◌, ◌≤◌, ℕ, List, [], ◌∷◌, ◌++◌, ◌⊎◌, inl, inr, map, false, Option, None, refl, sym, ap, ◌∙◌, subst, arith, append-nil}
-use Rattle.std.proofs.lemmas.List.Elements.{Contains-append_cases}
-use Rattle.std.specs.{Prelude.{option_to_list}, List.{Contains}}
-use Rattle.x25_frame.specs.{Frame.{PlainFrame, frmr}, Spelling.{spelling_of}, laws.ReadingLaw.{ReadsSpelled}}
-use Rattle.x25_link.specs.{declared.phase.Phase.{Phase}, declared.phase.Phase.TheVariants.{Waiting, Closed}, Station.{LinkSettings, awaits_ua}}
-use Rattle.x25_link.specs.Hearing.{LinkStep, other}
-use Rattle.x25_line.specs.{laws.Stations.{Stations}, laws.StationClaims.{AreJoined, NoFrmr, AreWhole, numbered_on}, laws.Said.{Said, ua_of, how_many}}
-use Rattle.x25_line.specs.{laws.Sessions.{Entry, SessionEnd, Meeting, Sessions, letters, sent_in, extended}, laws.WholeNumbers.{machine_after}}
-use Rattle.x25_line.specs.{laws.SessionNumbers.{Standing, standing_after}, laws.SessionClaims.{AllOf}}
+use Rattle.x25_line.proofs.Names.{◌≡◌, ◌≤◌, ℕ, List, [], ◌∷◌, ◌++◌, ◌⊎◌, inl, inr, map, false, Option, None, refl, sym, ap, ◌∙◌, subst, arith, append-nil}
+use Rattle.x25_line.proofs.Names.{Contains-append_cases, option_to_list, Contains, PlainFrame, frmr, spelling_of, ReadsSpelled, Phase, Waiting, Closed}
+use Rattle.x25_line.proofs.Names.{LinkSettings, LinkStep, other, Stations, AreJoined, NoFrmr, AreWhole, numbered_on, Said, ua_of, how_many, Entry, SessionEnd}
+use Rattle.x25_line.proofs.Names.{Meeting, Sessions, letters, sent_in, extended, Standing, standing_after, AllOf}
 use Rattle.x25_line.proofs.StationLines.{AreParting, parts_of, no_frmr_append, parting_no_frmr, parting_numbered, parting_whole}
 use Rattle.x25_line.proofs.StationSteps.{StepLeads, FitsEnd, not_both}
-use Rattle.x25_line.proofs.sessions.SessionLines.{octets_sent, count, numbers, quiet_of, of_sent, many_sent}
-use Rattle.x25_line.proofs.sessions.SessionHeld.{IsThere, Owes, HasLists, SameLists, lists_same, Held, stays_on, extended_nil}
-use Rattle.x25_line.proofs.sessions.SessionHeld.{extended_same, extended_more, whole_on, whole_apart, is_there, is_out, there_more, counted_there}
+use Rattle.x25_line.proofs.sessions.SessionHeld.{IsThere, Owes, HasLists, SameLists, lists_same, Held, stays_on, extended_nil, extended_same, extended_more}
+use Rattle.x25_line.proofs.sessions.SessionHeld.{whole_on, whole_apart, is_there, is_out, there_more, counted_there}
+use Rattle.x25_line.{proofs.sessions.SessionLines.{octets_sent, count, numbers, quiet_of, of_sent, many_sent}, specs.laws.WholeNumbers.{machine_after}}
+use Rattle.x25_link.specs.Station.{awaits_ua}
 use Rattle.x25_line.specs.laws.Stations as one
 
 -- ---- the end, and both, after a step, in which its session is n

@@ -1,20 +1,16 @@
 -- What comes to the near end keeps what holds of two stations over sessions.
-use Rattle.std.proofs.Common.{◌≡◌, ◌≤◌, ℕ, suc, ◌+◌, List, [], ◌∷◌, ◌⊎◌, inl, inr, Bool, true, false, if◌then◌else◌, Option, None, Ok, refl, sym, ap, ◌∙◌}
-use Rattle.std.proofs.Common.{subst, arith}
-use Rattle.x25_frame.specs.{Frame.{PlainFrame, sabm, disc, ua, dm}, Reading.{frame_of}, laws.ReadingLaw.{ReadsSpelled}}
-use Rattle.x25_link.specs.{declared.phase.Phase.{Phase}, declared.phase.Phase.TheVariants.{Down, Waiting, Up, Closed}}
-use Rattle.x25_link.specs.{laws.SetUp.{Is, TakesPart, waiting_sends, waiting_up}, Station.{LinkSettings, LinkStation, is_up, fresh}, Hearing.{LinkStep, other}}
-use Rattle.x25_link.specs.{Link.{take_step}, laws.WindowMachine.{ShowAll}, laws.WindowLaw.{window_of, brought_by, ending_of, IsOut, AreDeclining, StaysOut}}
-use Rattle.x25_line.specs.{laws.StationClaims.{AreJoined, number_in, numbered_on}, laws.WholeNumbers.{first_of}, laws.SessionClaims.{octets_of}}
-use Rattle.x25_line.specs.{laws.SessionNumbers.{Standing, is_sabm, is_set_up, anew, place_to_hear}, laws.Said.{Said, said, sabm_of, ua_of, disc_of, how_many}}
-use Rattle.x25_line.specs.{laws.Sessions.{Entry, Meeting, Sessions, letters, begun_by, after_step, meets}, laws.LawsBelow.{Laws}}
+use Rattle.x25_line.proofs.Names.{◌≡◌, ◌≤◌, ℕ, suc, ◌+◌, List, [], ◌∷◌, ◌⊎◌, inl, inr, Bool, true, false, if◌then◌else◌, Option, None, Ok, refl, sym, ap, ◌∙◌}
+use Rattle.x25_line.proofs.Names.{subst, arith, PlainFrame, sabm, disc, ua, dm, frame_of, ReadsSpelled, Phase, Down, Waiting, Up, Closed, Is, TakesPart}
+use Rattle.x25_line.proofs.Names.{waiting_sends, waiting_up, LinkSettings, LinkStation, is_up, fresh, LinkStep, other, take_step, ShowAll, window_of}
+use Rattle.x25_line.proofs.Names.{brought_by, ending_of, IsOut, AreDeclining, StaysOut, AreJoined, number_in, numbered_on, first_of, octets_of, Standing, anew}
+use Rattle.x25_line.proofs.Names.{place_to_hear, Said, said, sabm_of, ua_of, disc_of, how_many, Entry, Meeting, Sessions, letters, begun_by, after_step, meets}
+use Rattle.x25_line.proofs.{Names.{Laws}, StationAway.{closed_takes, waits_on, waiting_parting}, StationHears.{left_by, sabm_or_not, sets_none_up}}
 use Rattle.x25_line.proofs.{StationLines.{consed, AreParting}, StationSteps.{StepLeads, read_joint, declining_parting, out_not_up}}
-use Rattle.x25_line.proofs.StationAway.{closed_takes, waits_on, waiting_parting}
-use Rattle.x25_line.proofs.sessions.SessionLines.{Read, count, numbers, quiet_of, carried, carried_numbers, carried_orderly, by_first, behind_ua, behind_quiet}
+use Rattle.x25_line.proofs.sessions.{SessionActs.{InSession, quiet_held, up_in_session, waiting_owes}, SessionBegins.{begins_held}}
 use Rattle.x25_line.proofs.sessions.SessionHeld.{IsOf, EndIsThere, Owes, OnLine, Held, is_soon, is_there, is_out, there_passes}
-use Rattle.x25_line.proofs.{sessions.SessionSteps.{stepped, went_by, Answers, apart_held}, sessions.SessionBegins.{begins_held}}
-use Rattle.x25_line.proofs.{sessions.SessionUp.{follows_answers, live_goes_on}, StationHears.{left_by, sabm_or_not, sets_none_up}}
-use Rattle.x25_line.proofs.{sessions.SessionSeenSteps.{is_answer}, sessions.SessionActs.{InSession, quiet_held, up_in_session, waiting_owes}}
+use Rattle.x25_line.proofs.sessions.SessionLines.{Read, count, numbers, quiet_of, carried, carried_numbers, carried_orderly, by_first, behind_ua, behind_quiet}
+use Rattle.x25_line.proofs.sessions.{SessionSeenSteps.{is_answer}, SessionSteps.{stepped, went_by, Answers, apart_held}}
+use Rattle.x25_line.{proofs.sessions.SessionUp.{follows_answers, live_goes_on}, specs.laws.SessionNumbers.{is_sabm, is_set_up}}
 
 -- ---- what comes
 

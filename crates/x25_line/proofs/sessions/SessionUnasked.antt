@@ -1,22 +1,17 @@
 -- Where none asks for set-up, no session begins, until a Connect is accepted; so the link isn't set up anew.
-use Rattle.std.proofs.Common.{◌≡◌, ◌≤◌, ℕ, ◌+◌, List, [], ◌∷◌, ◌++◌, length, suc, inr, Bool, true, false, Ok, refl, sym, ap, ◌∙◌, subst, arith}
-use Rattle.std.specs.Prelude.{nat_lt, ◌||◌}
-use Rattle.std.proofs.lemmas.Bool.{lt-ltb, ltb-false}
-use Rattle.x25_frame.specs.{Frame.{disc, ua, dm, frmr}, laws.ReadingLaw.{ReadsSpelled}}
-use Rattle.x25_link.specs.{declared.phase.Phase.{Phase}, declared.phase.Phase.TheVariants.{Down, Waiting, Up, Closed}, Station.{LinkSettings, is_up, fresh}}
-use Rattle.x25_link.specs.{Hearing.{other}, Link.{connect_refusal, timer_runs}}
-use Rattle.x25_line.specs.{laws.Stations.{StationEnd, Stations, Act, T1, Connect, LinkEvent, Near, Far, stations_swapped, start}, laws.Line.{line_swapped}}
-use Rattle.x25_line.specs.laws.StationClaims.{AreJoined, AcceptsNoConnect, AcceptsNoConnectAt, NoneConnects, OneLinkUnlessConnected}
-use Rattle.x25_line.specs.laws.Sessions.{Entry, SessionEnd, Sessions, letters, begun_by, acts, swapped, happens, from_set_up}
-use Rattle.x25_line.specs.{laws.WholeNumbers.{machine_at_start}, laws.SessionClaims.{Throughout}, laws.SessionEvents.{IsUnasked, BeginNone, NoneBeginUnasked}}
-use Rattle.x25_line.specs.{laws.LawsBelow.{SessionLaws}, laws.Loss.{LessAt}, laws.PeerSessions.{IsSeenIn}, laws.Said.{said, sabm_of, how_many}}
-use Rattle.x25_line.proofs.{StationSteps.{Holds, not_both}, StationAway.{is_up_phase}, sessions.SessionHeld.{Owes}}
-use Rattle.x25_line.proofs.{sessions.SessionLines.{Read, number_kinds, many_append}, sessions.Letters.{letters_less}, ends.Lines.{count_less}}
-use Rattle.x25_line.proofs.{sessions.SessionMay.{sends_read, entry, Known, MayDo, Kind}, sessions.Acts.{acts_still}, sessions.SessionSeen.{Seen}}
-use Rattle.x25_line.proofs.sessions.SessionSeenSteps.{IsTimely, station_acts}
-use Rattle.x25_line.proofs.sessions.SessionSeenRuns.{other_owes, Both, both_swapped, event_both, begin_both}
-use Rattle.x25_line.proofs.{StationRuns.{act_joint, few_acts, joint_swapped, start_machine}, StationEvents.{or_false, each_hands_one}}
-use Rattle.x25_line.proofs.{sessions.SessionsForgotten.{Lasts, Alike, happens_alike, turned_alike}, sessions.TwoSessions.{throughout_of}}
+use Rattle.x25_line.proofs.Names.{◌≡◌, ◌≤◌, ℕ, ◌+◌, List, [], ◌∷◌, ◌++◌, length, suc, inr, Bool, true, false, Ok, refl, sym, ap, ◌∙◌, subst, arith, nat_lt}
+use Rattle.x25_line.proofs.Names.{◌||◌, ltb-false, disc, ua, dm, frmr, ReadsSpelled, Phase, Down, Waiting, Up, Closed, LinkSettings, is_up, fresh, other}
+use Rattle.x25_line.proofs.Names.{connect_refusal, timer_runs, StationEnd, Stations, Act, T1, Connect, LinkEvent, Near, Far, stations_swapped, start}
+use Rattle.x25_line.proofs.Names.{line_swapped, AreJoined, Entry, SessionEnd, Sessions, letters, begun_by, acts, swapped, happens, from_set_up}
+use Rattle.std.proofs.lemmas.Bool.{lt-ltb}
+use Rattle.x25_line.proofs.{Names.{machine_at_start, Throughout, SessionLaws, LessAt, IsSeenIn, said, sabm_of, how_many}, StationAway.{is_up_phase}}
+use Rattle.x25_line.proofs.{StationEvents.{or_false, each_hands_one}, StationRuns.{act_joint, few_acts, joint_swapped, start_machine}}
+use Rattle.x25_line.proofs.{StationSteps.{Holds, not_both}, ends.Lines.{count_less}, sessions.Acts.{acts_still}, sessions.Letters.{letters_less}}
+use Rattle.x25_line.proofs.sessions.{SessionHeld.{Owes}, SessionLines.{Read, number_kinds, many_append}, SessionMay.{sends_read, entry, Known, MayDo, Kind}}
+use Rattle.x25_line.proofs.sessions.{SessionSeen.{Seen}, SessionSeenRuns.{other_owes, Both, both_swapped, event_both, begin_both}}
+use Rattle.x25_line.proofs.sessions.{SessionSeenSteps.{IsTimely, station_acts}, SessionsForgotten.{Lasts, Alike, happens_alike, turned_alike}}
+use Rattle.x25_line.{proofs.sessions.TwoSessions.{throughout_of}, specs.laws.SessionEvents.{IsUnasked, BeginNone, NoneBeginUnasked}}
+use Rattle.x25_line.specs.laws.StationClaims.{AcceptsNoConnect, AcceptsNoConnectAt, NoneConnects, OneLinkUnlessConnected}
 use Rattle.x25_line.specs.laws.Stations as one
 use Rattle.x25_line.specs.laws.Sessions as session
 

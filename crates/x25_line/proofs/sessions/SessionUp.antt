@@ -1,16 +1,11 @@
 -- What an end does that is Up, over sessions, and what it sends.
-use Rattle.std.proofs.Common.{◌≡◌, ℕ, List, [], ◌∷◌, inl, inr, Option, Some, None, Ok, refl, sym, ap, arith}
-use Rattle.x25_frame.specs.{Frame.{PlainFrame, info, rr, rnr, rej}, laws.ReadingLaw.{ReadsSpelled}}
-use Rattle.x25_window.specs.laws.Window.{Frame, frames_of}
-use Rattle.x25_link.specs.{declared.phase.Phase.TheVariants.{Closed}, declared.phase.Reason.{Reason}, declared.phase.Reason.TheVariants.{Disc, FrmrSent, Reset}}
-use Rattle.x25_link.specs.{Station.{LinkSettings, LinkStation, awaits_ua}, Hearing.{LinkStep, other}}
-use Rattle.x25_link.specs.laws.WindowMachine.{Window, Input, Runs, rests, goes_on, Shows, ShowAll}
-use Rattle.x25_link.specs.laws.WindowLaw.{brought_by, MayHandUp, InputMayHandUp, Stays, Follows}
-use Rattle.x25_line.specs.{laws.StationClaims.{AreJoined, number_in, numbered_on}, laws.SessionClaims.{AllOf}}
-use Rattle.x25_line.specs.{laws.Sessions.{Entry, Meeting, Sessions, begun_by, after_step}, laws.Said.{ua_of}, laws.SessionNumbers.{Standing}}
-use Rattle.x25_line.proofs.{StationHears.{by_disc, by_reset}, StationSteps.{StepLeads}, StationAway.{is_up_phase, second_false}}
-use Rattle.x25_line.proofs.{sessions.SessionLines.{Read, none_is_some, count, AllNumbered, numbered_no_ua, numbers}, sessions.SessionHeld.{Held}}
-use Rattle.x25_line.proofs.{Lists.{each_append}, sessions.SessionSteps.{went_by, Answers, live_held}}
+use Rattle.x25_line.proofs.Names.{◌≡◌, ℕ, List, [], ◌∷◌, inl, inr, Option, Some, None, Ok, refl, sym, ap, arith, PlainFrame, info, rr, rnr, rej, ReadsSpelled}
+use Rattle.x25_line.proofs.Names.{Frame, frames_of, Closed, Reason, Disc, FrmrSent, Reset, LinkSettings, LinkStation, LinkStep, other, Window, Input, Runs}
+use Rattle.x25_line.proofs.Names.{rests, Shows, ShowAll, brought_by, MayHandUp, Stays, Follows, AreJoined, number_in, numbered_on, AllOf, Entry, Meeting}
+use Rattle.x25_line.proofs.{Lists.{each_append}, Names.{Sessions, begun_by, after_step, ua_of, Standing}, StationAway.{is_up_phase, second_false}}
+use Rattle.x25_line.proofs.{StationHears.{by_disc, by_reset}, StationSteps.{StepLeads}, sessions.SessionHeld.{Held}}
+use Rattle.x25_line.proofs.sessions.{SessionLines.{Read, none_is_some, count, AllNumbered, numbered_no_ua, numbers}, SessionSteps.{went_by, Answers, live_held}}
+use Rattle.x25_link.specs.{Station.{awaits_ua}, laws.WindowLaw.{InputMayHandUp}, laws.WindowMachine.{goes_on}}
 
 -- ---- a run that only sends, sends frames that carry a number
 

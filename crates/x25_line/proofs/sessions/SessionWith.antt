@@ -1,22 +1,14 @@
 -- A station over sessions and a peer are two ends that keep the rules, whatever the station does.
-use Rattle.std.proofs.Common.{◌≡◌, ℕ, suc, List, [], ◌∷◌, ◌++◌, true, Some, None, Ok, refl, ap, arith}
-use Rattle.x25_bits.specs.declared.role.Role.{Role}
-use Rattle.x25_frame.specs.{Frame.{PlainFrame, info, rr, rnr, rej, sabm, disc, ua, dm, frmr}, Reading.{frame_of}}
-use Rattle.x25_link.specs.{declared.phase.Phase.{Phase}, declared.phase.Phase.TheVariants.{Down, Waiting, Up}, Station.{LinkSettings}, Hearing.{other}}
-use Rattle.x25_link.specs.laws.SetUp.{TakesPart}
-use Rattle.x25_line.specs.{laws.PeerSessions.{PeerEnd, stand_of}, laws.PeerSessionClaims.{ReadsNoFrmr}}
-use Rattle.x25_line.specs.laws.Ends.{Stand, In, Asking, Letter, letter, AreOf, free, asks, closes, leaves, hears, takes_ua, takes_sabm, waits_on}
-use Rattle.x25_line.specs.laws.Ends.{takes_disc, loses, Ends, near_now, with_near, Does, sends, listens, moves, EndsReached, near_handed, near_does}
-use Rattle.x25_line.proofs.{Order.{by_frmr, no_fault}, StationSays.{machine_of}, sessions.SessionLines.{Read, none_is_some, number_kinds}}
-use Rattle.x25_line.proofs.sessions.SessionHeld.{OwesOn, owes_less}
-use Rattle.x25_line.specs.{laws.Loss.{LessAt, gone}, laws.Ends.{IsSpoilt}, laws.PeerSessions.{IsSeenIn}}
-use Rattle.x25_line.proofs.{Losses.{each_less}, Lists.{each_append}, StationLines.{visible_is}}
-use Rattle.x25_line.proofs.sessions.Letters.{visible_fine, heard_said, letters_push, letters_less}
-use Rattle.x25_line.proofs.sessions.SessionMay.{sends_read, hears_read, entry, heard_in, MayAsk, MayDo}
-use Rattle.x25_line.proofs.ends.Lines.{count_push, count_less, are_less}
-use Rattle.x25_line.proofs.ends.Sessions.{reached_all, ua_present, valid}
-use Rattle.x25_line.specs.{laws.Sessions.{Entry, Meeting, letters}, laws.Peer.{Peer, MaySay}}
-use Rattle.x25_line.specs.{laws.StationClaims.{Each, number_in}, laws.Said.{Sabm, Ua, Else, Odd as OddSaid, said, sabm_of, ua_of, disc_of}}
+use Rattle.x25_line.proofs.Names.{◌≡◌, ℕ, suc, List, [], ◌∷◌, ◌++◌, true, Some, None, Ok, refl, ap, arith, Role, PlainFrame, info, rr, rnr, rej, sabm, disc, ua}
+use Rattle.x25_line.proofs.Names.{dm, frmr, frame_of, Phase, Down, Waiting, Up, LinkSettings, other, TakesPart, PeerEnd, stand_of, Stand, In, Asking, Letter}
+use Rattle.x25_line.proofs.Names.{letter, AreOf, free, asks, closes, leaves, takes_ua, takes_sabm, waits_on, takes_disc, loses, Ends, Does, listens, moves}
+use Rattle.x25_line.proofs.Names.{EndsReached, LessAt, gone, IsSpoilt, IsSeenIn, Entry, Meeting, letters, Peer, MaySay, number_in, Sabm, Ua, Else, said}
+use Rattle.x25_line.proofs.{Lists.{each_append}, Losses.{each_less}, Names.{sabm_of, ua_of, disc_of}, Order.{by_frmr, no_fault}, StationLines.{visible_is}}
+use Rattle.x25_line.proofs.{StationSays.{machine_of}, ends.Lines.{count_push, count_less, are_less}, ends.Sessions.{reached_all, ua_present, valid}}
+use Rattle.x25_line.proofs.sessions.{Letters.{visible_fine, heard_said, letters_push, letters_less}, SessionHeld.{OwesOn, owes_less}}
+use Rattle.x25_line.proofs.sessions.{SessionLines.{Read, none_is_some, number_kinds}, SessionMay.{sends_read, hears_read, entry, heard_in, MayAsk, MayDo}}
+use Rattle.x25_line.specs.laws.{Ends.{hears, near_now, with_near, sends, near_handed, near_does}, PeerSessionClaims.{ReadsNoFrmr}, Said.{Odd as OddSaid}}
+use Rattle.x25_line.specs.laws.StationClaims.{Each}
 
 number_frmr : (r : Read) (f : PlainFrame) → number_in r ≡ Some f → ReadsNoFrmr r
 number_frmr (Ok (frmr g why)) f is = none_is_some f is

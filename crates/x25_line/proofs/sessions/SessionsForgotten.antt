@@ -1,15 +1,11 @@
 -- With the sessions forgotten, two stations over sessions are the two stations by themselves.
-use Rattle.std.proofs.Common.{◌≡◌, ◌≤◌, ◌<◌, ℕ, zero, suc, List, [], ◌∷◌, ◌++◌, length, map, remove, Bool, true, false, refl, sym, ap, ◌∙◌, subst, arith}
-use Rattle.std.proofs.Common.{append-nil, append_assoc}
-use Rattle.std.specs.Prelude.{nat_le, option_to_list, ◌||◌}
-use Rattle.x25_frame.specs.Spelling.{spelling_of}
-use Rattle.x25_link.specs.{Station.{LinkSettings, LinkStation}, Hearing.{LinkStep}, Link.{take_step, put_step, put_refusal}}
-use Rattle.x25_line.specs.laws.Stations.{StationEnd, Stations, Act, Put, Deliver, Lose, Damage, LinkEvent, Near, Far, is_visible, start}
-use Rattle.x25_line.specs.laws.Sessions.{Entry, SessionEnd, Meeting, Sessions, extended, begun_by, after_step, unless, delivered, with_octets, acts, swapped}
-use Rattle.x25_line.specs.{laws.Sessions.{happens, from_set_up, run}, laws.Loss.{replaced}}
-use Rattle.x25_line.specs.laws.SessionClaims.{octets_of, all_of, IsEndOf, SessionsAreStations, SetUpIsTheStart}
-use Rattle.x25_line.proofs.{Choices.{unless_both, if_both, own_both}, sessions.SessionSteps.{end_after}, sessions.SessionLines.{octets_append, octets_sent}}
-use Rattle.x25_line.proofs.sessions.SessionHeld.{extended_same, extended_other}
+use Rattle.x25_line.proofs.Names.{◌≡◌, ◌≤◌, ◌<◌, ℕ, zero, suc, List, [], ◌∷◌, ◌++◌, length, map, remove, Bool, true, false, refl, sym, ap, ◌∙◌, subst, arith}
+use Rattle.x25_line.proofs.Names.{append-nil, append_assoc, nat_le, option_to_list, ◌||◌, spelling_of, LinkSettings, LinkStation, LinkStep, take_step, put_step}
+use Rattle.x25_line.proofs.Names.{put_refusal, StationEnd, Stations, Act, Put, Deliver, Lose, Damage, LinkEvent, Near, Far, is_visible, start, Entry}
+use Rattle.x25_line.proofs.Names.{SessionEnd, Meeting, Sessions, extended, begun_by, after_step, unless, delivered, with_octets, acts, swapped, happens}
+use Rattle.x25_line.proofs.{Choices.{unless_both, if_both, own_both}, Names.{from_set_up, run, replaced, octets_of}}
+use Rattle.x25_line.proofs.sessions.{SessionHeld.{extended_same, extended_other}, SessionLines.{octets_append, octets_sent}, SessionSteps.{end_after}}
+use Rattle.x25_line.specs.laws.SessionClaims.{all_of, IsEndOf, SessionsAreStations, SetUpIsTheStart}
 use Rattle.x25_line.specs.laws.Stations as one
 
 -- ---- lists of all sessions

@@ -1,20 +1,16 @@
 -- Two stations over sessions, of which each has the other as its peer: what is claimed of who meets whom, and of order.
-use Rattle.std.proofs.Common.{◌≡◌, ◌≤◌, ℕ, List, [], ◌∷◌, ◌⊎◌, inl, inr, true, None, Ok, Err, refl, sym, ap, ◌∙◌, subst, arith, suc}
-use Rattle.x25_bits.specs.declared.role.Role.{Role}
-use Rattle.x25_frame.specs.{Frame.{PlainFrame, info, rr, rnr, rej, sabm, frmr}, Reading.{frame_of}, laws.ReadingLaw.{ReadsSpelled}}
-use Rattle.x25_frame.specs.declared.error.FrameError.TheVariants.{Undefined, NoInfoAllowed, TooLong, Short}
-use Rattle.x25_link.specs.{Station.{LinkSettings, is_up}, Hearing.{other}, Link.{is_idle}, laws.WindowLaw.{IsRunning}}
-use Rattle.x25_line.specs.{laws.InWindow.{IsPrefix}, laws.StationClaims.{number_in}, laws.Said.{said, Odd, sabm_of}}
-use Rattle.x25_line.specs.laws.Sessions.{Entry, Meeting, Sessions, swapped, letters, run}
-use Rattle.x25_line.specs.laws.SessionClaims.{Throughout, AllOf, Each, SomeMet, IsInOrder, MeetInStep, MetAreInOrder, UnmetHandNothingUp, OnlyBegunHaveLists}
-use Rattle.x25_line.specs.{laws.SessionClaims.{EachHearsLatest, EachMeetsLatest, IdleHasArrived}, laws.LawsBelow.{SessionLaws}}
-use Rattle.x25_line.specs.laws.PeerSessions.{PeerEnd, as_end, with_peer, stand_of, ReachedInSessions}
-use Rattle.x25_line.specs.{laws.Ends.{letter, AreOf, OfSabm, OfTells}, laws.PeerSessionClaims.{ReadsNoFrmr}}
-use Rattle.x25_line.proofs.{sessions.SessionWith.{NoneOdd, NoFrmrs}, StationLines.{consed, IsOrderly}, sessions.SessionLines.{Read, numbers}}
-use Rattle.x25_line.proofs.{sessions.SessionHeld.{OwesOn, OnLine}, StationAway.{is_up_phase}}
+use Rattle.x25_line.proofs.Names.{◌≡◌, ◌≤◌, ℕ, List, [], ◌∷◌, ◌⊎◌, inl, inr, true, None, Ok, Err, refl, sym, ap, ◌∙◌, subst, arith, suc, Role, PlainFrame, info}
+use Rattle.x25_line.proofs.Names.{rr, rnr, rej, sabm, frmr, frame_of, ReadsSpelled, Undefined, NoInfoAllowed, TooLong, Short, LinkSettings, is_up, other}
+use Rattle.x25_line.proofs.Names.{is_idle, IsPrefix, number_in, said, Odd, sabm_of, Entry, Meeting, Sessions, swapped, letters, run, Throughout, AllOf, Each}
+use Rattle.x25_line.proofs.{Lists.{each_map}, Names.{SomeMet, SessionLaws, PeerEnd, with_peer, stand_of, ReachedInSessions, letter, AreOf, OfSabm, OfTells}}
+use Rattle.x25_line.proofs.{StationAway.{is_up_phase}, StationLines.{consed, IsOrderly}, ends.Lines.{AllTold, Never, Of, AllTags, IsAsked, AllAsked}}
+use Rattle.x25_line.proofs.ends.{Meetings.{twice_turned, far_turned}, Sessions.{far_high}}
 use Rattle.x25_line.proofs.sessions.PeerSessionRuns.{two, all_of, lines, owes_is, up_in, step_is, order_is, unmet_is, idle_is, latest_is}
-use Rattle.x25_line.proofs.{sessions.SessionSeenRuns.{end, tags_there, Both, both_swapped, throughout_both}, ends.Meetings.{twice_turned, far_turned}}
-use Rattle.x25_line.proofs.{ends.Lines.{AllTold, Never, Of, AllTags, IsAsked, AllAsked}, ends.Sessions.{far_high}, Lists.{each_map}}
+use Rattle.x25_line.proofs.sessions.{SessionHeld.{OwesOn, OnLine}, SessionLines.{Read, numbers}}
+use Rattle.x25_line.proofs.sessions.{SessionSeenRuns.{end, tags_there, Both, both_swapped, throughout_both}, SessionWith.{NoneOdd, NoFrmrs}}
+use Rattle.x25_line.specs.laws.{PeerSessionClaims.{ReadsNoFrmr}, PeerSessions.{as_end}, SessionClaims.{IdleHasArrived}}
+use Rattle.x25_line.specs.laws.SessionClaims.{IsInOrder, MeetInStep, MetAreInOrder, UnmetHandNothingUp, OnlyBegunHaveLists, EachHearsLatest, EachMeetsLatest}
+use Rattle.x25_link.specs.laws.WindowLaw.{IsRunning}
 
 -- what is of the session that stands is of the latest, where that is begun
 hears : (from : Role) (n1 q : ℕ) {begun : ℕ} → begun ≤ q → (es : List Entry) → AllTold (Of q) (letters from n1 es) → AllTags begun (letters from n1 es)

@@ -1,25 +1,19 @@
 -- Worked scripts of the simulator, by computation.
-use Rattle.std.proofs.Common.{refl}
-use Rattle.std.specs.Fmt.{digits}
+use Rattle.x25_sim.proofs.Names.{refl, line_in, lines_of, refusal_line, saying_line, event_turn, drained, tried, both_tried, fired, pulled, emptied, healed}
 use Rattle.hex.specs.Hex.{decode_pairs}
-use Rattle.x25_bits.specs.FrameCheck.{fcs_of, number_of, divided, low_bits, add, divisor}
-use Rattle.x25_bits.specs.FrameCheck.Sealed.{is_sealed}
+use Rattle.std.specs.Fmt.{digits}
+use Rattle.x25_bits.specs.{FrameCheck.{fcs_of, number_of, divided, low_bits, add, divisor}, FrameCheck.Sealed.{is_sealed}}
+use Rattle.x25_console.specs.Telling.{frame_line}
 use Rattle.x25_frame.specs.Reading.{frame_of}
-use Rattle.x25_packet.specs.Digits.{halves_of, packed}
-use Rattle.x25_packet.specs.Facilities.{facilities_of}
-use Rattle.x25_packet.specs.Classes.{own_in}
-use Rattle.x25_packet.specs.Grammar.{read_of}
 use Rattle.x25_link.specs.Station.{pumped}
+use Rattle.x25_packet.specs.{Classes.{own_in}, Digits.{halves_of, packed}, Facilities.{facilities_of}, Grammar.{read_of}}
 use Rattle.x25_script.specs.Reading.{parts_of, number_in, small_number_in, params_in, with_params_in, call_in, accept_in, send_in, interrupt_in, with_fields}
-use Rattle.x25_script.specs.Reading.{command_in, lose_in, damage_in, drain_in, line_in}
-use Rattle.x25_io.specs.Lines.{lines_of}
-use Rattle.x25_transcript.specs.EntryText.{entry_line}
-use Rattle.x25_console.specs.Telling.{frame_line, refusal_line}
-use Rattle.x25_sim.specs.Telling.{mark_line, saying_line}
-use Rattle.x25_sim.specs.Stage.{event_turn, drained, tried, both_tried, fired, pulled, emptied, healed, line_turn, asked_in, turn, turns, set_up, simulated}
+use Rattle.x25_script.specs.Reading.{command_in, lose_in, damage_in, drain_in}
+use Rattle.x25_sim.{proofs.Names.{line_turn, asked_in, turn, turns, set_up, simulated}, specs.Telling.{mark_line}}
 use Rattle.x25_sim.specs.rows.ScriptRows.{LinksComeUp, FramesAreWritten, LinkGoesDown, DamageIsSeen, EventsAreTold, CallsCollide, OtherLinesAreRefused}
 use Rattle.x25_sim.specs.rows.ScriptRows.{MessagesArrive, ResetIsDone, RestartIsDone, BothEndsGoDown, LinkIsSetUp, LostUaComesAgain, LinkIsSetUpAgain}
 use Rattle.x25_sim.specs.rows.ScriptRows.{LostFrameArrives, BothEndsHeal, WaitingMessageIsPulled, LinksThatAreDownHeal}
+use Rattle.x25_transcript.specs.EntryText.{entry_line}
 
 pub links_come_up : LinksComeUp
 unfolding digits decode_pairs simulated set_up event_turn line_turn drained turn turns asked_in lines_of line_in parts_of number_in lose_in damage_in drain_in

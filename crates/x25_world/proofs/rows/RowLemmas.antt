@@ -1,9 +1,7 @@
 -- The worked rows, by computing.
-use Rattle.std.proofs.Common.{refl, arith}
-use Rattle.x25_bits.specs.{FrameCheck.{fcs_of, number_of, low_bits, add, divisor, divided}, FrameCheck.Sealed.{is_sealed}}
-use Rattle.x25_frame.specs.Reading.{frame_of}
-use Rattle.x25_link.specs.Station.{pumped}
-use Rattle.x25_packet.specs.{Digits.{packed, halves_of}, Facilities.{facilities_of}, Classes.{are_facilities, own_in}, Grammar.{read_of}}
+use Rattle.x25_world.proofs.Names.{refl, arith, fcs_of, number_of, add, divisor, divided, is_sealed, frame_of, pumped}
+use Rattle.x25_bits.specs.FrameCheck.{low_bits}
+use Rattle.x25_packet.specs.{Classes.{are_facilities, own_in}, Digits.{packed, halves_of}, Facilities.{facilities_of}, Grammar.{read_of}}
 use Rattle.x25_world.specs.rows.WorldRows.{MoreArrives, GivenArrives, ConfirmedArrives, ConnectGoesAgain, SecondMeetsFirst, SecondMeet}
 
 pub more_arrives : MoreArrives

@@ -1,27 +1,21 @@
 -- What octets bring beside a packet: of those that a link is handed down what its user gave, in order, and of those that it hands up what its user
 -- is told.
-use Rattle.std.proofs.Common.{◌≡◌, ℕ, ◌==◌, ◌≤◌, inl, inr, List, [], ◌∷◌, ◌++◌, length, Bool, true, false, nat_lt, ◌+◌, if◌then◌else◌, Option, Some, None}
-use Rattle.std.proofs.Common.{option_to_list, Result, Ok, Err, refl, sym, ap, ap₂, ◌∙◌, subst, append_assoc, append-nil, arith}
-use Rattle.std.proofs.{lemmas.Bool.{cond_both, eqb-true}, lemmas.List.{append_cancel_left}}
-use Rattle.x25_packet.specs.{Facilities.{IsFacilityField}, Packet.{PlainPacket, call, accept, clear, user_data}, declared.marks.Marks.{Marks}}
-use Rattle.x25_packet.specs.{Reading.{packet_of}, Spelling.{IsInRange, IsWithoutD, channel_of, longest_user, spelling_of}}
-use Rattle.x25_packet.specs.{declared.error.PacketError.{PacketError}, Grammar.{form_in}, Form.{PlainKind, PlainForm}}
-use Rattle.x25_packet.specs.{Narrowing.{with_field, narrowed, field_in, taken_of}, Taking.{read_in}}
-use Rattle.x25_given.specs.{Given.{PlainGiven, may_give}, Writing.{write, written}}
-use Rattle.x25_circuit.specs.{Circuit.{Circuit}, Params.{Proposal, default_params, field_for, may_answer}, Cause.{may_clear_for}, declared.state.State.{State}}
-use Rattle.x25_circuit.specs.declared.state.State.TheVariants.{Free, Calling, Arriving, Open, Clearing}
-use Rattle.x25_circuit.specs.declared.error.CircuitError.TheVariants.{BadParameter}
-use Rattle.x25_layer.specs.{declared.error.LayerError.{LayerError}, declared.error.LayerError.TheVariants.{NoSuchChannel}}
-use Rattle.x25_layer.specs.Layer.{LayerSettings, Layer, is_channel}
-use Rattle.x25_layer.specs.Calls.{LayerRequest, Asks, Dials, LayerOutcome, Accepted, Declined, free_channel, outcome_on, where_room, dialled, outcome_in}
-use Rattle.x25_layer.specs.{Calls.{layer_outcome, layer_pulled}, laws.TwoLayers.{pulled_in, moves_in, requested}, laws.RoundLaw.{moves_all, pulls_of}}
-use Rattle.x25_layer.specs.laws.Apart.{alone}
-use Rattle.x25_station.specs.Beside.{PlainBeside, nothing, fields, of_fields, beside_kind, beside_in, beside_or_none, unless_written}
-use Rattle.x25_station.specs.{declared.config.Cfg.{Cfg}, Command.{said_by}, Giving.{suits}, laws.GivenLaw.{GivesOctets, told}}
-use Rattle.x25_station.specs.{laws.ReadLaw.{AreOctets, IsReadable, AreReadable}, Entry.{StationEntry}}
-use Rattle.x25_world.specs.{laws.BesideClaims.{Came, came_of, came_in, Gave, channel_for, IsGiven, AreSomeOf}, laws.LawsBelow.{Laws}}
-use Rattle.x25_world.proofs.{Known.{true_false}, Growing.{read_by}}
-use Rattle.x25_peer.proofs.sessions.LinkSteps.{spelled, spelled_with}
+use Rattle.x25_world.proofs.Names.{◌≡◌, ℕ, ◌==◌, ◌≤◌, inl, inr, List, [], ◌∷◌, ◌++◌, length, Bool, true, false, nat_lt, ◌+◌, if◌then◌else◌, Option, Some, None}
+use Rattle.x25_world.proofs.Names.{Result, Ok, Err, refl, sym, ap, ap₂, ◌∙◌, subst, append_assoc, append-nil, arith, cond_both, eqb-true, append_cancel_left}
+use Rattle.x25_world.proofs.Names.{PlainPacket, call, accept, clear, user_data, Marks, channel_of, longest_user, PacketError, read_in, PlainGiven, may_give}
+use Rattle.x25_world.proofs.Names.{Circuit, Proposal, default_params, field_for, may_answer, may_clear_for, State, Free, Calling, Arriving, Open, Clearing}
+use Rattle.x25_world.proofs.Names.{BadParameter, LayerError, LayerSettings, Layer, is_channel, LayerRequest, Dials, LayerOutcome, Accepted, free_channel}
+use Rattle.x25_world.proofs.Names.{outcome_on, where_room, dialled, outcome_in, layer_outcome, layer_pulled, pulled_in, moves_in, requested, moves_all}
+use Rattle.x25_world.proofs.Names.{pulls_of, alone, PlainBeside, nothing, fields, beside_in, Cfg, said_by, suits, GivesOctets, AreOctets, AreReadable}
+use Rattle.x25_world.proofs.Names.{StationEntry, Came, came_in, Gave, channel_for, IsGiven, AreSomeOf, Laws, spelled, spelled_with}
+use Rattle.std.proofs.Common.{option_to_list}
+use Rattle.x25_given.specs.Writing.{write, written}
+use Rattle.x25_layer.specs.{Calls.{Asks, Declined}, declared.error.LayerError.TheVariants.{NoSuchChannel}}
+use Rattle.x25_packet.specs.{Facilities.{IsFacilityField}, Form.{PlainKind, PlainForm}, Grammar.{form_in}, Narrowing.{with_field, narrowed, field_in, taken_of}}
+use Rattle.x25_packet.specs.{Reading.{packet_of}, Spelling.{IsInRange, IsWithoutD, spelling_of}}
+use Rattle.x25_station.specs.{Beside.{of_fields, beside_kind, beside_or_none, unless_written}, laws.GivenLaw.{told}, laws.ReadLaw.{IsReadable}}
+use Rattle.x25_world.proofs.{Growing.{read_by}, Known.{true_false}}
+use Rattle.x25_world.specs.laws.BesideClaims.{came_of}
 use Rattle.x25_packet.specs.Form as form
 use Rattle.x25_circuit.specs.Calling as circuit
 use Rattle.x25_layer.specs.laws.TwoLayers as layer

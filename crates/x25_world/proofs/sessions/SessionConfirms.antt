@@ -1,23 +1,17 @@
 -- Of two layers in order: as many messages as an end's moves confirm of a stretch, of those whose confirmation was asked, the other end has handed up.
-use Rattle.std.proofs.Common.{◌≡◌, ◌⊎◌, inl, inr, ℕ, zero, suc, ◌+◌, ◌-◌, ◌≤◌, List, [], ◌∷◌, ◌++◌, length, take, drop, Bool, true, false, ◌==◌, if◌then◌else◌}
-use Rattle.std.proofs.{Common.{refl, sym, ap, subst, ◌∙◌, arith, append_assoc}, lemmas.Bool.{and_parts, eqb-true}}
+use Rattle.x25_world.proofs.Names.{◌≡◌, ◌⊎◌, inl, inr, ℕ, zero, suc, ◌+◌, ◌-◌, ◌≤◌, List, [], ◌∷◌, ◌++◌, length, take, drop, Bool, true, false, ◌==◌}
+use Rattle.x25_world.proofs.Names.{if◌then◌else◌, refl, sym, ap, subst, ◌∙◌, arith, append_assoc, and_parts, eqb-true, Role, Dte, Dce, other, PlainPacket}
+use Rattle.x25_world.proofs.Names.{Piece, Talk, silent, Circuit, is_open, Name, both, same_name, Ranges, LayerSettings, Layer, Entry, under, messages_in}
+use Rattle.x25_world.proofs.Names.{name_of, OwnMove, Takes, Ends, ApartEvent, own_moves, apart_happens, apart_run, apart_start, IsInOrder, AreInOrder}
 use Rattle.std.proofs.lemmas.List.{take-append-drop, drop-append-le}
-use Rattle.x25_bits.specs.{declared.role.Role.{Role}, declared.role.Role.TheVariants.{Dte, Dce}}
-use Rattle.x25_link.specs.Hearing.{other}
-use Rattle.x25_packet.specs.Packet.{PlainPacket}
-use Rattle.x25_circuit.specs.Message.{Message, Piece, More, Last, Partial, no_part, joined, carried_from, carried, asked_in}
-use Rattle.x25_circuit.specs.Circuit.{Talk, silent, Circuit, is_open, unconfirmed}
-use Rattle.x25_handshakes.specs.{laws.Names.{Name, both, same_name}, laws.Histories.{Lists}}
-use Rattle.x25_layer.specs.{declared.ranges.Ranges.{Ranges}, Ranges.{is_channel}, Layer.{LayerSettings, Layer}, code.FitsLayer.{is_open_at}}
-use Rattle.x25_layer.specs.laws.Acknowledged.{AcknowledgedAreUp, AcknowledgedAreHandedUp}
-use Rattle.x25_layer.specs.{laws.Transcript.{Handed, nothing_handed, Entry, says, under, messages_in, name_of}, laws.TwoLayers.{settings_of}}
-use Rattle.x25_layer.specs.laws.Apart.{OwnMove, Takes, Ends, ApartEvent, own_moves, apart_happens, apart_run, apart_start, IsInOrder, AreInOrder, AlwaysApart}
-use Rattle.x25_layer.specs.laws.ApartLaw.{EventsRunOn}
+use Rattle.x25_circuit.specs.{Circuit.{unconfirmed}, Message.{Message, More, Last, Partial, no_part, joined, carried_from, carried, asked_in}}
+use Rattle.x25_handshakes.specs.laws.Histories.{Lists}
+use Rattle.x25_layer.specs.{Ranges.{is_channel}, code.FitsLayer.{is_open_at}, laws.Acknowledged.{AcknowledgedAreUp, AcknowledgedAreHandedUp}}
+use Rattle.x25_layer.specs.laws.{ApartLaw.{EventsRunOn}, Transcript.{Handed, nothing_handed, says}, TwoLayers.{settings_of}}
 use Rattle.x25_station.specs.Confirming.{goes_on}
-use Rattle.x25_world.specs.laws.ConfirmedClaims.{asked_among}
-use Rattle.x25_world.proofs.{Known.{true_false}, Continues.{Begins, Same, Hears}, EndContinues.{end_heard, end_called, end_enters}}
-use Rattle.x25_world.proofs.{sessions.SessionTrace.{TakesNone, moves_of}, sessions.SessionCounts.{counted_at, counted_by, counted_in}}
-use Rattle.x25_world.proofs.sessions.SessionKnown.{here_in}
+use Rattle.x25_world.proofs.{Continues.{Begins, Same, Hears}, EndContinues.{end_heard, end_called, end_enters}, Known.{true_false}}
+use Rattle.x25_world.proofs.{Names.{AlwaysApart, asked_among}, sessions.SessionCounts.{counted_at, counted_by, counted_in}, sessions.SessionKnown.{here_in}}
+use Rattle.x25_world.proofs.sessions.SessionTrace.{TakesNone, moves_of}
 use Rattle.x25_layer.specs.laws.TwoLayers as layer
 
 -- ---- how many asked

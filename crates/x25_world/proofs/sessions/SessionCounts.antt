@@ -1,11 +1,6 @@
 -- How many messages a layer's moves confirm, and that an end is told of no more.
-use Rattle.std.proofs.Common.{◌≡◌, ℕ, ◌+◌, ◌≤◌, List, [], ◌∷◌, ◌++◌, if◌then◌else◌, refl, ap, ◌∙◌, arith}
-use Rattle.x25_bits.specs.declared.role.Role.{Role}
-use Rattle.x25_handshakes.specs.laws.Names.{Name, same_name}
-use Rattle.x25_layer.specs.{Layer.{LayerSettings, Layer, goes_up}, laws.Transcript.{name_of}, laws.TwoLayers.{started}}
-use Rattle.x25_layer.specs.laws.Apart.{OwnMove, Takes, own_moves, own_run}
-use Rattle.x25_station.specs.{declared.config.Cfg.{Cfg}, Confirming.{confirmed}, Entry.{StationEntry}}
-use Rattle.x25_world.specs.laws.ConfirmedClaims.{confirmed_in}
+use Rattle.x25_world.proofs.Names.{◌≡◌, ℕ, ◌+◌, ◌≤◌, List, [], ◌∷◌, ◌++◌, if◌then◌else◌, refl, ap, ◌∙◌, arith, Role, Name, same_name, LayerSettings, Layer}
+use Rattle.x25_world.proofs.Names.{goes_up, name_of, started, OwnMove, Takes, own_moves, own_run, Cfg, confirmed, StationEntry, confirmed_in}
 use Rattle.x25_world.proofs.sessions.SessionTrace.{layer_of, Done, moved, own_in, own, own_more, TakesNone, TakeNothing}
 use Rattle.x25_layer.specs.laws.TwoLayers as layer
 

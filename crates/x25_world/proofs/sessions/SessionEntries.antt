@@ -1,28 +1,21 @@
 -- What entries that an end's step adds say of its sessions, and of whom they meet.
-use Rattle.std.proofs.Common.{◌≡◌, ℕ, zero, suc, ◌+◌, ◌≤◌, ◌==◌, List, [], ◌∷◌, ◌++◌, inl, Bool, true, false, if◌then◌else◌, Option, Some, None, Ok, refl, sym}
-use Rattle.std.proofs.{Common.{ap, ap₂, ◌∙◌, subst, append_assoc, append-nil, arith}, lemmas.Bool.{eqb-true, cond_both}}
-use Rattle.x25_handshakes.specs.laws.Names.{Name, both, same_name}
-use Rattle.x25_bits.specs.{declared.role.Role.{Role}, declared.role.Role.TheVariants.{Dte, Dce}}
-use Rattle.x25_packet.specs.{Packet.{PlainPacket, restart, restart_conf}, Spelling.{channel_of}}
-use Rattle.x25_circuit.specs.{Hearing.{Answer, answers}, Notice.{PlainNotice}}
-use Rattle.x25_layer.specs.Layer.{LayerSettings, Layer, LayerNotice, on_channel, restarted, restart_done, layer_fault, is_channel, notices_on, answers_on}
-use Rattle.x25_layer.specs.{Layer.{drops, answers_in, layer_answers}, Receiving.{answer_to}}
-use Rattle.x25_layer.specs.Calls.{LayerRequest, Asks, Dials, Restarts, PullsAll, LayerOutcome, Accepted, Declined}
-use Rattle.x25_layer.specs.{laws.Transcript.{Entry, Said, Asked, Told, name_of}, laws.TwoLayers.{entries_asked}, laws.ApartLaw.{BeginsRestarted}}
-use Rattle.x25_station.specs.{Confirming.{named_by, confirmed}, Beside.{PlainBeside, nothing, fields, diagnosed, beside_in}, declared.config.Cfg.{Cfg}}
-use Rattle.x25_station.specs.Config.{Settings, settings_from, layer_settings}
-use Rattle.x25_station.specs.Entry.{StationEntry, of_channel, restart_asked, connect_asked, disconnect_asked, relink_asked, link_up, link_down, was_restarted}
-use Rattle.x25_station.specs.Entry.{restart_confirmed, at_fault, came_beside, was_diagnosed, was_confirmed, may_bring, bringing, entries_beside, entries_behind}
-use Rattle.x25_station.specs.Entry.{of_channels, station_told, entries_noted, notice_of, layer_entries, layer_notices}
-use Rattle.x25_station.specs.Step.{entries_of_outcome, layer_answer, confirmed_by, entries_of_packet, entries_heard, follows}
-use Rattle.x25_world.specs.{World.{AtEnd, entered}, laws.BesideClaims.{Came, came_in}, laws.ConfirmedClaims.{confirmed_in}}
-use Rattle.x25_line.specs.laws.SessionClaims.{Each}
-use Rattle.x25_world.specs.laws.Claims.{entry_of_end, entries_at}
-use Rattle.x25_world.specs.laws.Sessions.{Progress, none_begun, after_entry, after_entries, is_in, entry_if, session_from, first_of, met_at, met_by, meets_from}
-use Rattle.x25_world.specs.laws.Sessions.{meets}
-use Rattle.x25_world.proofs.{Growing.{read_by}, sessions.SessionCounts.{counted_at, CountNone}}
-use Rattle.x25_world.proofs.sessions.SessionBeside.{brought_as, brought_by, brought, AreTold}
-use Rattle.x25_link.specs.{Hearing.{other, LinkStep}, laws.NoteLaw.{IsQuiet}}
+use Rattle.x25_world.proofs.Names.{◌≡◌, ℕ, zero, suc, ◌+◌, ◌≤◌, ◌==◌, List, [], ◌∷◌, ◌++◌, inl, Bool, true, false, if◌then◌else◌, Option, Some, None, Ok, refl}
+use Rattle.x25_world.proofs.Names.{sym, ap, ap₂, ◌∙◌, subst, append_assoc, append-nil, arith, eqb-true, cond_both, Name, both, same_name, Role, Dte, Dce}
+use Rattle.x25_world.proofs.Names.{PlainPacket, restart, restart_conf, channel_of, Answer, answers, LayerSettings, Layer, LayerNotice, is_channel, answers_on}
+use Rattle.x25_world.proofs.Names.{drops, answers_in, layer_answers, LayerRequest, Dials, Restarts, PullsAll, LayerOutcome, Accepted, Entry, name_of}
+use Rattle.x25_world.proofs.Names.{entries_asked, BeginsRestarted, confirmed, PlainBeside, nothing, fields, beside_in, Cfg, Settings, settings_from}
+use Rattle.x25_world.proofs.Names.{layer_settings, StationEntry, connect_asked, disconnect_asked, relink_asked, link_up, link_down, entries_noted}
+use Rattle.x25_world.proofs.Names.{layer_entries, layer_notices, follows, AtEnd, entered, Came, came_in, confirmed_in, Each, entry_of_end, entries_at, Progress}
+use Rattle.x25_world.proofs.Names.{none_begun, after_entry, after_entries, is_in, entry_if, session_from, first_of, met_by, meets, other, LinkStep, IsQuiet}
+use Rattle.x25_circuit.specs.Notice.{PlainNotice}
+use Rattle.x25_layer.specs.{Calls.{Asks, Declined}, Layer.{on_channel, restarted, restart_done, layer_fault, notices_on}, Receiving.{answer_to}}
+use Rattle.x25_layer.specs.laws.Transcript.{Said, Asked, Told}
+use Rattle.x25_station.specs.{Beside.{diagnosed}, Confirming.{named_by}, Entry.{bringing, entries_beside, entries_behind, of_channels, station_told, notice_of}}
+use Rattle.x25_station.specs.Entry.{of_channel, restart_asked, was_restarted, restart_confirmed, at_fault, came_beside, was_diagnosed, was_confirmed, may_bring}
+use Rattle.x25_station.specs.Step.{entries_of_outcome, layer_answer, confirmed_by, entries_of_packet, entries_heard}
+use Rattle.x25_world.proofs.Growing.{read_by}
+use Rattle.x25_world.proofs.sessions.{SessionBeside.{brought_as, brought_by, brought, AreTold}, SessionCounts.{counted_at, CountNone}}
+use Rattle.x25_world.specs.laws.Sessions.{met_at, meets_from}
 
 -- ---- one behind the other
 

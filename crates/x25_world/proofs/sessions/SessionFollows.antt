@@ -1,24 +1,15 @@
 -- A step of the link that hands nothing up: nothing is noted; or LinkDown; or LinkUp, by which a session begins.
-use Rattle.std.proofs.Common.{◌≡◌, ℕ, suc, List, [], ◌∷◌, ◌++◌, Bool, true, false, Option, Some, None, refl, sym, ap, ap₂, ◌∙◌, subst, arith}
-use Rattle.x25_bits.specs.declared.role.Role.{Role}
-use Rattle.x25_packet.specs.Packet.{restart}
-use Rattle.x25_link.specs.laws.NoteLaw.{IsQuiet, Tells}
-use Rattle.x25_line.specs.{laws.Sessions.{Meeting, Sessions, begun_by}, laws.SessionClaims.{octets_of, OnlyBegunHaveLists}}
-use Rattle.x25_layer.specs.{Layer.{LayerSettings, Layer, rested, restart_cause, goes_up}, laws.Rounds.{LinkView}, laws.TwoLayers.{started}}
-use Rattle.x25_layer.specs.laws.Apart.{own_run}
-use Rattle.x25_station.specs.{declared.config.Cfg.{Cfg}, Config.{Settings, settings_from}}
-use Rattle.x25_station.specs.Entry.{StationEntry, connect_asked, disconnect_asked, relink_asked, link_up, link_down, entries_noted}
-use Rattle.x25_station.specs.{Step.{Step, layer_at, follows, led_by}, laws.KeepLaw.{IsKept}, laws.JoinLaw.{station_with}}
-use Rattle.x25_station.specs.laws.ReadLaw.{AreReadable}
-use Rattle.x25_world.specs.{World.{World, Act, after_step}, laws.Claims.{link_of}, laws.Sessions.{Progress, after_entries, session_from, is_in, entry_if}}
-use Rattle.x25_world.specs.laws.LawsBelow.{SessionLaws}
-use Rattle.x25_world.proofs.{Known.{IsConfigured, true_false}, sessions.SessionTrace.{layer_of, own, TakeNothing}}
-use Rattle.x25_world.proofs.{sessions.SessionReaches.{Asked, known_sessions}, sessions.SessionBeside.{spelled_bring}}
-use Rattle.x25_world.proofs.sessions.SessionJoined.{HasMet, PairsAreInOrder, SessionsJoined, Goes, gave_none}
-use Rattle.x25_world.proofs.{sessions.SessionKnown.{nothing_in_order, own_readable}, Growing.{back_read, back_octets}}
-use Rattle.x25_world.proofs.{sessions.SessionGoes.{IsSilent, not_in, rests, begins_session}, sessions.SessionEntries.{AreMute}}
-use Rattle.x25_peer.proofs.sessions.LinkSteps.{SessionGoes, StepGoes, step_as, spelled, puts_spelled, puts_up, puts_of, all_act, puts_go}
-use Rattle.x25_link.specs.{declared.phase.Reason.{Reason}, Station.{is_up}, Hearing.{LinkStep, quiet}}
+use Rattle.x25_world.proofs.Names.{◌≡◌, ℕ, suc, List, [], ◌∷◌, ◌++◌, Bool, true, false, Option, Some, None, refl, sym, ap, ap₂, ◌∙◌, subst, arith, Role}
+use Rattle.x25_world.proofs.Names.{restart, IsQuiet, Tells, Meeting, Sessions, begun_by, octets_of, OnlyBegunHaveLists, LayerSettings, Layer, rested}
+use Rattle.x25_world.proofs.Names.{restart_cause, goes_up, LinkView, started, own_run, Cfg, Settings, settings_from, StationEntry, connect_asked}
+use Rattle.x25_world.proofs.Names.{disconnect_asked, relink_asked, link_up, link_down, entries_noted, Step, layer_at, follows, led_by, IsKept, station_with}
+use Rattle.x25_world.proofs.Names.{AreReadable, World, Act, after_step, link_of, Progress, after_entries, session_from, is_in, entry_if, SessionLaws}
+use Rattle.x25_world.proofs.Names.{SessionGoes, StepGoes, step_as, spelled, puts_spelled, puts_up, puts_of, all_act, puts_go, is_up, LinkStep}
+use Rattle.x25_link.specs.{Hearing.{quiet}, declared.phase.Reason.{Reason}}
+use Rattle.x25_world.proofs.{Growing.{back_read, back_octets}, Known.{IsConfigured, true_false}}
+use Rattle.x25_world.proofs.sessions.{SessionBeside.{spelled_bring}, SessionEntries.{AreMute}, SessionGoes.{IsSilent, not_in, rests, begins_session}}
+use Rattle.x25_world.proofs.sessions.{SessionJoined.{HasMet, PairsAreInOrder, SessionsJoined, Goes, gave_none}, SessionKnown.{nothing_in_order, own_readable}}
+use Rattle.x25_world.proofs.sessions.{SessionReaches.{Asked, known_sessions}, SessionTrace.{layer_of, own, TakeNothing}}
 use Rattle.x25_line.specs.laws.Sessions as links
 
 -- the command that a step is of, if it is one of the link

@@ -1,30 +1,21 @@
 -- A step of the near end, joined of a step of its link and moves of its layer: in the session that stands, at rest, or as a session begins.
-use Rattle.std.proofs.Common.{◌≡◌, ℕ, suc, ◌==◌, ◌≤◌, ◌<◌, ◌⊎◌, inl, inr, List, [], ◌∷◌, ◌++◌, map, true, false, ◌&&◌, if◌then◌else◌, Option, Some, None, refl}
-use Rattle.std.proofs.{Common.{sym, ap, ap₂, ◌∙◌, subst, append-nil, arith}, lemmas.Bool.{ne_eqb, cases_eq, and_right}}
-use Rattle.x25_bits.specs.{declared.role.Role.{Role}, declared.role.Role.TheVariants.{Dte, Dce}}
-use Rattle.x25_frame.specs.Spelling.{spelling_of}
-use Rattle.x25_packet.specs.Packet.{PlainPacket, restart}
-use Rattle.x25_link.specs.{Station.{is_up}, Hearing.{other}}
-use Rattle.x25_line.specs.{laws.Sessions.{SessionEnd, Meeting, Sessions, sent_in, extended}, laws.SessionClaims.{octets_of}}
-use Rattle.x25_handshakes.specs.laws.Names.{Name}
-use Rattle.x25_layer.specs.{Layer.{Layer, LayerNotice, goes_up, restart_cause}, laws.Quiet.{AreNoFaults}, laws.TwoLayers.{started}}
-use Rattle.x25_layer.specs.{laws.Apart.{OwnMove, own_run}, laws.ApartLaw.{BeginsRestarted}}
-use Rattle.x25_station.specs.{declared.config.Cfg.{Cfg}, Config.{settings_from}, Entry.{StationEntry, layer_entries, layer_notices}, Station.{Station}}
-use Rattle.x25_station.specs.{Step.{Step}, laws.KeepLaw.{IsKept}}
-use Rattle.x25_world.specs.{World.{World, Act, entered, after_step}, laws.Claims.{entries_at, link_of}}
-use Rattle.x25_world.specs.laws.Sessions.{Progress, none_begun, after_entries, is_in, session_from, first_of, met_by, meets}
-use Rattle.x25_world.specs.{laws.BesideClaims.{came_in, Gave, IsGiven, AreSomeOf}, laws.ConfirmedClaims.{confirmed_in}}
-use Rattle.x25_world.proofs.Growing.{all_read, as_read, none_read, nothing_read, grown, AllAreOctets, entries_more, entries_other, on_tap}
-use Rattle.x25_world.proofs.Growing.{octets_put}
-use Rattle.x25_world.proofs.sessions.SessionTrace.{layer_of, Done, moved, own_in, own, own_more, own_same, own_other, own_goes, same_number, TakeNothing}
-use Rattle.x25_world.proofs.sessions.SessionTrace.{TakesNone, BringOctets}
+use Rattle.x25_world.proofs.Names.{◌≡◌, ℕ, suc, ◌==◌, ◌≤◌, ◌<◌, ◌⊎◌, inl, inr, List, [], ◌∷◌, ◌++◌, map, true, false, ◌&&◌, if◌then◌else◌, Option, Some, None}
+use Rattle.x25_world.proofs.Names.{refl, sym, ap, ap₂, ◌∙◌, subst, append-nil, arith, ne_eqb, Role, Dte, Dce, spelling_of, PlainPacket, restart, is_up, other}
+use Rattle.x25_world.proofs.Names.{SessionEnd, Meeting, Sessions, sent_in, octets_of, Name, Layer, LayerNotice, goes_up, restart_cause, AreNoFaults, started}
+use Rattle.x25_world.proofs.Names.{OwnMove, own_run, BeginsRestarted, Cfg, settings_from, StationEntry, layer_entries, layer_notices, Station, Step, IsKept}
+use Rattle.x25_world.proofs.Names.{World, Act, entered, after_step, entries_at, link_of, Progress, none_begun, after_entries, is_in, session_from, first_of}
+use Rattle.x25_world.proofs.Names.{met_by, meets, came_in, Gave, IsGiven, AreSomeOf, confirmed_in, SessionGoes, each_append}
+use Rattle.std.proofs.lemmas.Bool.{cases_eq, and_right}
+use Rattle.x25_line.specs.laws.Sessions.{extended}
+use Rattle.x25_peer.proofs.{ReadLemmas.{layer_append, notices_append}, sessions.LinkSteps.{extended_none}}
+use Rattle.x25_world.proofs.Growing.{all_read, as_read, none_read, nothing_read, grown, AllAreOctets, entries_more, entries_other, on_tap, octets_put}
+use Rattle.x25_world.proofs.sessions.SessionBeside.{brought, AreTold, told_more, MoreIs, none_more}
 use Rattle.x25_world.proofs.sessions.SessionCounts.{counted_in, IsCounted, counted_same, counted_rests, counted_goes}
-use Rattle.x25_world.proofs.{sessions.SessionReaches.{SessionsReach, Asked, reach_on}, sessions.SessionBeside.{brought, AreTold, told_more, MoreIs, none_more}}
-use Rattle.x25_world.proofs.sessions.SessionJoined.{HaveAll, IsSession, IsLayer, IsEnd, HasMet, Meets, Hears, PairsAreInOrder, SessionsJoined, Goes, gave_none}
 use Rattle.x25_world.proofs.sessions.SessionEntries.{after_append, session_append, meets_more, meets_other, none_met, AreMute, TellNothing, mute_tell, mute_in}
 use Rattle.x25_world.proofs.sessions.SessionEntries.{ArePlain, plain_progress, plain_here, plain_elsewhere, restart_met, elsewhere_met}
-use Rattle.x25_peer.proofs.{ReadLemmas.{layer_append, notices_append}, sessions.LinkSteps.{SessionGoes, extended_none}}
-use Rattle.x25_line.proofs.Lists.{each_append}
+use Rattle.x25_world.proofs.sessions.SessionJoined.{HaveAll, IsSession, IsLayer, IsEnd, HasMet, Meets, Hears, PairsAreInOrder, SessionsJoined, Goes, gave_none}
+use Rattle.x25_world.proofs.sessions.{SessionReaches.{SessionsReach, Asked, reach_on}, SessionTrace.{TakesNone, BringOctets}}
+use Rattle.x25_world.proofs.sessions.SessionTrace.{layer_of, Done, moved, own_in, own, own_more, own_same, own_other, own_goes, same_number, TakeNothing}
 use Rattle.x25_line.specs.laws.Sessions as links
 use Rattle.x25_layer.specs.laws.TwoLayers as layer
 

@@ -1,17 +1,13 @@
 -- A world of two stations over set-up and re-set-up, as one of the ends sees it: a run of two links with their sessions, and moves of the
 -- layers in each session. The sessions that meet are two layers whose packets come in order.
-use Rattle.std.proofs.Common.{◌≡◌, ℕ, ◌≤◌, ◌<◌, ◌⊎◌, inl, inr, List, [], ◌∷◌, map, true, false, Option, Some, None, refl, sym, subst}
-use Rattle.x25_bits.specs.declared.role.Role.{Role}
-use Rattle.x25_link.specs.{Station.{is_up}, Hearing.{other}}
-use Rattle.x25_line.specs.{laws.Sessions.{SessionEnd, Meeting, Sessions, turned}, laws.SessionClaims.{Each, SomeMet, octets_of}}
-use Rattle.x25_layer.specs.{laws.Quiet.{AreNoFaults}, laws.Apart.{apart_start, AreInOrder}}
-use Rattle.x25_station.specs.{declared.config.Cfg.{Cfg}, Entry.{StationEntry, layer_entries, layer_notices}, Station.{Station}, laws.KeepLaw.{IsKept}}
-use Rattle.x25_world.specs.{World.{World, Act, mirrored}, laws.Claims.{entries_at}, laws.Sessions.{none_begun, after_entries, session_from, meets}}
-use Rattle.x25_world.specs.laws.BesideClaims.{Gave, came_in}
-use Rattle.x25_world.proofs.Growing.{all_read, as_read, AllAreOctets, AreOnTap}
-use Rattle.x25_world.proofs.{sessions.SessionTrace.{Done, own_in, own, pair_at, pair_turned, TakeNothing, BringOctets}, sessions.SessionCounts.{IsCounted}}
+use Rattle.x25_world.proofs.Names.{◌≡◌, ℕ, ◌≤◌, ◌<◌, ◌⊎◌, inl, inr, List, [], ◌∷◌, map, true, false, Option, Some, None, refl, sym, subst, Role, is_up, other}
+use Rattle.x25_world.proofs.Names.{SessionEnd, Meeting, Sessions, Each, SomeMet, octets_of, AreNoFaults, apart_start, AreInOrder, Cfg, StationEntry}
+use Rattle.x25_world.proofs.Names.{layer_entries, layer_notices, Station, IsKept, World, Act, mirrored, entries_at, none_begun, after_entries, session_from}
+use Rattle.x25_line.specs.laws.Sessions.{turned}
+use Rattle.x25_world.proofs.{Growing.{all_read, as_read, AllAreOctets, AreOnTap}, Names.{meets, Gave, came_in}}
+use Rattle.x25_world.proofs.sessions.{SessionBeside.{brought, AreTold, MoreIs, none_more}, SessionCounts.{IsCounted}}
 use Rattle.x25_world.proofs.sessions.SessionReaches.{SessionsReach, Asked, twice_other, reach_swapped, asks_nothing}
-use Rattle.x25_world.proofs.sessions.SessionBeside.{brought, AreTold, MoreIs, none_more}
+use Rattle.x25_world.proofs.sessions.SessionTrace.{Done, own_in, own, pair_at, pair_turned, TakeNothing, BringOctets}
 use Rattle.x25_line.specs.laws.Sessions as links
 use Rattle.x25_layer.specs.laws.TwoLayers as layer
 

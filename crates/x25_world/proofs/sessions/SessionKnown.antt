@@ -1,17 +1,11 @@
 -- What the laws of two links over set-up and re-set-up, and of two layers of which each end is by itself, say of the sessions of a world.
-use Rattle.std.proofs.{Common.{◌≡◌, ℕ, ◌==◌, inl, inr, List, [], ◌∷◌, ◌++◌, sym, ap, ◌∙◌, subst}, lemmas.Bool.{cond_both}}
-use Rattle.x25_bits.specs.{declared.role.Role.{Role}, declared.role.Role.TheVariants.{Dte, Dce}}
-use Rattle.x25_link.specs.Hearing.{other}
-use Rattle.x25_line.specs.{laws.Sessions.{Meeting}, laws.SessionClaims.{SomeMet}}
-use Rattle.x25_packet.specs.Packet.{PlainPacket}
-use Rattle.x25_layer.specs.{laws.Law.{IsQuietEnd}, laws.Apart.{own_run, Ends, ApartEvent, apart_run, apart_start, AreInOrder, as_world, all_over_links}}
-use Rattle.x25_layer.specs.laws.ApartLaw.{IsToldFirst}
-use Rattle.x25_station.specs.{declared.config.Cfg.{Cfg}, laws.ReadLaw.{AreReadable, BringOctets}}
-use Rattle.x25_line.proofs.ends.Meetings.{all_some}
-use Rattle.x25_world.specs.laws.LawsBelow.{SessionLaws}
-use Rattle.x25_world.proofs.Known.{IsConfigured}
+use Rattle.x25_world.proofs.Names.{◌≡◌, ℕ, ◌==◌, inl, inr, List, [], ◌∷◌, ◌++◌, sym, ap, ◌∙◌, subst, cond_both, Role, Dte, Dce, other, Meeting, SomeMet}
+use Rattle.x25_world.proofs.Names.{PlainPacket, own_run, Ends, ApartEvent, apart_run, apart_start, AreInOrder, as_world, IsToldFirst, Cfg, AreReadable}
+use Rattle.x25_layer.specs.laws.{Apart.{all_over_links}, Law.{IsQuietEnd}}
+use Rattle.x25_station.specs.laws.ReadLaw.{BringOctets}
+use Rattle.x25_world.proofs.{Known.{IsConfigured}, Names.{all_some, SessionLaws}, sessions.SessionJoined.{HasMet, PairIsInOrder, PairsAreInOrder}}
 use Rattle.x25_world.proofs.sessions.SessionTrace.{layer_of, Done, own_in, own, numbers, event_of, pair_in, pair_at, moves_of_pair, TakeNothing}
-use Rattle.x25_world.proofs.{sessions.SessionTrace.{order_of_nothing}, sessions.SessionJoined.{HasMet, PairIsInOrder, PairsAreInOrder}}
+use Rattle.x25_world.proofs.sessions.SessionTrace.{order_of_nothing}
 use Rattle.x25_layer.specs.laws.TwoLayers as layer
 use Rattle.x25_world.proofs.sessions.SessionTrace as traced
 

@@ -1,15 +1,12 @@
 -- Two links over set-up and re-set-up, as either end sees them: a run of the same events, with the ends swapped; and what an act of a world asks
 -- of the link of its end.
-use Rattle.std.proofs.Common.{◌≡◌, ℕ, inl, List, [], ◌∷◌, ◌++◌, Bool, true, false, refl, sym, ap, ◌∙◌, subst}
-use Rattle.x25_bits.specs.{declared.role.Role.{Role}, declared.role.Role.TheVariants.{Dte, Dce}}
-use Rattle.x25_line.specs.{laws.StationClaims.{AreJoined}, laws.HealingPuts.{AreFree}}
-use Rattle.x25_line.specs.{laws.Sessions.{Sessions, from_nothing, IsTimelyAt, AreTimely}, laws.SessionClaims.{Each, Throughout}}
-use Rattle.x25_station.specs.{declared.config.Cfg.{Cfg}, Config.{Settings, settings_from}}
-use Rattle.x25_world.specs.{World.{World, Act}, laws.Claims.{link_of}, laws.SessionWindow.{Asks, all_at}, Healing.{IsReceiptOrRequest, ActsFreely}}
-use Rattle.x25_world.proofs.Known.{IsConfigured, true_false}
-use Rattle.x25_peer.proofs.sessions.LinkSteps.{puts_of, all_act}
-use Rattle.x25_link.specs.{Station.{LinkSettings, LinkStation}, Hearing.{other}}
-use Rattle.x25_line.proofs.{ends.Meetings.{twice_turned}, HealingSteps.{links_append, timely_append}}
+use Rattle.x25_world.proofs.Names.{◌≡◌, ℕ, inl, List, [], ◌∷◌, ◌++◌, Bool, true, false, refl, sym, ap, ◌∙◌, subst, Role, Dte, Dce, AreFree, Sessions}
+use Rattle.x25_world.proofs.Names.{from_nothing, IsTimelyAt, AreTimely, Each, Cfg, Settings, settings_from, World, Act, link_of, Asks, all_at}
+use Rattle.x25_line.proofs.{HealingSteps.{timely_append}, ends.Meetings.{twice_turned}}
+use Rattle.x25_line.specs.laws.SessionClaims.{Throughout}
+use Rattle.x25_line.specs.laws.StationClaims.{AreJoined}
+use Rattle.x25_world.proofs.{Known.{IsConfigured, true_false}, Names.{IsReceiptOrRequest, puts_of, all_act, LinkSettings, LinkStation, other, links_append}}
+use Rattle.x25_world.specs.Healing.{ActsFreely}
 use Rattle.x25_line.specs.laws.Stations as line
 use Rattle.x25_line.specs.laws.Sessions as links
 

@@ -1,23 +1,18 @@
 -- Each event keeps the runs of two links and of the layers in each session, so each list of events does: from nothing, and from set-up.
-use Rattle.std.proofs.Common.{◌≡◌, ℕ, inl, inr, List, [], ◌∷◌, ◌++◌, ◌==◌, refl, sym, ap, subst, arith}
-use Rattle.x25_bits.specs.{declared.role.Role.{Role}, declared.role.Role.TheVariants.{Dte, Dce}}
-use Rattle.x25_line.specs.{laws.Sessions.{Sessions, from_nothing}, laws.SessionClaims.{Each}}
-use Rattle.x25_station.specs.{declared.config.Cfg.{Cfg}, Config.{settings_from}}
-use Rattle.x25_station.specs.{Command.{Requests, RequestsWith, Connects, Disconnects, Probes, Relinks, said_by}, Station.{new_station}}
-use Rattle.x25_station.specs.laws.KeepLaw.{ConnectKeeps}
-use Rattle.x25_world.specs.World.{World, mirrored, WorldOutcome, Happened, Declined, swapped_back, Act, Commands, Receives, Fires, Loses, Damages, acts}
-use Rattle.x25_world.specs.World.{Event, happens, refusal_of, after, run, start, connected, established}
-use Rattle.x25_world.specs.laws.Claims.{ActsInOctets, AreInOctets, IsBeginning, IsUpAtMostOnce, UntilSecondUp}
-use Rattle.x25_world.specs.{laws.Sessions.{Progress}, laws.SessionClaims.{Throughout, ThroughoutAlong}}
-use Rattle.x25_world.specs.{laws.BesideClaims.{Gave, gave_where, gave_by, gave_at, gave_in}, laws.LawsBelow.{SessionLaws}}
-use Rattle.x25_world.specs.{laws.Claims.{link_of}, laws.SessionWindow.{Asks, all_at}, Healing.{IsReceiptOrRequest, FreeAt}}
-use Rattle.x25_world.proofs.{Known.{IsConfigured, is_configured}, Established.{kept_new}, WorldLemmas.{refusal-swapped}}
-use Rattle.x25_world.proofs.{sessions.SessionReaches.{Leads, TakesAndPuts, turned_takes, leads_turned}, sessions.SessionTrace.{layer_of}}
-use Rattle.x25_world.proofs.sessions.SessionBeside.{MoreIs, none_more, more_again, said_channel}
+use Rattle.x25_world.proofs.Names.{◌≡◌, ℕ, inl, inr, List, [], ◌∷◌, ◌++◌, ◌==◌, refl, sym, ap, subst, arith, Role, Dte, Dce, Sessions, from_nothing, Each, Cfg}
+use Rattle.x25_world.proofs.Names.{settings_from, Connects, Disconnects, Probes, Relinks, said_by, new_station, ConnectKeeps, World, mirrored, WorldOutcome}
+use Rattle.x25_world.proofs.Names.{Happened, Declined, swapped_back, Act, Commands, Receives, Fires, Loses, Damages, acts, Event, happens, refusal_of, after}
+use Rattle.x25_world.proofs.Names.{run, start, connected, established, ActsInOctets, AreInOctets, IsBeginning, IsUpAtMostOnce, Progress, Throughout}
+use Rattle.x25_world.proofs.Names.{ThroughoutAlong, Gave, gave_where, gave_in, SessionLaws, link_of, Asks, all_at, IsReceiptOrRequest}
+use Rattle.x25_station.specs.Command.{Requests, RequestsWith}
+use Rattle.x25_world.proofs.{Established.{kept_new}, Known.{IsConfigured, is_configured}}
+use Rattle.x25_world.proofs.{WorldLemmas.{refusal-swapped}, sessions.SessionBeside.{MoreIs, none_more, more_again, said_channel}}
 use Rattle.x25_world.proofs.sessions.SessionJoined.{IsEnd, SessionsJoined, Goes, gave_none, sessions_swapped}
+use Rattle.x25_world.proofs.sessions.{SessionReaches.{Leads, TakesAndPuts, turned_takes, leads_turned}, SessionTrace.{layer_of}}
+use Rattle.x25_world.proofs.sessions.acts.{SessionReceives.{receives_joined}, SessionRequests.{requests_joined, gives_joined, said_octets}}
 use Rattle.x25_world.proofs.sessions.acts.SessionTimers.{lost_joined, damaged_joined, fired_joined, connects_joined, connects_alone_joined, disconnects_joined}
-use Rattle.x25_world.proofs.sessions.acts.SessionTimers.{probes_joined, relinks_joined}
-use Rattle.x25_world.proofs.{sessions.acts.SessionRequests.{requests_joined, gives_joined, said_octets}, sessions.acts.SessionReceives.{receives_joined}}
+use Rattle.x25_world.{proofs.sessions.acts.SessionTimers.{probes_joined, relinks_joined}, specs.Healing.{FreeAt}, specs.laws.BesideClaims.{gave_by, gave_at}}
+use Rattle.x25_world.specs.laws.Claims.{UntilSecondUp}
 use Rattle.x25_line.specs.laws.Stations as line
 
 -- what happens at the far end is what happens at the near end of the two ends swapped

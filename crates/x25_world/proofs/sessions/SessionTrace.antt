@@ -1,16 +1,11 @@
 -- What the layers of two stations did, in the order in which it happened, each move in a session of its end. The moves of one session
 -- of each end are those of two layers.
-use Rattle.std.proofs.Common.{◌≡◌, ℕ, ◌==◌, List, [], ◌∷◌, ◌++◌, Bool, true, false, if◌then◌else◌, refl, sym, ap, ap₂, ◌∙◌, append_assoc, append-nil}
-use Rattle.std.proofs.lemmas.Bool.{eq-eqb, ne_eqb}
-use Rattle.x25_bits.specs.{declared.role.Role.{Role}, declared.role.Role.TheVariants.{Dte, Dce}}
-use Rattle.x25_link.specs.Hearing.{other}
-use Rattle.x25_line.specs.laws.SessionClaims.{Each}
-use Rattle.x25_layer.specs.{declared.ranges.Ranges.{Ranges}, Layer.{LayerSettings, goes_up, is_channel}, laws.TwoLayers.{started, pulled_in, moves_in}}
-use Rattle.x25_layer.specs.laws.Apart.{OwnMove, Takes, as_move, own_moves, own_run, Ends, ApartEvent, apart_happens, near_moves, far_moves, IsNext, IsInOrder}
-use Rattle.x25_layer.specs.{laws.Apart.{AreInOrder, Pulls, alone}, Calls.{layer_pulled}, laws.RoundLaw.{moves_all, pulls_of}}
-use Rattle.x25_station.specs.{declared.config.Cfg.{Cfg}, Config.{settings_from, layer_settings}, laws.ReadLaw.{MovesOctets}}
-use Rattle.x25_packet.specs.Packet.{PlainPacket}
-use Rattle.x25_peer.proofs.sessions.SessionLayers.{pulls_asked, asked_leaves}
+use Rattle.x25_world.proofs.Names.{◌≡◌, ℕ, ◌==◌, List, [], ◌∷◌, ◌++◌, Bool, true, false, if◌then◌else◌, refl, sym, ap, ap₂, ◌∙◌, append_assoc, append-nil}
+use Rattle.x25_world.proofs.Names.{eq-eqb, ne_eqb, Role, Dte, Dce, other, Each, Ranges, LayerSettings, goes_up, is_channel, started, pulled_in, moves_in}
+use Rattle.x25_world.proofs.Names.{OwnMove, Takes, as_move, own_moves, own_run, Ends, ApartEvent, apart_happens, IsInOrder, AreInOrder, Pulls, alone}
+use Rattle.x25_world.proofs.Names.{layer_pulled, moves_all, pulls_of, Cfg, settings_from, layer_settings, PlainPacket, pulls_asked, asked_leaves}
+use Rattle.x25_layer.specs.laws.Apart.{near_moves, far_moves, IsNext}
+use Rattle.x25_station.specs.laws.ReadLaw.{MovesOctets}
 use Rattle.x25_layer.specs.laws.TwoLayers as layer
 
 -- the settings of an end's layer

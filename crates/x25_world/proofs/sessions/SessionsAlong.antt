@@ -1,21 +1,14 @@
 -- The window over set-up and re-set-up, along a run: two links with the links and the lines of a world go on as the end of each event asks,
 -- with the machine behind the sessions that stand.
-use Rattle.std.proofs.Common.{◌≡◌, ℕ, ◌+◌, inl, List, [], ◌∷◌, ◌++◌, false, refl, sym, ap, ap₂, ◌∙◌, subst}
-use Rattle.x25_bits.specs.{declared.role.Role.{Role}, declared.role.Role.TheVariants.{Dte, Dce}}
-use Rattle.x25_frame.specs.Reading.{frame_of}
-use Rattle.x25_line.specs.laws.Stations.{StationEnd}
-use Rattle.x25_line.specs.laws.Sessions.{SessionEnd, Sessions, from_nothing, letters, asked, IsTimely, IsTimelyAt, AreTimely}
-use Rattle.x25_line.specs.{laws.SessionClaims.{octets_of}, laws.Said.{Said, said, sabm_of, ua_of, how_many}}
-use Rattle.x25_line.specs.laws.SessionNumbers.{Standing, standing_happens, standing_run, standing_at, EachUpStandsWith, StandingGoesAlong}
-use Rattle.x25_station.specs.{declared.config.Cfg.{Cfg}, laws.KeepLaw.{ConnectKeeps}}
-use Rattle.x25_world.specs.{World.{World, Event, happens, after, run}, laws.Claims.{AreInOctets, link_of}}
-use Rattle.x25_world.specs.{laws.SessionWindow.{all_at, GoesOn, StandsInWindow, SessionsStayInWindow}, laws.SessionClaims.{ThroughoutAlong}}
-use Rattle.x25_world.specs.{Healing.{AreLinksOf}, laws.LawsBelow.{SessionLaws}}
-use Rattle.x25_world.proofs.{Known.{IsConfigured, is_configured}, WorldLemmas.{run_append}}
-use Rattle.x25_world.proofs.sessions.SessionReaches.{Leads, then_leads, joined_at}
-use Rattle.x25_world.proofs.{sessions.SessionJoined.{SessionsJoined}, sessions.SessionRuns.{EventGoes, next, begin_joined, throughout_joined}}
-use Rattle.x25_line.proofs.sessions.SessionsForgotten.{Lasts, Alike as AlikeAlone, happens_alike, runs_alike, turned_alike}
-use Rattle.x25_link.specs.{Hearing.{other}, Station.{LinkSettings, LinkStation}}
+use Rattle.x25_world.proofs.Names.{◌≡◌, ℕ, ◌+◌, inl, List, [], ◌∷◌, ◌++◌, false, refl, sym, ap, ap₂, ◌∙◌, subst, Role, Dte, Dce, frame_of, StationEnd}
+use Rattle.x25_world.proofs.Names.{SessionEnd, Sessions, from_nothing, letters, IsTimely, IsTimelyAt, AreTimely, octets_of, Said, said, sabm_of, ua_of}
+use Rattle.x25_world.proofs.Names.{how_many, Cfg, ConnectKeeps, World, Event, happens, after, run, AreInOctets, link_of, all_at, ThroughoutAlong, AreLinksOf}
+use Rattle.x25_line.proofs.sessions.SessionsForgotten.{Alike as AlikeAlone, happens_alike, turned_alike}
+use Rattle.x25_line.specs.laws.{SessionNumbers.{Standing, standing_happens, standing_run, standing_at, EachUpStandsWith, StandingGoesAlong}, Sessions.{asked}}
+use Rattle.x25_world.proofs.{Known.{IsConfigured, is_configured}, Names.{SessionLaws, Lasts, runs_alike, other, LinkSettings, LinkStation}}
+use Rattle.x25_world.proofs.{WorldLemmas.{run_append}, sessions.SessionJoined.{SessionsJoined}, sessions.SessionReaches.{Leads, then_leads, joined_at}}
+use Rattle.x25_world.proofs.sessions.SessionRuns.{EventGoes, next, begin_joined, throughout_joined}
+use Rattle.x25_world.specs.laws.SessionWindow.{GoesOn, StandsInWindow, SessionsStayInWindow}
 use Rattle.x25_line.specs.laws.Stations as line
 use Rattle.x25_line.specs.laws.Sessions as links
 

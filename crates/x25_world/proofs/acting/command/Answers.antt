@@ -1,19 +1,19 @@
-use Rattle.std.proofs.Common.{inr, sym}
+use Rattle.std.proofs.Common.{inr, refl, sym}
 use Rattle.x25_world.proofs.SideLemmas.{few_put, shared_of, has_happened, is_refusal, side_stays}
 use Rattle.x25_world.proofs.acting.command.Goals as goal
 
-pub returns-in-Err-clause-acted : goal.returns-in-Err-clause-acted
-returns-in-Err-clause-acted c = λ cfg w side.
+pub returns-then-is_err-clause-acted : goal.returns-then-is_err-clause-acted
+returns-then-is_err-clause-acted c = λ cfg w side.
     rw c.refuse.ensures.error (record {
       happened = tt;
-      refused = inr c.in-Err.ensures.refused;
-      stays = rw c.reserve_frames.ensures.line (side_stays c.args.at c.reserve_frames.new.line side side.near);
+      refused = inr refl;
+      stays = rw c.reserve.ensures.same (side_stays c.args.at c.reserve.new.self side side.near);
     })
 
 pub returns-in-Ok-clause-acted : goal.returns-in-Ok-clause-acted
 returns-in-Ok-clause-acted c = λ cfg w side.
     let fits = side.near in
-    let shared = rw (sym c.reserve_frames.ensures.line) at (shared_of c.args.at c.reserve_frames.new.line side) in
+    let shared = rw (sym c.reserve.ensures.same) at (shared_of c.args.at c.reserve.new.self side) in
     let called = c.in-Ok.ensures.does in
     record {
       happened = rw c.put.ensures.line
@@ -23,15 +23,15 @@ returns-in-Ok-clause-acted c = λ cfg w side.
       stays = tt;
     }
 
-pub returns-in-Err-command-clause-acted : goal.returns-in-Err-command-clause-acted
-returns-in-Err-command-clause-acted c = λ cfg w side.
+pub returns-in-Err-clause-acted : goal.returns-in-Err-clause-acted
+returns-in-Err-clause-acted c = λ cfg w side.
     let fits = side.near in
-    let called = c.in-Err-command.ensures.does in
+    let called = c.in-Err.ensures.does in
     record {
       happened = tt;
-      refused = rw c.of_station.ensures (is_refusal cfg c.args.at w _ c.in-Err-command.error (called.refused _ _ fits));
-      stays = rw c.reserve_frames.ensures.line (side_stays c.args.at c.reserve_frames.new.line side (called.stays _ _ fits));
+      refused = rw c.of_station.ensures (is_refusal cfg c.args.at w _ c.in-Err.error (called.refused _ _ fits));
+      stays = rw c.reserve.ensures.same (side_stays c.args.at c.reserve.new.self side (called.stays _ _ fits));
     }
 
 pub returns-in-Ok-clause-places : goal.returns-in-Ok-clause-places
-returns-in-Ok-clause-places c = rw c.put.ensures.line (few_put 9 c.args.line.now c.reserve_frames.new.line c.args.at _ c.reserve_frames.ensures.few)
+returns-in-Ok-clause-places c = rw c.put.ensures.line (few_put 9 c.args.line.now c.reserve.new.self c.args.at _ c.reserve.ensures.few)

@@ -1,4 +1,4 @@
-use Rattle.std.proofs.Common.{sym, ap, inl, inr, ◌∙◌}
+use Rattle.std.proofs.Common.{refl, sym, ap, inl, inr, ◌∙◌}
 use Rattle.x25_station.specs.Config.{settings_from}
 use Rattle.x25_world.specs.World.{refusal_of}
 use Rattle.x25_world.proofs.SideLemmas.{few_put, shared_of, has_happened, is_refusal, side_stays, holds_back, lets_fire}
@@ -13,19 +13,19 @@ returns-then-awaits_frames-clause-acted c = λ cfg w side.
       stays = side;
     })
 
-pub returns-in-Err-clause-acted : goal.returns-in-Err-clause-acted
-returns-in-Err-clause-acted c = λ cfg w side.
-    rw c.refuse-in-Err.ensures.error (record {
+pub returns-then-is_err-clause-acted : goal.returns-then-is_err-clause-acted
+returns-then-is_err-clause-acted c = λ cfg w side.
+    rw c.refuse-then-is_err.ensures.error (record {
       happened = tt;
-      refused = inr c.in-Err.ensures.refused;
-      stays = rw c.reserve_frames.ensures.line (side_stays c.args.at c.reserve_frames.new.line side side.near);
+      refused = inr refl;
+      stays = rw c.reserve.ensures.same (side_stays c.args.at c.reserve.new.self side side.near);
     })
 
 pub returns-in-Ok-clause-acted : goal.returns-in-Ok-clause-acted
 returns-in-Ok-clause-acted c = λ cfg w side.
     let fires = lets_fire (settings_from c.args.at cfg) w (sym (c.awaits_frames.ensures cfg w side) ∙ c.if-awaits_frames.false) in
     let fits = side.near in
-    let shared = rw (sym c.reserve_frames.ensures.line) at (shared_of c.args.at c.reserve_frames.new.line side) in
+    let shared = rw (sym c.reserve.ensures.same) at (shared_of c.args.at c.reserve.new.self side) in
     let called = c.in-Ok.ensures.does in
     record {
       happened = rw (fires, c.put.ensures.line)
@@ -35,16 +35,16 @@ returns-in-Ok-clause-acted c = λ cfg w side.
       stays = tt;
     }
 
-pub returns-in-Err-t1-clause-acted : goal.returns-in-Err-t1-clause-acted
-returns-in-Err-t1-clause-acted c = λ cfg w side.
+pub returns-in-Err-clause-acted : goal.returns-in-Err-clause-acted
+returns-in-Err-clause-acted c = λ cfg w side.
     let fires = lets_fire (settings_from c.args.at cfg) w (sym (c.awaits_frames.ensures cfg w side) ∙ c.if-awaits_frames.false) in
     let fits = side.near in
-    let called = c.in-Err-t1.ensures.does in
+    let called = c.in-Err.ensures.does in
     record {
       happened = tt;
-      refused = rw (fires, c.of_station.ensures) (is_refusal cfg c.args.at w _ c.in-Err-t1.error (called.refused _ _ fits));
-      stays = rw c.reserve_frames.ensures.line (side_stays c.args.at c.reserve_frames.new.line side (called.stays _ _ fits));
+      refused = rw (fires, c.of_station.ensures) (is_refusal cfg c.args.at w _ c.in-Err.error (called.refused _ _ fits));
+      stays = rw c.reserve.ensures.same (side_stays c.args.at c.reserve.new.self side (called.stays _ _ fits));
     }
 
 pub returns-in-Ok-clause-places : goal.returns-in-Ok-clause-places
-returns-in-Ok-clause-places c = rw c.put.ensures.line (few_put 9 c.args.line.now c.reserve_frames.new.line c.args.at _ c.reserve_frames.ensures.few)
+returns-in-Ok-clause-places c = rw c.put.ensures.line (few_put 9 c.args.line.now c.reserve.new.self c.args.at _ c.reserve.ensures.few)

@@ -1,35 +1,27 @@
 -- Octets come, over set-up and re-set-up: the link takes them, and the layer the packet that the link hands up, which is the next of those that
 -- the other end gave in its latest session.
-use Rattle.std.proofs.Common.{◌≡◌, ℕ, zero, suc, ◌≤◌, ◌<◌, inl, inr, List, [], ◌∷◌, ◌++◌, remove, Bool, true, false, if◌then◌else◌, Option, Some, None, Ok}
-use Rattle.std.proofs.{Common.{refl, sym, ap, ◌∙◌, subst, append_assoc, arith}, lemmas.Bool.{and_parts}, lemmas.List.{append_cancel_left, map-append}}
-use Rattle.x25_bits.specs.{declared.role.Role.{Role}, declared.role.Role.TheVariants.{Dte, Dce}}
-use Rattle.x25_packet.specs.Packet.{PlainPacket}
-use Rattle.x25_handshakes.specs.{laws.Histories.{IsPrefix}, laws.Names.{Name}}
-use Rattle.x25_link.specs.Link.{take_step, abandon_step}
-use Rattle.x25_line.specs.laws.Sessions.{SessionEnd, Meeting, Sessions}
-use Rattle.x25_line.specs.laws.SessionClaims.{Each, SomeMet, IsNoEarlier, InStep, MetAreInOrder, UnmetHandNothingUp, octets_of}
-use Rattle.x25_line.specs.laws.SessionEvents.{EachEventMeetsLatest, MeetsOne}
-use Rattle.x25_layer.specs.{Layer.{LayerNotice, layer_answers}, code.FitsLayer.{is_full}, laws.TwoLayers.{HandsUp, moves_in}}
-use Rattle.x25_layer.specs.{laws.RoundLaw.{moves_all, pulls_of}, laws.Apart.{OwnMove, Takes, Ends, own_run, AreInOrder}}
-use Rattle.x25_layer.specs.laws.ApartLaw.{BeginsRestarted, IsToldFirst}
-use Rattle.x25_station.specs.{declared.config.Cfg.{Cfg}, Config.{Settings, settings_from, layer_settings}, Entry.{layer_notices}}
-use Rattle.x25_station.specs.{Step.{Step, follows, abandons, receives}, laws.JoinLaw.{station_with, IsJoined}, laws.KeepLaw.{IsKept}}
-use Rattle.x25_station.specs.laws.ReadLaw.{AreReadable}
-use Rattle.x25_world.specs.{World.{World, Receives, delivered, after, after_step}, laws.ConfirmedClaims.{confirmed_in}, laws.Claims.{link_of}}
-use Rattle.x25_world.specs.{laws.LawsBelow.{SessionLaws}, laws.SessionWindow.{Asks}, Healing.{ComeFreely}}
-use Rattle.x25_world.proofs.{Known.{IsConfigured, true_false}, Growing.{read_by, all_read, is_read, as_read, first_read, FrontEntry, front_entry}}
-use Rattle.x25_world.proofs.sessions.SessionTrace.{layer_of, Done, moved, own, own_goes, events_of, nothing_goes, own_pulls, pulls_take_nothing}
-use Rattle.x25_world.proofs.{sessions.SessionTrace.{pulls_bring_octets, near_pulls, take_takes}, sessions.SessionCounts.{counted_at, counted_by, counted_in}}
-use Rattle.x25_world.proofs.sessions.SessionReaches.{SessionsReach, Leads, Asked, each_put, then_puts, known_sessions, reach_on}
+use Rattle.x25_world.proofs.Names.{◌≡◌, ℕ, zero, suc, ◌≤◌, ◌<◌, inl, inr, List, [], ◌∷◌, ◌++◌, Bool, true, false, if◌then◌else◌, Option, Some, None, Ok, refl}
+use Rattle.x25_world.proofs.Names.{sym, ap, ◌∙◌, subst, append_assoc, arith, and_parts, append_cancel_left, map-append, Role, Dte, Dce, PlainPacket, IsPrefix}
+use Rattle.x25_world.proofs.Names.{Name, take_step, abandon_step, SessionEnd, Meeting, Sessions, Each, SomeMet, IsNoEarlier, InStep, MetAreInOrder, octets_of}
+use Rattle.x25_world.proofs.Names.{LayerNotice, layer_answers, moves_in, moves_all, pulls_of, OwnMove, Takes, Ends, own_run, AreInOrder, BeginsRestarted}
+use Rattle.x25_world.proofs.Names.{IsToldFirst, Cfg, Settings, settings_from, layer_settings, layer_notices, Step, follows, receives, station_with, IsKept}
+use Rattle.x25_world.proofs.Names.{AreReadable, World, Receives, delivered, after, after_step, confirmed_in, link_of, SessionLaws, Asks, all_no_earlier}
+use Rattle.x25_world.proofs.Names.{SessionGoes, StepGoes, step_as, spelled, PutsRead, puts_spelled, puts_of, all_act, LinkSettings, is_up, other, LinkStep}
+use Rattle.std.proofs.Common.{remove}
+use Rattle.x25_layer.specs.{code.FitsLayer.{is_full}, laws.TwoLayers.{HandsUp}}
+use Rattle.x25_line.specs.laws.{SessionClaims.{UnmetHandNothingUp}, SessionEvents.{EachEventMeetsLatest, MeetsOne}}
+use Rattle.x25_peer.proofs.sessions.LinkSteps.{deliver_goes, abandon_goes}
+use Rattle.x25_station.specs.{Step.{abandons}, laws.JoinLaw.{IsJoined}}
+use Rattle.x25_world.proofs.{Growing.{read_by, all_read, is_read, as_read, first_read, FrontEntry, front_entry}, Known.{IsConfigured, true_false}}
+use Rattle.x25_world.proofs.{Names.{IsQuiet}, sessions.SessionBeside.{spelled_bring}, sessions.SessionCounts.{counted_at, counted_by, counted_in}}
+use Rattle.x25_world.proofs.sessions.{SessionEntries.{heard_plain, heard_beside, heard_confirms}, SessionFollows.{no_command, follows_silent, follows_up}}
+use Rattle.x25_world.proofs.sessions.SessionGoes.{here_extended}
 use Rattle.x25_world.proofs.sessions.SessionJoined.{HasMet, PairIsInOrder, PairsAreInOrder, SessionsJoined, Goes, gave_none, stays}
-use Rattle.x25_world.proofs.sessions.SessionBeside.{spelled_bring}
 use Rattle.x25_world.proofs.sessions.SessionKnown.{met_in_order, pair_ends, here_in, here_is, there_is, own_order, own_first, nothing_in_order}
-use Rattle.x25_world.proofs.{sessions.SessionEntries.{heard_plain, heard_beside, heard_confirms}, sessions.SessionGoes.{here_extended}}
-use Rattle.x25_world.proofs.sessions.SessionFollows.{no_command, follows_silent, follows_up}
-use Rattle.x25_world.proofs.sessions.acts.SessionRequests.{pair_goes, pair_stays, puts_readable, joins}
-use Rattle.x25_line.proofs.ends.Meetings.{all_no_earlier}
-use Rattle.x25_peer.proofs.sessions.LinkSteps.{SessionGoes, StepGoes, step_as, deliver_goes, abandon_goes, spelled, PutsRead, puts_spelled, puts_of, all_act}
-use Rattle.x25_link.specs.{Station.{LinkSettings, is_up}, Hearing.{other, LinkStep}, laws.NoteLaw.{IsQuiet}}
+use Rattle.x25_world.proofs.sessions.SessionReaches.{SessionsReach, Leads, Asked, each_put, then_puts, known_sessions, reach_on}
+use Rattle.x25_world.proofs.sessions.SessionTrace.{layer_of, Done, moved, own, own_goes, events_of, nothing_goes, own_pulls, pulls_take_nothing}
+use Rattle.x25_world.proofs.sessions.SessionTrace.{pulls_bring_octets, near_pulls, take_takes}
+use Rattle.x25_world.{proofs.sessions.acts.SessionRequests.{pair_goes, pair_stays, puts_readable, joins}, specs.Healing.{ComeFreely}}
 use Rattle.x25_line.specs.laws.Stations as line
 use Rattle.x25_line.specs.laws.Sessions as links
 use Rattle.x25_line.specs.laws.SessionClaims as met

@@ -1,34 +1,25 @@
 -- A command to the layer in a session, without or with something given: its own packet is put, and then what waits.
-use Rattle.std.proofs.Common.{◌≡◌, ℕ, suc, ◌==◌, ◌≤◌, ◌⊎◌, inl, inr, List, [], ◌∷◌, ◌++◌, Bool, true, Option, None, refl, sym, ap, ◌∙◌, subst, append-nil}
-use Rattle.std.proofs.{Common.{arith, ◌&&◌}, lemmas.Bool.{and_parts}, lemmas.List.{append_cancel_left}}
-use Rattle.x25_bits.specs.declared.role.Role.{Role}
-use Rattle.x25_packet.specs.Packet.{PlainPacket}
-use Rattle.x25_link.specs.{Outgoing.{waits}, Station.{Side, is_up}, Link.{alone}}
-use Rattle.x25_line.specs.{laws.Sessions.{Meeting, Sessions}, laws.SessionClaims.{octets_of}}
-use Rattle.x25_given.specs.Given.{PlainGiven, may_give}
-use Rattle.x25_handshakes.specs.laws.Names.{Name}
-use Rattle.x25_layer.specs.{laws.RoundLaw.{moves_all, pulls_of}, laws.Apart.{OwnMove, Requests, apart_start, own_run, AreInOrder}}
-use Rattle.x25_station.specs.{declared.config.Cfg.{Cfg}, Config.{Settings, settings_from, layer_settings}, Entry.{layer_notices}, Giving.{suits}}
-use Rattle.x25_station.specs.{Step.{Step, Outcome, Did, Refused, requests, gives}, laws.GivenLaw.{GivesOctets}, laws.JoinLaw.{station_with, MovesAs}}
-use Rattle.x25_station.specs.{laws.KeepLaw.{IsKept, KeptBy}, laws.ReadLaw.{AreReadable, RequestsOctets}}
-use Rattle.x25_world.specs.{declared.error.WorldError.{WorldError}, World.{World, Act, of_station, refusal_of, after, after_step}}
-use Rattle.x25_world.specs.{laws.BesideClaims.{came_in, Gave, channel_for, gave_where, IsGiven, AreSomeOf}, laws.ConfirmedClaims.{confirmed_in}}
-use Rattle.x25_world.specs.{laws.Claims.{link_of}, laws.SessionWindow.{Asks}, laws.LawsBelow.{SessionLaws}}
-use Rattle.x25_world.proofs.{Known.{IsConfigured}, Growing.{all_read, as_read, back_read, back_octets}}
+use Rattle.x25_world.proofs.Names.{◌≡◌, ℕ, suc, ◌==◌, ◌≤◌, ◌⊎◌, inl, inr, List, [], ◌∷◌, ◌++◌, Bool, true, Option, None, refl, sym, ap, ◌∙◌, subst, append-nil}
+use Rattle.x25_world.proofs.Names.{arith, ◌&&◌, and_parts, append_cancel_left, Role, PlainPacket, is_up, Meeting, Sessions, octets_of, PlainGiven, may_give}
+use Rattle.x25_world.proofs.Names.{Name, moves_all, pulls_of, OwnMove, Requests, apart_start, own_run, AreInOrder, Cfg, Settings, settings_from, layer_settings}
+use Rattle.x25_world.proofs.Names.{layer_notices, suits, Step, Outcome, Did, Refused, requests, GivesOctets, station_with, IsKept, KeptBy, AreReadable}
+use Rattle.x25_world.proofs.Names.{WorldError, World, Act, of_station, refusal_of, after, after_step, came_in, Gave, channel_for, gave_where, IsGiven}
+use Rattle.x25_world.proofs.Names.{AreSomeOf, confirmed_in, link_of, Asks, SessionLaws, each_append, SessionGoes, spelled, spelled_with, PutsRead, puts_spelled}
+use Rattle.x25_world.proofs.Names.{puts_up, puts_of, all_act, puts_go, pulls_asked, asked_leaves, Layer, LayerNotice, LayerRequest, layer_outcome, AreNoFaults}
+use Rattle.x25_layer.specs.laws.TwoLayers.{Requests as Requested}
+use Rattle.x25_line.proofs.ends.Meetings.{all_map}
+use Rattle.x25_link.specs.{Link.{alone}, Outgoing.{waits}, Station.{Side}}
+use Rattle.x25_peer.proofs.{Granted.{did_granted, gave_granted, suits_asks}, ReadLemmas.{readable_behind}, sessions.LinkSteps.{puts_spelled_with, stays_goes}}
+use Rattle.x25_station.specs.{Step.{gives}, laws.JoinLaw.{MovesAs}, laws.ReadLaw.{RequestsOctets}}
+use Rattle.x25_world.proofs.{Growing.{all_read, as_read, back_read, back_octets}, Known.{IsConfigured}}
+use Rattle.x25_world.proofs.sessions.SessionBeside.{brought, AreTold, spelled_bring, FirstMayGo, spelled_with_bring, own_goes_first}
+use Rattle.x25_world.proofs.sessions.{SessionCounts.{counted_in, CountNone}, SessionEntries.{ArePlain, outcome_plain, outcome_beside, outcome_counts}}
+use Rattle.x25_world.proofs.sessions.SessionGoes.{same_or_not, IsNews, goes_on}
+use Rattle.x25_world.proofs.sessions.SessionJoined.{HasMet, PairIsInOrder, PairsAreInOrder, SessionsJoined, Goes, gave_none, stays}
+use Rattle.x25_world.proofs.sessions.SessionKnown.{met_in_order, pair_ends, own_quiet, own_readable, nothing_in_order}
+use Rattle.x25_world.proofs.sessions.SessionReaches.{Asked, asks_puts, then_puts}
 use Rattle.x25_world.proofs.sessions.SessionTrace.{layer_of, Done, moved, own, own_goes, same_number, pair_at, events_of, pair_more, pair_same, TakeNothing}
 use Rattle.x25_world.proofs.sessions.SessionTrace.{nothing_goes, BringOctets, own_pulls, pulls_take_nothing, pulls_bring_octets, near_pulls}
-use Rattle.x25_world.proofs.sessions.SessionCounts.{counted_in, CountNone}
-use Rattle.x25_world.proofs.sessions.SessionReaches.{Asked, asks_puts, then_puts}
-use Rattle.x25_world.proofs.sessions.SessionJoined.{HasMet, PairIsInOrder, PairsAreInOrder, SessionsJoined, Goes, gave_none, stays}
-use Rattle.x25_world.proofs.sessions.SessionBeside.{brought, AreTold, spelled_bring, FirstMayGo, spelled_with_bring, own_goes_first}
-use Rattle.x25_world.proofs.sessions.SessionKnown.{met_in_order, pair_ends, own_quiet, own_readable, nothing_in_order}
-use Rattle.x25_world.proofs.sessions.SessionEntries.{ArePlain, outcome_plain, outcome_beside, outcome_counts}
-use Rattle.x25_world.proofs.sessions.SessionGoes.{same_or_not, IsNews, goes_on}
-use Rattle.x25_line.proofs.{Lists.{each_append}, ends.Meetings.{all_map}}
-use Rattle.x25_peer.proofs.{Granted.{did_granted, gave_granted, suits_asks}, ReadLemmas.{readable_behind}}
-use Rattle.x25_peer.proofs.sessions.LinkSteps.{SessionGoes, spelled, spelled_with, PutsRead, puts_spelled, puts_spelled_with, puts_up, puts_of, all_act}
-use Rattle.x25_peer.proofs.{sessions.LinkSteps.{puts_go, stays_goes}, sessions.SessionLayers.{pulls_asked, asked_leaves}}
-use Rattle.x25_layer.specs.{Layer.{Layer, LayerNotice}, Calls.{LayerRequest, layer_outcome}, laws.Quiet.{AreNoFaults}, laws.TwoLayers.{Requests as Requested}}
 use Rattle.x25_line.specs.laws.Stations as line
 use Rattle.x25_line.specs.laws.Sessions as links
 use Rattle.x25_circuit.specs.Calling as circuit

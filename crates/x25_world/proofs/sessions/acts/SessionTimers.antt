@@ -1,32 +1,23 @@
 -- Timer T1 runs out, the link is polled, connected, disconnected and set up anew, and octets on the line to an end are lost or damaged, over set-up
 -- and re-set-up.
-use Rattle.std.proofs.Common.{◌≡◌, ℕ, ◌+◌, List, [], ◌∷◌, Bool, true, false, ◌&&◌, if◌then◌else◌, Option, Some, None, Result, Ok, refl, sym, ap, ◌∙◌, subst}
-use Rattle.std.proofs.{Common.{arith, length, remove, nat_lt, Err}, lemmas.Bool.{cond_both, or_parts}}
-use Rattle.std.specs.List.{list_any}
-use Rattle.x25_bits.specs.{declared.role.Role.{Role}, declared.role.Role.TheVariants.{Dte, Dce}}
-use Rattle.x25_frame.specs.{Frame.{PlainFrame, sabm, ua}, Reading.{frame_of}, declared.error.FrameError.{FrameError}}
-use Rattle.x25_frame.specs.declared.error.FrameError.TheVariants.{Short}
-use Rattle.x25_link.specs.laws.NoteLaw.{Tells}
-use Rattle.x25_link.specs.Link.{timer_refusal, timer_step, connect_refusal, connect_step, disconnect_refusal, disconnect_step, probe_refusal, relink_refusal}
-use Rattle.x25_link.specs.Link.{relink_step}
-use Rattle.x25_line.specs.{laws.Loss.{replaced}, laws.Sessions.{Sessions, begun_by, with_octets, letters, IsTimely}}
-use Rattle.x25_line.specs.{laws.SessionClaims.{Each, octets_of}, laws.Stations.{is_visible}, laws.Said.{Said, said, sabm_of, ua_of, how_many}}
-use Rattle.x25_station.specs.{declared.config.Cfg.{Cfg}, Config.{Settings, settings_from, longest_packet}, Command.{Connects, Disconnects, Probes, Relinks}}
-use Rattle.x25_station.specs.Entry.{relink_asked}
-use Rattle.x25_station.specs.Step.{Step, follows, led_by, fires, connects, connects_asked, disconnects, probes, relinks, unless}
-use Rattle.x25_station.specs.laws.KeepLaw.{KeptBy, ConnectKeeps}
-use Rattle.x25_world.specs.{SetUp.{is_a, reads_as, carries}, declared.set_up.SetUpFrame.{SetUpFrame}, declared.set_up.SetUpFrame.TheVariants.{Sabm, Ua}}
-use Rattle.x25_world.specs.World.{World, Declined, Act, Commands, Fires, of_station, is_on_line, fired, after, after_step, Happened, Loses, Damages}
-use Rattle.x25_world.specs.{World.{on_line, lost, damaged}, laws.Claims.{link_of}, laws.SessionWindow.{Asks, all_at}, laws.LawsBelow.{SessionLaws}}
-use Rattle.x25_world.specs.Healing.{IsReceiptOrRequest}
-use Rattle.x25_world.proofs.Known.{IsConfigured, true_false}
-use Rattle.x25_world.proofs.sessions.SessionReaches.{Leads, Asked, reach_on}
-use Rattle.x25_world.proofs.sessions.SessionJoined.{SessionsJoined, Goes, gave_none, stays}
-use Rattle.x25_world.proofs.sessions.SessionFollows.{Lead, no_command, connect, disconnect, relink, lead_of, follows_silent}
-use Rattle.x25_world.proofs.sessions.SessionBeside.{none_more}
-use Rattle.x25_peer.proofs.{Granted.{connects_in_down, relinks_in_up, timer_silent}, sessions.LinkSteps.{act_goes, probe_acts, relink_goes}}
+use Rattle.x25_world.proofs.Names.{◌≡◌, ℕ, ◌+◌, List, [], ◌∷◌, Bool, true, false, ◌&&◌, if◌then◌else◌, Option, Some, None, Result, Ok, refl, sym, ap, ◌∙◌}
+use Rattle.x25_world.proofs.Names.{subst, arith, length, nat_lt, Err, cond_both, list_any, Role, Dte, Dce, PlainFrame, sabm, ua, frame_of, Tells, timer_refusal}
+use Rattle.x25_world.proofs.Names.{timer_step, replaced, Sessions, begun_by, letters, IsTimely, Each, octets_of, is_visible, Said, said, sabm_of, ua_of}
+use Rattle.x25_world.proofs.Names.{how_many, Cfg, Settings, settings_from, longest_packet, Connects, Disconnects, Probes, Relinks, relink_asked, Step, follows}
+use Rattle.x25_world.proofs.Names.{led_by, fires, unless, KeptBy, ConnectKeeps, World, Declined, Act, Commands, Fires, of_station, is_on_line, fired, after}
+use Rattle.x25_world.proofs.Names.{after_step, Happened, Loses, Damages, on_line, damaged, link_of, Asks, all_at, SessionLaws, IsReceiptOrRequest, timer_silent}
+use Rattle.std.proofs.{Common.{remove}, lemmas.Bool.{or_parts}}
+use Rattle.x25_frame.specs.declared.error.{FrameError.{FrameError}, FrameError.TheVariants.{Short}}
 use Rattle.x25_line.proofs.sessions.SessionsForgotten.{octets_removed, octets_replaced}
-use Rattle.x25_link.specs.{declared.error.LinkError.{LinkError}, Station.{LinkStation, awaits_ua, LinkSettings}, Hearing.{other, LinkStep}}
+use Rattle.x25_line.specs.laws.Sessions.{with_octets}
+use Rattle.x25_link.specs.Link.{connect_refusal, connect_step, disconnect_refusal, disconnect_step, probe_refusal, relink_refusal, relink_step}
+use Rattle.x25_peer.proofs.{Granted.{connects_in_down, relinks_in_up}, sessions.LinkSteps.{act_goes, probe_acts, relink_goes}}
+use Rattle.x25_station.specs.Step.{connects, connects_asked, disconnects, probes, relinks}
+use Rattle.x25_world.proofs.{Known.{IsConfigured, true_false}, Names.{LinkError, LinkStation, awaits_ua, LinkSettings, other, LinkStep}}
+use Rattle.x25_world.proofs.sessions.{SessionBeside.{none_more}, SessionFollows.{Lead, no_command, connect, disconnect, relink, lead_of, follows_silent}}
+use Rattle.x25_world.proofs.sessions.{SessionJoined.{SessionsJoined, Goes, gave_none, stays}, SessionReaches.{Leads, Asked, reach_on}}
+use Rattle.x25_world.specs.{SetUp.{is_a, reads_as, carries}, World.{lost}, declared.set_up.SetUpFrame.{SetUpFrame}}
+use Rattle.x25_world.specs.declared.set_up.SetUpFrame.TheVariants.{Sabm, Ua}
 use Rattle.x25_bits.specs.Role as bits
 use Rattle.x25_line.specs.laws.Stations as line
 use Rattle.x25_line.specs.laws.Sessions as links

@@ -1,21 +1,17 @@
 -- Where a stretch is open, the sessions of both ends that stand meet each other; and where the one end is idle, all arrived.
-use Rattle.std.proofs.Common.{◌≡◌, ℕ, ◌≤◌, inl, inr, List, [], length, Bool, true, false, Some, refl, sym, ap, ◌∙◌, subst, arith, Option, None, if◌then◌else◌}
-use Rattle.std.proofs.{Common.{◌==◌, zero, suc, nat_le}, lemmas.Bool.{eqb-true, eq-eqb, leb-true, and_parts, true_from_ne_false}}
-use Rattle.x25_bits.specs.{declared.role.Role.{Role}, declared.role.Role.TheVariants.{Dte, Dce}}
-use Rattle.x25_link.specs.{Hearing.{other}, Station.{is_up}}
-use Rattle.x25_line.specs.{laws.Sessions.{Meeting}, laws.SessionClaims.{EachMeetsLatest, IdleHasArrived}}
-use Rattle.x25_circuit.specs.{declared.state.State.{State}, declared.state.State.TheVariants.{Open}, Circuit.{is_free_in, is_open_in, is_open, Circuit, waits}}
-use Rattle.x25_handshakes.specs.laws.Names.{Name}
-use Rattle.x25_layer.specs.{declared.ranges.Ranges.{Ranges}, Layer.{Layer, rested, is_channel}, laws.Transcript.{name_of}, laws.Law.{HasAllOf, IsIdleTo}}
-use Rattle.x25_layer.specs.code.FitsLayer.{waits_up_to}
-use Rattle.x25_station.specs.{declared.config.Cfg.{Cfg}, Config.{settings_from}, Station.{Station}, laws.KeepLaw.{IsKept}, Station.Told.{is_idle, stretch}}
-use Rattle.x25_world.specs.{World.{World}, laws.Sessions.{last_session, handed_in, meets}, laws.SessionClaims.{OpenStretchesMeet, AllArrive}}
-use Rattle.x25_world.specs.laws.LawsBelow.{SessionLaws}
-use Rattle.x25_world.proofs.{Known.{IsConfigured, true_false}, Growing.{all_read, as_read, none_read, as_many}}
-use Rattle.x25_world.proofs.{sessions.SessionTrace.{layer_of, Done, own_in, own}, sessions.SessionReaches.{known_sessions}}
-use Rattle.x25_world.proofs.sessions.SessionJoined.{HasMet, PairIsInOrder, SessionsJoined, sessions_swapped}
-use Rattle.x25_world.proofs.sessions.SessionKnown.{some_map, met_in_order, of_either}
-use Rattle.x25_line.proofs.ends.Meetings.{all_some}
+use Rattle.x25_world.proofs.Names.{◌≡◌, ℕ, ◌≤◌, inl, inr, List, [], length, Bool, true, false, Some, refl, sym, ap, ◌∙◌, subst, arith, Option, None}
+use Rattle.x25_world.proofs.Names.{if◌then◌else◌, ◌==◌, zero, suc, nat_le, eqb-true, eq-eqb, leb-true, and_parts, Role, Dte, Dce, other, is_up, Meeting}
+use Rattle.x25_world.proofs.Names.{IdleHasArrived, State, Open, is_open_in, is_open, Circuit, waits, Name, Ranges, Layer, rested, is_channel, name_of, HasAllOf}
+use Rattle.x25_world.proofs.Names.{waits_up_to, Cfg, settings_from, Station, IsKept, stretch, World, last_session, handed_in, meets, AllArrive, SessionLaws}
+use Rattle.std.proofs.lemmas.Bool.{true_from_ne_false}
+use Rattle.x25_circuit.specs.Circuit.{is_free_in}
+use Rattle.x25_layer.specs.laws.Law.{IsIdleTo}
+use Rattle.x25_line.specs.laws.SessionClaims.{EachMeetsLatest}
+use Rattle.x25_station.specs.Station.Told.{is_idle}
+use Rattle.x25_world.proofs.{Growing.{all_read, as_read, none_read, as_many}, Known.{IsConfigured, true_false}, Names.{all_some}}
+use Rattle.x25_world.proofs.sessions.{SessionJoined.{HasMet, PairIsInOrder, SessionsJoined, sessions_swapped}, SessionKnown.{some_map, met_in_order, of_either}}
+use Rattle.x25_world.proofs.sessions.{SessionReaches.{known_sessions}, SessionTrace.{layer_of, Done, own_in, own}}
+use Rattle.x25_world.specs.laws.SessionClaims.{OpenStretchesMeet}
 use Rattle.x25_link.specs.Link as link
 use Rattle.x25_layer.specs.laws.TwoLayers as layer
 

@@ -1,29 +1,23 @@
 -- What is handed up and told in a session of an end: a beginning of what was handed down in the one that it meets, and nothing where it
 -- meets none. So what came beside a packet was given there, and what is told as confirmed was handed up.
-use Rattle.std.proofs.Common.{◌≡◌, ℕ, zero, suc, ◌==◌, ◌≤◌, ◌<◌, nat_le, ◌⊎◌, inl, inr, List, [], ◌∷◌, ◌++◌, Bool, true, false, ◌&&◌, Some, None, refl, sym, ap}
-use Rattle.std.proofs.{Common.{◌∙◌, subst, arith}, lemmas.Bool.{eqb-true, leb-true, leb-false}}
-use Rattle.x25_bits.specs.{declared.role.Role.{Role}, declared.role.Role.TheVariants.{Dte, Dce}}
-use Rattle.x25_link.specs.{Hearing.{other}, Station.{is_up}}
-use Rattle.x25_line.specs.{laws.SessionClaims.{OnlyBegunHaveLists, IsInOrder, MetAreInOrder}, laws.Sessions.{Meeting, from_nothing}}
-use Rattle.x25_line.proofs.ends.Meetings.{all_some}
-use Rattle.x25_handshakes.specs.{laws.Histories.{IsPrefix}, laws.Names.{Name}}
-use Rattle.x25_layer.specs.{laws.Transcript.{name_of, under, messages_in}, laws.Law.{HandsUpLawfully}, Layer.{goes_up}}
-use Rattle.x25_layer.specs.{laws.NameLaw.{first_name, counted, IsCounted}, laws.TwoLayers.{started}, laws.Apart.{OwnMove}}
-use Rattle.x25_station.specs.{declared.config.Cfg.{Cfg}, Entry.{StationEntry, link_up, link_down, layer_notices}, laws.KeepLaw.{ConnectKeeps}}
-use Rattle.x25_world.specs.{World.{World, Event, run}, laws.Claims.{entries_at}}
-use Rattle.x25_world.specs.laws.Sessions.{Progress, none_begun, after_entry, is_in, entry_if, session_from, session_at, handed_in, meets, last_session}
-use Rattle.x25_world.specs.{laws.SessionClaims.{AreLawfulWhereMet, UnmetAreToldNothing, AreNamedInSessions, ThroughoutAlong}, laws.LawsBelow.{SessionLaws}}
-use Rattle.x25_world.specs.laws.BesideClaims.{Came, came_in, Gave, gave_in, IsGiven, AreSomeOf, BesideIsGiven}
-use Rattle.x25_world.specs.laws.ConfirmedClaims.{confirmed_in, asked_among, ConfirmedAreHandedUp}
-use Rattle.x25_world.proofs.{Known.{IsConfigured, is_configured}, Growing.{all_read, none_read}}
-use Rattle.x25_world.proofs.sessions.SessionTrace.{layer_of, Done, own_in, own, numbers, pair_at, moves_of_pair}
-use Rattle.x25_world.proofs.sessions.SessionReaches.{known_sessions}
-use Rattle.x25_world.proofs.sessions.SessionJoined.{HasMet, PairIsInOrder, SessionsJoined, sessions_swapped}
-use Rattle.x25_world.proofs.sessions.SessionKnown.{met_in_order, of_either, pair_ends, here_in, there_is}
-use Rattle.x25_world.proofs.{sessions.claims.SessionMeets.{told_met, unmet_up, begun_both}, sessions.acts.SessionRequests.{session_pair}}
+use Rattle.x25_world.proofs.Names.{◌≡◌, ℕ, zero, suc, ◌==◌, ◌≤◌, ◌<◌, nat_le, ◌⊎◌, inl, inr, List, [], ◌∷◌, ◌++◌, Bool, true, false, ◌&&◌, Some, None, refl}
+use Rattle.x25_world.proofs.Names.{sym, ap, ◌∙◌, subst, arith, eqb-true, leb-true, Role, Dte, Dce, other, is_up, OnlyBegunHaveLists, MetAreInOrder, Meeting}
+use Rattle.x25_world.proofs.Names.{from_nothing, all_some, IsPrefix, Name, name_of, under, messages_in, HandsUpLawfully, goes_up, first_name, counted, started}
+use Rattle.x25_world.proofs.Names.{OwnMove, Cfg, StationEntry, link_up, link_down, layer_notices, ConnectKeeps, World, Event, run, entries_at, Progress}
+use Rattle.x25_world.proofs.Names.{none_begun, after_entry, is_in, entry_if, session_from, session_at, handed_in, meets, last_session, ThroughoutAlong}
+use Rattle.x25_world.proofs.Names.{SessionLaws, Came, came_in, Gave, gave_in, IsGiven, AreSomeOf, confirmed_in, asked_among}
+use Rattle.std.proofs.lemmas.Bool.{leb-false}
+use Rattle.x25_layer.specs.laws.NameLaw.{IsCounted}
+use Rattle.x25_line.specs.laws.SessionClaims.{IsInOrder}
+use Rattle.x25_world.proofs.{Growing.{all_read, none_read}, Known.{IsConfigured, is_configured}}
 use Rattle.x25_world.proofs.sessions.SessionBeside.{brought, brought_append, AreTold, MoreIs, some_begin, some_of_same, some_of_none}
-use Rattle.x25_world.proofs.{sessions.SessionRuns.{RunGoes, throughout_goes}, sessions.SessionCounts.{counted_in, none_counted}}
-use Rattle.x25_world.proofs.sessions.SessionConfirms.{up_of, confirms}
+use Rattle.x25_world.proofs.sessions.{SessionConfirms.{up_of, confirms}, SessionCounts.{counted_in, none_counted}}
+use Rattle.x25_world.proofs.sessions.SessionJoined.{HasMet, PairIsInOrder, SessionsJoined, sessions_swapped}
+use Rattle.x25_world.proofs.sessions.{SessionKnown.{met_in_order, of_either, pair_ends, here_in, there_is}, SessionReaches.{known_sessions}}
+use Rattle.x25_world.proofs.sessions.{SessionRuns.{RunGoes, throughout_goes}, SessionTrace.{layer_of, Done, own_in, own, numbers, pair_at, moves_of_pair}}
+use Rattle.x25_world.proofs.sessions.{acts.SessionRequests.{session_pair}, claims.SessionMeets.{told_met, unmet_up, begun_both}}
+use Rattle.x25_world.specs.laws.{BesideClaims.{BesideIsGiven}, ConfirmedClaims.{ConfirmedAreHandedUp}}
+use Rattle.x25_world.specs.laws.SessionClaims.{AreLawfulWhereMet, UnmetAreToldNothing, AreNamedInSessions}
 
 -- ---- which session
 

@@ -1,12 +1,10 @@
 -- Sessions that meet by the transcript meet in step, as those of the two links do.
-use Rattle.std.proofs.{Common.{◌≡◌, ℕ, ◌≤◌, ◌<◌, ◌⊎◌, inl, inr, List, [], ◌∷◌, Option, Some, None, sym, ap, ◌∙◌, arith}, lemmas.Option.{none-some}}
-use Rattle.x25_bits.specs.{declared.role.Role.{Role}, declared.role.Role.TheVariants.{Dte, Dce}}
-use Rattle.x25_link.specs.Hearing.{other}
-use Rattle.x25_line.specs.{laws.Sessions.{Meeting}, laws.SessionClaims.{Each, IsNoEarlier, InStep, OnlyBegunHaveLists}}
-use Rattle.x25_station.specs.declared.config.Cfg.{Cfg}
-use Rattle.x25_world.specs.{World.{World}, laws.Sessions.{last_session, meets}, laws.SessionClaims.{MeetInStep}, laws.LawsBelow.{SessionLaws}}
-use Rattle.x25_world.proofs.{Known.{IsConfigured}, sessions.SessionReaches.{known_sessions}, sessions.SessionJoined.{HasMet, Hears, SessionsJoined}}
-use Rattle.x25_line.proofs.ends.Meetings.{all_no_earlier, all_some}
+use Rattle.x25_world.proofs.Names.{◌≡◌, ℕ, ◌≤◌, ◌<◌, ◌⊎◌, inl, inr, List, [], ◌∷◌, Option, Some, None, sym, ap, ◌∙◌, arith, Role, Dte, Dce, other, Meeting}
+use Rattle.x25_world.proofs.Names.{Each, IsNoEarlier, InStep, OnlyBegunHaveLists, Cfg, World, last_session, meets, SessionLaws, all_no_earlier, all_some}
+use Rattle.std.proofs.lemmas.Option.{none-some}
+use Rattle.x25_world.proofs.Known.{IsConfigured}
+use Rattle.x25_world.proofs.sessions.{SessionJoined.{HasMet, Hears, SessionsJoined}, SessionReaches.{known_sessions}}
+use Rattle.x25_world.specs.laws.SessionClaims.{MeetInStep}
 use Rattle.x25_line.specs.laws.SessionClaims as line
 
 -- ---- by the links

@@ -1,17 +1,15 @@
 -- Over set-up and re-set-up no error of procedure is ever put on the line, or told to a user.
-use Rattle.std.proofs.{Common.{◌≡◌, ℕ, zero, suc, List, [], ◌∷◌, Ok, Contains, sym, subst, arith, ◌≤◌, ◌<◌, ◌⊎◌, inl, inr}, lemmas.List.Elements.{All-nil}}
-use Rattle.x25_bits.specs.{declared.role.Role.{Role}, declared.role.Role.TheVariants.{Dte, Dce}}
-use Rattle.x25_frame.specs.{Frame.{PlainFrame, info, frmr}, Spelling.{spelling_of, information_of}, Reading.{frame_of}, laws.ReadingLaw.{ReadsSpelled}}
-use Rattle.x25_packet.specs.Packet.{PlainPacket}
-use Rattle.x25_line.specs.{laws.StationClaims.{NoFrmr, IsWhole, AreWhole}, laws.SessionClaims.{OnlyBegunHaveLists, NoSessionSendsFrmr, AllSessionsSendWhole}}
-use Rattle.x25_layer.specs.laws.Quiet.{AreQuiet, AreNoFaults}
-use Rattle.x25_station.specs.{Config.{longest_packet}, declared.config.Cfg.{Cfg}, Entry.{layer_notices}, laws.ReadLaw.{AreOctets}}
-use Rattle.x25_world.specs.{World.{OnTap, World}, laws.Claims.{IsQuietRead, IsQuietFrame, IsQuietTap, HasNoProcedureError, entries_at}}
-use Rattle.x25_world.specs.{laws.LawsBelow.{SessionLaws}, laws.TapOctets.{AreOfFrame, AreOfFrames, IsTapOfOctets}}
-use Rattle.x25_world.proofs.{Growing.{read_by, all_read, as_read, first_read, rest_read, AllAreOctets, AreOnTap, octets_in}, Known.{IsConfigured}}
-use Rattle.x25_world.proofs.{sessions.SessionTrace.{own}, sessions.SessionReaches.{known_sessions}}
-use Rattle.x25_world.proofs.{sessions.SessionJoined.{SessionsJoined, sessions_swapped, links_swapped}, sessions.SessionKnown.{own_quiet}}
-use Rattle.x25_world.proofs.{sessions.claims.SessionLawful.{which_session}, sessions.acts.SessionRequests.{session_pair}, FrameOctets.{spelled_of_frame}}
+use Rattle.x25_world.proofs.Names.{◌≡◌, ℕ, zero, suc, List, [], ◌∷◌, Ok, Contains, sym, subst, arith, ◌≤◌, ◌<◌, ◌⊎◌, inl, inr, All-nil, Role, Dte, Dce}
+use Rattle.x25_world.proofs.Names.{PlainFrame, info, frmr, spelling_of, information_of, frame_of, PlainPacket, OnlyBegunHaveLists, AreNoFaults, longest_packet}
+use Rattle.x25_frame.specs.laws.ReadingLaw.{ReadsSpelled}
+use Rattle.x25_layer.specs.laws.Quiet.{AreQuiet}
+use Rattle.x25_line.specs.laws.{SessionClaims.{NoSessionSendsFrmr, AllSessionsSendWhole}, StationClaims.{NoFrmr, IsWhole, AreWhole}}
+use Rattle.x25_world.proofs.{FrameOctets.{spelled_of_frame}, Growing.{read_by, all_read, as_read, first_read, rest_read, AllAreOctets, AreOnTap, octets_in}}
+use Rattle.x25_world.proofs.{Known.{IsConfigured}, Names.{Cfg, layer_notices, AreOctets, OnTap, World, entries_at, SessionLaws, AreOfFrame}}
+use Rattle.x25_world.proofs.sessions.{SessionJoined.{SessionsJoined, sessions_swapped, links_swapped}, SessionKnown.{own_quiet}}
+use Rattle.x25_world.proofs.sessions.{SessionReaches.{known_sessions}, SessionTrace.{own}, acts.SessionRequests.{session_pair}}
+use Rattle.x25_world.{proofs.sessions.claims.SessionLawful.{which_session}, specs.laws.Claims.{IsQuietRead, IsQuietFrame, IsQuietTap, HasNoProcedureError}}
+use Rattle.x25_world.specs.laws.TapOctets.{AreOfFrames, IsTapOfOctets}
 
 -- ---- packets
 

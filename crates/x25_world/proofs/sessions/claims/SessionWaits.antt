@@ -1,26 +1,19 @@
 -- Where both links are idle, and a pull at the one end changes nothing, what waits in an open stretch there waits for the user at the other end.
-use Rattle.std.proofs.Common.{◌≡◌, ℕ, ◌+◌, ◌<◌, inr, List, [], ◌∷◌, ◌++◌, length, Bool, true, false, Some, None, if◌then◌else◌, ◌==◌, ◌&&◌, refl, sym, ap}
-use Rattle.std.proofs.{Common.{subst, ◌∙◌, arith, length-append}, lemmas.Bool.{eqb-true, and_parts}}
-use Rattle.x25_bits.specs.{declared.role.Role.{Role}, declared.role.Role.TheVariants.{Dte, Dce}}
-use Rattle.x25_packet.specs.Packet.{PlainPacket}
-use Rattle.x25_link.specs.{Hearing.{other}, Link.{alone}, Station.{LinkStation, is_up}}
-use Rattle.x25_line.specs.{laws.Sessions.{Meeting}, laws.SessionClaims.{IdleHasArrived}}
-use Rattle.x25_circuit.specs.Circuit.{is_open, waits}
-use Rattle.x25_handshakes.specs.laws.Names.{Name}
-use Rattle.x25_layer.specs.{declared.ranges.Ranges.{Ranges}, Layer.{Layer, is_channel, is_ready}, Calls.{PullsAll, outcome_in, layer_outcome}}
-use Rattle.x25_layer.specs.laws.Rounds.{LinkView, Putting, begin, rounds, Answered, Went, Refuses, went, calls}
-use Rattle.x25_layer.specs.{laws.Apart.{AlwaysApart, apart_run, apart_start, as_world}, laws.Transcript.{name_of}, laws.Law.{HasAllOf}}
-use Rattle.x25_layer.specs.laws.WaitLaw.{PullsNone, RoundsLeaveNone, StillPullsNone, KeepsNoneClosed, OpensNoneInRestart, IsDrained, IsOpenAtBoth}
-use Rattle.x25_layer.specs.laws.WaitLaw.{WaitForUsersAlone}
-use Rattle.x25_station.specs.{declared.config.Cfg.{Cfg}, Config.{Settings, settings_from, link_settings, layer_settings}, Entry.{StationEntry}}
-use Rattle.x25_station.specs.{Station.{Station, all_put, view_of}, Step.{did, requests}, Station.Told.{stretch}}
-use Rattle.x25_world.specs.{World.{World, mirrored, WorldOutcome, Happened, Declined, of_station, swapped_back, after}, laws.Sessions.{last_session, handed_in}}
-use Rattle.x25_world.specs.laws.WaitClaims.{WaitsForUser, Arrived, NotReady, MessagesWaitForUsers, ClosedKeepNone, PullsLeaveNone, UnpulledWaitForUsers}
-use Rattle.x25_world.specs.laws.LawsBelow.{SessionLaws}
-use Rattle.x25_world.proofs.{Known.{IsConfigured, true_false}, Growing.{all_read, as_read, as_many}, sessions.SessionTrace.{layer_of, Done, own}}
-use Rattle.x25_world.proofs.{sessions.SessionReaches.{known_sessions}, sessions.SessionJoined.{PairIsInOrder, SessionsJoined, sessions_swapped}}
-use Rattle.x25_world.proofs.{sessions.SessionKnown.{some_map, met_in_order, of_either}, sessions.acts.SessionRequests.{session_pair}}
+use Rattle.x25_world.proofs.Names.{◌≡◌, ℕ, ◌+◌, ◌<◌, inr, List, [], ◌∷◌, ◌++◌, length, Bool, true, false, Some, None, if◌then◌else◌, ◌==◌, ◌&&◌, refl, sym, ap}
+use Rattle.x25_world.proofs.Names.{subst, ◌∙◌, arith, length-append, eqb-true, and_parts, Role, Dte, Dce, PlainPacket, other, LinkStation, is_up, Meeting}
+use Rattle.x25_world.proofs.Names.{IdleHasArrived, is_open, waits, Name, Ranges, Layer, is_channel, PullsAll, outcome_in, layer_outcome, LinkView, AlwaysApart}
+use Rattle.x25_world.proofs.Names.{apart_run, apart_start, as_world, name_of, HasAllOf, PullsNone, Cfg, Settings, settings_from, link_settings, layer_settings}
+use Rattle.x25_world.proofs.Names.{StationEntry, Station, all_put, view_of, requests, stretch, World, mirrored, WorldOutcome, Happened, Declined, of_station}
+use Rattle.x25_world.proofs.Names.{swapped_back, after, last_session, handed_in, PullsLeaveNone, UnpulledWaitForUsers, SessionLaws}
+use Rattle.x25_layer.specs.{Layer.{is_ready}, laws.Rounds.{Putting, begin, rounds, Answered, Went, Refuses, went, calls}}
+use Rattle.x25_layer.specs.laws.WaitLaw.{RoundsLeaveNone, StillPullsNone, KeepsNoneClosed, OpensNoneInRestart, IsDrained, IsOpenAtBoth, WaitForUsersAlone}
+use Rattle.x25_link.specs.Link.{alone}
+use Rattle.x25_station.specs.Step.{did}
+use Rattle.x25_world.proofs.{Growing.{all_read, as_read, as_many}, Known.{IsConfigured, true_false}}
+use Rattle.x25_world.proofs.sessions.{SessionJoined.{PairIsInOrder, SessionsJoined, sessions_swapped}, SessionKnown.{some_map, met_in_order, of_either}}
+use Rattle.x25_world.proofs.sessions.{SessionReaches.{known_sessions}, SessionTrace.{layer_of, Done, own}, acts.SessionRequests.{session_pair}}
 use Rattle.x25_world.proofs.sessions.claims.SessionArrives.{stretch_of, name_if, open_if, meet_from, latest_near, latest_far}
+use Rattle.x25_world.specs.laws.WaitClaims.{WaitsForUser, Arrived, NotReady, MessagesWaitForUsers, ClosedKeepNone}
 use Rattle.x25_link.specs.Outgoing as outgoing
 use Rattle.x25_link.specs.Link as link
 use Rattle.x25_layer.specs.declared.error.LayerError.TheVariants as error
