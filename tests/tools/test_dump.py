@@ -202,7 +202,7 @@ class Dump(ToolCase):
     def test_comments_empty_lines_and_lines_of_another_system(self):
         given = b"# made by hand\n\n> SABM cmd P=1\n# \xc3\xa4\n"
         self.assertEqual(self.dump(given), given.decode())
-        self.assertEqual(self.dump(given.replace(b"\n", b"\r\n")), given.decode())
+        self.assertEqual(self.dump(b"\xef\xbb\xbf" + given.replace(b"\n", b"\r\n")), given.decode())
         # A capture begins with the octet of an empty line too.
         self.assertEqual(self.dump(b"\n" + given), "\n" + given.decode())
         self.assertEqual(self.dump(given, "--messages"), "")

@@ -49,6 +49,13 @@ class Program(unittest.TestCase):
                 # The first lines that are none of a script are told, and no more.
                 self.assertEqual(done.stderr.count(b"\n"), 21 if words == "sim --down" else 0)
 
+    def test_the_word_that_is_one_too_many(self):
+        for words, named in ("decode trace extra", "extra"), ("decode --wide trace extra", "extra"), ("judge --k 3 trace dte", "dte"), ("decode trace", None), ("decode trace --wide", "trace"):
+            with self.subTest(words):
+                status, said = self.run_on(words.split(), input=b"", stdout=subprocess.DEVNULL)
+                self.assertEqual(status, 2)
+                self.assertTrue(said.startswith(f"error: unexpected argument '{named}' found\n".encode() if named else b"trace: "), said)
+
     def test_a_file_in_place_of_standard_input(self):
         trace, script = (os.path.join(support.ROOT, "examples", name) for name in ("exchange.trace", "call.script"))
         for words, path in (["decode"], trace), (["decode", "--wide"], trace), (["judge", "--k", "3"], trace), (["frame"], trace), (["sim"], script), (["deframe", "dte"], trace):

@@ -43,6 +43,9 @@ OTHER = {">": "<", "<": ">"}
 # What stands after the direction, in place of octets, where any number of that end's frames may be missing; and what that is in words.
 GAP, LACKS = "..", "the capture lacks frames here"
 
+# The mark of UTF-8, with which some editors begin a file.
+MARK = b"\xef\xbb\xbf"
+
 TIME = re.compile(r"([0-9]{1,10})(?:\.([0-9]{1,9}))?")
 FRAME_LINE = re.compile(rb"(?:([0-9]{1,10}(?:\.[0-9]{1,9})?)\t)?([<>]) ([0-9a-fA-F]*)")
 
@@ -148,9 +151,14 @@ def pieces(file: Readable) -> Iterator[bytes]:
     return iter(lambda: file.read1(PIECE), b"")
 
 
+def bare(line: bytes) -> bytes:
+    """A line without the carriage return at its end and the mark of UTF-8 at its front."""
+    return line.removesuffix(b"\r").removeprefix(MARK)
+
+
 def blocks_of_lines(file: Readable) -> Iterator[tuple[int, list[bytes]]]:
-    """Yields the lines of a binary file, each its octets without the line feed, and the carriage return before it, in blocks: the number of the
-    first, and those that are there at once."""
+    """Yields the lines of a binary file, each its octets without the line feed, the carriage return before it and a mark of UTF-8, in blocks: the
+    number of the first, and those that are there at once."""
     number, rest = 1, b""
     for octets in pieces(file):
         text = rest + octets
@@ -159,10 +167,10 @@ def blocks_of_lines(file: Readable) -> Iterator[tuple[int, list[bytes]]]:
         if len(lines[0] if lines else rest) > MOST_CHARACTERS:
             raise BadInput(f"line {number} is longer than {MOST_CHARACTERS:,} characters")
         if lines:
-            yield number, [line.removesuffix(b"\r") for line in lines] if b"\r" in text else lines
+            yield number, [bare(line) for line in lines] if b"\r" in text or MARK in text else lines
             number += len(lines)
     if rest:
-        yield number, [rest.removesuffix(b"\r")]
+        yield number, [bare(rest)]
 
 
 def lines_of(file: Readable) -> Iterator[tuple[int, bytes]]:

@@ -161,6 +161,46 @@ fn asking(line: &str) -> (&str, &'static [Form]) {
     (first, &OF_THE_LINE)
 }
 
+/// Whether a number of 16 bits is written, without a sign or leading zeros.
+fn is_number(word: &str) -> bool {
+    let is_plain = word == "0" || !(word.starts_with('0') || word.starts_with('+'));
+    is_plain && word.parse::<u16>().is_ok()
+}
+
+/// Whether octets are written, or that there are none.
+fn are_octets(word: &str) -> bool {
+    let digits = word.as_bytes();
+    let is_paired = !digits.is_empty() && digits.len() % 2 == 0;
+    word == "-" || is_paired && digits.iter().all(|digit| digit.is_ascii_hexdigit())
+}
+
+/// What a field of a form is, where the word in its place is none.
+fn wanted(field: &str, word: &str) -> Option<&'static str> {
+    match field {
+        "N" if word == "0" || !is_number(word) => Some("a number from 1 to 65535"),
+        "CH" | "PLACE" if !is_number(word) => Some("a number from 0 to 65535"),
+        "HEX" | "FAC" if !are_octets(word) => Some("pairs of digits 0 to f, or -"),
+        _ => None,
+    }
+}
+
+/// The first field of a form in whose place another word stands, and what it is.
+fn misfit<'a>(form: &'a str, line: &str) -> Option<(&'a str, &'static str)> {
+    let fields = form.split(' ').filter(|field| *field != "[d]");
+    let words = line.split(' ').filter(|word| *word != "d");
+    for (field, word) in fields.zip(words) {
+        if let Some(wanted) = wanted(field, word) {
+            return Some((field, wanted));
+        }
+    }
+    None
+}
+
+/// Whether a text has no control characters, and no mark of UTF-8 at its front.
+fn is_plain(text: &str) -> bool {
+    !text.starts_with('\u{FEFF}') && text.as_bytes().iter().all(|octet| *octet >= b' ')
+}
+
 /// Of how many lines it is said what is wrong.
 const MOST_TOLD: u8 = 20;
 
@@ -185,11 +225,14 @@ impl<'a, E: Eprint + AllocGlobal> Explainer<'a, E> {
     fn explain(&self, number: u64, line: &str) {
         let (word, forms) = asking(line);
         if let Some(known) = form_of(word, forms) {
-            eprintln!(self.rt;
-                "line {number}: '{line:.60}' isn't of the form '{}'",
-                known.form
-            )
-            .ok();
+            let form = known.form;
+            if let Some((field, wanted)) = misfit(form, line) {
+                eprintln!(self.rt;
+                    "line {number}: '{line:.60}' isn't of the form '{form}': {field} is {wanted}"
+                ).ok();
+            } else {
+                eprintln!(self.rt; "line {number}: '{line:.60}' isn't of the form '{form}'").ok();
+            }
         } else if let Some(near) = nearest(self.rt.alloc(), word, forms) {
             eprintln!(self.rt;
                 "line {number}: no such event '{line:.60}' (did you mean {}?)",
@@ -213,11 +256,11 @@ impl<'a, E: Eprint + AllocGlobal> Explainer<'a, E> {
             return;
         };
         match str::from_utf8(octets) {
-            Ok(text) if octets.iter().all(|octet| *octet >= b' ') => self.explain(number, text),
+            Ok(text) if is_plain(text) => self.explain(number, text),
             _ => {
                 eprintln!(self.rt;
-                    "line {number}: has other characters than text (--loose takes a time and a tab before \
-                     an event, and a carriage return at its end)"
+                    "line {number}: has other characters than text (--loose takes a time and a tab or the \
+                     mark of UTF-8 before an event, and a carriage return at its end)"
                 )
                 .ok();
             }

@@ -24,7 +24,7 @@ use std::fs::{File, Files};
 use std::io::{ErrorKind, Write};
 use std::process::ExitCode;
 use std::rt::Env;
-use std::{env, io};
+use std::{env, io, mem};
 use tasks::perform;
 use x25_io::{Device, Fault, Source, exit_status};
 use x25_settings::{SettingsError, Task, settings};
@@ -153,6 +153,26 @@ fn on_file<S: AsStr>(alloc: Global, words: &[S]) -> Option<(Task, &str)>
     }
 }
 
+/// Puts the last word before the file that it stands behind, since the parser names the first word that is too many.
+/// A word that begins with a dash stays where it is, and so do plain words.
+fn name_last<S: AsStr>(alloc: Global, words: &mut [S])
+    ensures { (task : TaskValue) → Say (map S.text words.old) task → words.new ≡ words.old }
+{
+    if settings(alloc, words).is_ok() {
+        return;
+    }
+    let is_behind_file = match &*words {
+        [front @ .., _] => on_file(alloc, front).is_some(),
+        [] => false,
+    };
+    if let [.., file, last] = words
+        && is_behind_file
+        && !last.as_str().starts_with('-')
+    {
+        mem::swap(file, last);
+    }
+}
+
 /// Does a task on a file, and answers the exit status: the task's, 3 at a fault, or 2 where there is no such file.
 fn run_on<R: Eprint + AllocGlobal + Files, W: Write>(
     rt: &R,
@@ -186,13 +206,14 @@ fn answer<R: Input + Print + Eprint + Env + AllocGlobal + Files>(rt: &R) -> u8
             return USAGE;
         }
     };
-    let Ok(words) = words.skip(1).collect::<Vec<String>>(rt.alloc()) else {
+    let Ok(mut words) = words.skip(1).collect::<Vec<String>>(rt.alloc()) else {
         return report(rt, Fault::NoMemory);
     };
     let mut writer = Output::new(io::writer(rt));
     match on_file(rt.alloc(), words.as_slice()) {
         Some((task, path)) => run_on(rt, task, path, &mut writer),
         None => {
+            name_last(rt.alloc(), words.as_mut_slice());
             let mut reader = Device::new(rt.reader());
             start(rt, words.as_slice(), &mut reader, &mut writer)
         }

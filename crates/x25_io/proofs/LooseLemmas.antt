@@ -3,9 +3,10 @@ use Rattle.std.proofs.Common.{◌≡◌, ◌∙◌, ◌<◌, ◌≤◌, ◌-◌,
 use Rattle.std.proofs.Common.{get_or, ap, sym, subst, refl, eq-eqb}
 use Rattle.std.specs.Prelude.{◌&&◌, nat_le, nat_lt, if◌then◌else◌, cond, IfSome}
 use Rattle.std.proofs.lemmas.Bool.{lt-leb}
+use Rattle.std.specs.Str.{bytes_eq}
 use Rattle.x25_io.specs.HeldLine.{most_line}
 use Rattle.x25_io.specs.Lines.{IsOpen, lines_of, onto}
-use Rattle.x25_io.specs.Loose.{is_loose, is_passed, stamp_length, without_return, asked_from, asked, carried, asked_lines, asked_text, onto_asked}
+use Rattle.x25_io.specs.Loose.{is_loose, is_passed, stamp_length, bare, without_mark, without_return, asked_from, asked, carried, asked_lines, asked_text, onto_asked}
 use Rattle.x25_io.specs.Loose.{text_of_lines}
 use Rattle.x25_io.proofs.LineLemmas.{ends_line}
 
@@ -72,16 +73,19 @@ open_bare : (line : List ℕ) → IsOpen line → IsOpen (without_return line)
 open_bare line h = by_return line (take (length line - 1) line) (nat_lt 0 (length line) && get_or line (length line - 1) 0 == 13) h
     (open_take (length line - 1) line h)
 
+open_unmarked : (line : List ℕ) → IsOpen line → IsOpen (without_mark line)
+open_unmarked line h = by_return line (drop 3 line) (bytes_eq (take 3 line) (239 ∷ 187 ∷ 191 ∷ [])) h (open_drop 3 line h)
+
 open_asked : (loose : Bool) (line : List ℕ) → IsOpen line → IfSome (asked loose line) IsOpen
 unfolding asked
 open_asked loose line h = go (is_loose loose line)
   where
-    passed : (b : Bool) → IfSome (if b then None else Some (drop (stamp_length (without_return line)) (without_return line))) IsOpen
+    passed : (b : Bool) → IfSome (if b then None else Some (drop (stamp_length (bare line)) (bare line))) IsOpen
     passed true = tt
-    passed false = open_drop (stamp_length (without_return line)) (without_return line) (open_bare line h)
+    passed false = open_drop (stamp_length (bare line)) (bare line) (open_unmarked _ (open_bare line h))
 
-    go : (b : Bool) → IfSome (if b then asked_from (without_return line) else Some line) IsOpen
-    go true = passed (is_passed (without_return line))
+    go : (b : Bool) → IfSome (if b then asked_from (bare line) else Some line) IsOpen
+    go true = passed (is_passed (bare line))
     go false = h
 
 open_with : (o : Option (List ℕ)) (lines : List (List ℕ)) → IfSome o IsOpen → AreOpen lines → AreOpen (onto_asked o lines)

@@ -1,10 +1,11 @@
--- What may stand on a line beside what it asks (profile): a time before it, a carriage return behind it, a comment in
--- its place.
+-- What may stand on a line beside what it asks (profile): a time or a mark before it, a carriage return behind it, a
+-- comment in its place.
 use Rattle.std.specs.Prelude.{ℕ, ◌+◌, ◌-◌, ◌==◌, ◌&&◌, nat_le, nat_lt, Bool, true, false, not, List, [], ◌∷◌, ◌++◌}
 use Rattle.std.specs.Prelude.{length, take}
 use Rattle.std.specs.Prelude.{drop, if◌then◌else◌, Option, Some, None, slice_index}
 use Rattle.std.specs.Char.{is_ascii_digit}
 use Rattle.std.specs.List.{position}
+use Rattle.std.specs.Str.{bytes_eq}
 use Rattle.x25_io.specs.HeldLine.{most_line}
 use Rattle.x25_io.specs.Lines.{lines_of}
 
@@ -12,6 +13,13 @@ use Rattle.x25_io.specs.Lines.{lines_of}
 abbrev pub without_return : List ℕ → List ℕ
 without_return line = let last = length line - 1 in
     if nat_lt 0 (length line) && slice_index line last == 13 then take last line else line
+
+-- the line without the mark of UTF-8 at its front
+abbrev pub without_mark : List ℕ → List ℕ
+without_mark line = let mark = 239 ∷ 187 ∷ 191 ∷ [] in if bytes_eq (take 3 line) mark then drop 3 line else line
+
+abbrev pub bare : List ℕ → List ℕ
+bare line = without_mark (without_return line)
 
 -- an empty line and a comment, which begins with `#`, ask nothing
 abbrev pub is_passed : List ℕ → Bool
@@ -36,14 +44,14 @@ abbrev pub carried_from : List ℕ → List ℕ
 carried_from line = if is_passed line then line else take (stamp_length line) line
 
 abbrev pub carried_by : List ℕ → List ℕ
-carried_by line = carried_from (without_return line)
+carried_by line = carried_from (bare line)
 
 -- what is asked behind it
 abbrev pub asked_from : List ℕ → Option (List ℕ)
 asked_from line = if is_passed line then None else Some (drop (stamp_length line) line)
 
 abbrev pub asked_in : List ℕ → Option (List ℕ)
-asked_in line = asked_from (without_return line)
+asked_in line = asked_from (bare line)
 
 -- A longer line isn't read so.
 abbrev pub is_loose : Bool → List ℕ → Bool

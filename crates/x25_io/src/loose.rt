@@ -1,9 +1,10 @@
-//! What may stand on a line beside what it asks: a time before it, a carriage return behind it, a comment in its place.
+//! What may stand on a line beside what it asks: a time or a mark before it, a carriage return behind it, a comment in
+//! its place.
 ghost use Rattle.std.specs.Prelude.{◌≡◌, ◌≤◌, None, Some, IfSome, MatchOption, length};
 ghost use Rattle.std.specs.List.{position};
 ghost use Rattle.x25_io.specs.HeldLine.{most_line};
 ghost use Rattle.x25_io.specs.Loose.{asked, asked_in, carried, carried_by, is_passed, is_past_time, stamp_length};
-ghost use Rattle.x25_io.specs.Loose.{without_return as bare_line};
+ghost use Rattle.x25_io.specs.Loose.{without_mark as unmarked_line, without_return as bare_line};
 
 use crate::device::Sink;
 use crate::fault::Fault;
@@ -44,6 +45,14 @@ fn without_return(line: &[u8]) -> &[u8]
     }
 }
 
+/// A line without the mark of UTF-8 at its front.
+fn without_mark(line: &[u8]) -> &[u8]
+    ensures value { result.now ≡ unmarked_line line.now }
+    ensures shorter { length result.now ≤ length line.now }
+{
+    line.strip_prefix(b"\xEF\xBB\xBF").unwrap_or(line)
+}
+
 /// Whether a line is empty or a comment, which begins with `#`.
 fn asks_nothing(line: &[u8]) -> bool
     ensures { result ≡ is_passed line.now }
@@ -60,7 +69,7 @@ fn split_read_loosely(line: &[u8]) -> (&[u8], Option<&[u8]>)
     ensures asked { MatchOption result.1 (asked_in line.now ≡ None) (λ found. asked_in line.now ≡ Some found.now) }
     ensures shorter { IfSome result.1 (λ found. length found.now ≤ length line.now) }
 {
-    let line = without_return(line);
+    let line = without_mark(without_return(line));
     if asks_nothing(line) {
         return (line, None);
     }
@@ -71,8 +80,8 @@ fn split_read_loosely(line: &[u8]) -> (&[u8], Option<&[u8]>)
 /// What goes before the answer to a line, and what the line asks.
 ///
 /// With `loose` a time and its tab go before the answer, and what stands behind them is asked; an empty line and a
-/// comment, which begins with `#`, go there whole, and ask nothing; and a carriage return at the end is of neither.
-/// Else all of the line is asked. Profile.
+/// comment, which begins with `#`, go there whole, and ask nothing; and a carriage return at the end and the mark of
+/// UTF-8 at the front are of neither. Else all of the line is asked. Profile.
 #[tactic(auto, unfolding(crate::specs::Loose::carried, crate::specs::Loose::asked))]
 pub fn split_loose(loose: bool, line: &[u8]) -> (&[u8], Option<&[u8]>)
     ensures carried { length line.now ≤ most_line → result.0.now ≡ carried loose line.now }
