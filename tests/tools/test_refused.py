@@ -76,12 +76,12 @@ class Answers(unittest.TestCase):
         return refused.player_answer(Player(*done), self.WHOLE, 3)
 
     def test_the_call_that_met_the_refusal(self):
-        text = self.WHOLE.replace(b"dce", b"Link::take refused\ndce")
-        self.assertEqual(self.answer(text, 0, b""), ("Link::take", None))
+        text = self.WHOLE.replace(b"dce", b"Link::hear refused\ndce")
+        self.assertEqual(self.answer(text, 0, b""), ("Link::hear", None))
         self.assertEqual(self.answer(self.WHOLE, 0, b""), (None, None))
 
     def test_what_differs(self):
-        twice = self.WHOLE + b"Link::take refused\n" * 2
+        twice = self.WHOLE + b"Link::hear refused\n" * 2
         for done in [(b"", 0, b""), (self.WHOLE, 1, b"it changed\n"), (twice, 0, b""), (self.WHOLE + b"x\n", 0, b"")]:
             with self.subTest(done):
                 name, difference = self.answer(*done)

@@ -1,13 +1,9 @@
 -- What is asked for in one call.
-use Rattle.std.proofs.Common.{◌≡◌, ◌≢◌, Result, Ok, Err, IfErr, OnErr, None, refl, sym, ap}
-use Rattle.x25_circuit.specs.declared.requested.Requested.{Requested}
+use Rattle.x25_circuit.proofs.Names.{◌≡◌, ◌≢◌, Result, Ok, Err, None, Some, refl, sym, ap, CircuitSettings, Refused, refusal_of, NoMemory}
+use Rattle.std.proofs.Common.{IfErr, OnErr}
+use Rattle.x25_circuit.specs.{Calling.{Outcome, Done}, Request.{AnswersRequest, with_packet}, code.FitsCircuit.{Sends, SendsOrLacks, IsDone}}
+use Rattle.x25_circuit.specs.declared.{error.CircuitError.{CircuitError}, requested.Requested.{Requested}}
 use Rattle.x25_circuit.specs.declared.circuit.Circuit as code
-use Rattle.x25_circuit.specs.declared.error.CircuitError.{CircuitError}
-use Rattle.x25_circuit.specs.declared.error.CircuitError.TheVariants.{NoMemory}
-use Rattle.x25_circuit.specs.Circuit.{CircuitSettings}
-use Rattle.x25_circuit.specs.Calling.{Outcome, Done, Refused}
-use Rattle.x25_circuit.specs.code.FitsCircuit.{Sends, SendsOrLacks, IsDone}
-use Rattle.x25_circuit.specs.Request.{AnswersRequest, refusal_of, with_packet}
 
 -- a call with a packet to send is one that may have a packet
 pub asked : (c : CircuitSettings) (v : code.Circuit) (r : Result Requested CircuitError) (o : Outcome) → Sends c v r o → AnswersRequest c v (with_packet r) o
@@ -40,6 +36,11 @@ lacked (Err e) is = ap (λ (f : CircuitError). Err f) (err_is e NoMemory is)
 pub not_refused : (o : Outcome) → IsDone o → refusal_of o ≡ None
 not_refused (Done next packet) accepted = refl
 not_refused (Refused e) accepted = absurd accepted
+
+-- a refusal that is told is that of the definition
+pub is_refused : (o : Outcome) (e : CircuitError) → Some e ≡ refusal_of o → o ≡ Refused e
+is_refused (Done next packet) e is = absurd (cc)
+is_refused (Refused f) e is = cc
 
 pub all_err : {T E P : Type 0} (r : Result T E) → P → OnErr r P
 all_err (Ok x) p = tt

@@ -1,13 +1,8 @@
 -- How many messages ask for confirmation, of what was sent and what waits.
-use Rattle.std.proofs.Common.{◌≡◌, ℕ, zero, suc, ◌+◌, ◌≤◌, List, [], ◌∷◌, ◌++◌, length, take, drop, map, slice_get, Some, Bool, true, false, nat_le}
-use Rattle.std.proofs.Common.{if◌then◌else◌, refl, sym, ap, subst, ◌∙◌, arith}
+use Rattle.x25_circuit.proofs.Names.{◌≡◌, ℕ, zero, suc, ◌+◌, ◌≤◌, List, [], ◌∷◌, ◌++◌, length, take, drop, map, slice_get, Some, Bool, true, false, nat_le}
+use Rattle.x25_circuit.proofs.Names.{if◌then◌else◌, refl, sym, ap, subst, ◌∙◌, arith, from_bool, bit, Marks, with_q, first_cut, Message, Piece, More, Last}
+use Rattle.x25_circuit.proofs.Names.{piece_of, asks, asked_in, wholes, ends_of, cut_from}
 use Rattle.std.proofs.lemmas.List.{drop-drop, drop-map}
-use Rattle.std.specs.Int.{from_bool}
-use Rattle.x25_bits.specs.Bits.{bit}
-use Rattle.x25_packet.specs.declared.marks.Marks.{Marks}
-use Rattle.x25_packet.specs.Marks.{with_q}
-use Rattle.x25_circuit.specs.code.Cutter.{first_cut}
-use Rattle.x25_circuit.specs.Message.{Message, Piece, More, Last, piece_of, asks, asked_in, wholes, ends_of, cut_from}
 
 pub asked_append : (ps rs : List Piece) → asked_in (ps ++ rs) ≡ asked_in ps + asked_in rs
 asked_append [] rs = omega arith

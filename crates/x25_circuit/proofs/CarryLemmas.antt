@@ -1,12 +1,9 @@
 -- The packets of a message carry it.
-use Rattle.std.proofs.Common.{◌≡◌, ℕ, zero, suc, ◌+◌, ◌≤◌, List, [], ◌∷◌, ◌++◌, length, take, drop, None, Bool, true, false, nat_le, if◌then◌else◌, refl, sym}
-use Rattle.std.proofs.Common.{ap, ◌∙◌, arith, append_assoc, append-nil}
-use Rattle.std.proofs.lemmas.Bool.{le-leb, leb-true, leb-false}
-use Rattle.std.proofs.lemmas.List.{length-drop, length-take-le, take-append-drop, length-append}
-use Rattle.x25_packet.specs.declared.marks.Marks.{Marks}
-use Rattle.x25_packet.specs.Marks.{with_q}
-use Rattle.x25_circuit.specs.Message.{Message, Piece, More, Last, Partial, no_part, joined, joining, completed, carried_from, carried, same_q, may_have_q}
-use Rattle.x25_circuit.specs.Message.{ground_of, AreSound, cut, cut_from}
+use Rattle.x25_circuit.proofs.Names.{◌≡◌, ℕ, zero, suc, ◌+◌, ◌≤◌, List, [], ◌∷◌, ◌++◌, length, take, drop, None, Bool, true, false, nat_le, if◌then◌else◌, refl}
+use Rattle.x25_circuit.proofs.Names.{sym, ap, ◌∙◌, arith, append_assoc, append-nil, le-leb, leb-true, leb-false, length-drop, Marks, with_q, Message, Piece}
+use Rattle.x25_circuit.proofs.Names.{More, Last, Partial, no_part, joined, joining, ground_of, cut, cut_from, length-append, completed}
+use Rattle.std.proofs.lemmas.List.{length-take-le, take-append-drop}
+use Rattle.x25_circuit.specs.Message.{carried_from, carried, same_q, may_have_q, AreSound}
 use Rattle.x25_circuit.specs.laws.MessageLaws.{CutCarries, CutIsSound, SendAdds, SendStaysWhole, TakeAdds}
 
 joining_append : (j : Partial) (ps rs : List Piece) → joining j (ps ++ rs) ≡ joining (joining j ps) rs

@@ -1,3 +1,4 @@
+pub mod Names
 pub mod TableLemmas
 pub mod ParamsLemmas
 pub mod MessageLemmas

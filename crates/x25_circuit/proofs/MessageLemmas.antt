@@ -1,12 +1,7 @@
 -- How messages are cut and joined.
-use Rattle.std.proofs.Common.{◌≡◌, ℕ, zero, suc, ◌+◌, ◌≤◌, ◌<◌, List, [], ◌∷◌, ◌++◌, length, take, drop, Bool, true, false, nat_le, if◌then◌else◌, refl, sym}
-use Rattle.std.proofs.Common.{ap, ◌∙◌, arith, add_assoc, append_assoc, append-nil}
-use Rattle.std.proofs.lemmas.Bool.{le-leb, leb-false}
-use Rattle.std.proofs.lemmas.List.{length-drop}
-use Rattle.x25_packet.specs.declared.marks.Marks.{Marks}
-use Rattle.x25_packet.specs.Marks.{with_q}
-use Rattle.x25_circuit.specs.code.Cutter.{first_cut, first_left}
-use Rattle.x25_circuit.specs.Message.{Message, Piece, More, Last, Partial, joined, joining, cut, cut_from, cut_all, ends_of, wholes}
+use Rattle.x25_circuit.proofs.Names.{◌≡◌, ℕ, zero, suc, ◌+◌, ◌≤◌, ◌<◌, List, [], ◌∷◌, ◌++◌, length, take, drop, Bool, true, false, nat_le, if◌then◌else◌, refl}
+use Rattle.x25_circuit.proofs.Names.{sym, ap, ◌∙◌, arith, add_assoc, append_assoc, append-nil, le-leb, leb-false, length-drop, Marks, with_q, first_cut}
+use Rattle.x25_circuit.proofs.Names.{Message, Piece, More, Last, Partial, joined, joining, cut, cut_from, cut_all, ends_of, wholes, first_left}
 
 pub wholes_append : (ps rs : List Piece) → wholes (ps ++ rs) ≡ wholes ps + wholes rs
 wholes_append [] rs = omega arith

@@ -1,24 +1,11 @@
 -- What a sender counts, and keeps of each packet.
-use Rattle.std.proofs.Common.{◌≡◌, ℕ, ◌+◌, ◌-◌, ◌<◌, ◌≤◌, Bool, IsErr, IfOk, OnOk, Result, Ok, Err, is_ok, true, refl, List, [], ◌∷◌, ◌++◌, map, length, drop}
-use Rattle.std.proofs.Common.{slice_get, min, Some, sym, ap, subst, ◌∙◌, add_assoc, arith}
-use Rattle.std.proofs.lemmas.List.{length-drop, length-map, map-append}
-use Rattle.std.specs.Int.{from_bool}
-use Rattle.x25_bits.specs.Bits.{bit}
+use Rattle.x25_circuit.proofs.Names.{◌≡◌, ℕ, ◌+◌, ◌<◌, ◌≤◌, Bool, Result, Ok, Err, true, refl, List, [], ◌∷◌, ◌++◌, map, length, drop, slice_get, Some, sym, ap}
+use Rattle.x25_circuit.proofs.Names.{subst, ◌∙◌, add_assoc, arith, length-drop, from_bool, bit, Held, resolved, Marks, Transfer, Talk, Piece, asks, asked_in}
+use Rattle.std.proofs.{Common.{IsErr, IfOk, OnOk, is_ok, min}, lemmas.List.{map-append}}
 use Rattle.x25_bits.specs.declared.seq.Seq.{Seq}
-use Rattle.x25_window.specs.declared.window_error.WindowError.{WindowError}
-use Rattle.x25_window.specs.Sender.{Sending, Acknowledges, offered, acknowledged}
-use Rattle.x25_window.specs.code.Held.{Held, Fits}
-use Rattle.x25_window.specs.code.Modulo.{resolved}
-use Rattle.x25_packet.specs.declared.marks.Marks.{Marks}
-use Rattle.x25_circuit.specs.declared.transfer.Transfer.{Transfer}
-use Rattle.x25_circuit.specs.Circuit.{Talk}
-use Rattle.x25_circuit.specs.Message.{Piece, asks, asked_in, cut}
-use Rattle.x25_circuit.specs.Queue.{waiting}
-use Rattle.x25_circuit.specs.code.Changes.{with_acked}
-use Rattle.x25_circuit.specs.code.Fits.{FitsTalk}
-use Rattle.x25_circuit.specs.code.FitsNumbers.{FitsNumbers}
 use Rattle.x25_circuit.proofs.AskedLemmas.{asked_append, asked_cut, asked_few, asked_fewer, asked_next, asked_short, bit_few, byte_is_bit, drop_sent}
-use Rattle.x25_circuit.proofs.TalkLemmas.{acked_fits, waits_are}
+use Rattle.x25_circuit.proofs.{Names.{◌-◌, length-map, cut, waiting, with_acked, FitsTalk, FitsNumbers}, TalkLemmas.{acked_fits, waits_are}}
+use Rattle.x25_window.specs.{Sender.{Sending, Acknowledges, offered, acknowledged}, code.Held.{Fits}, declared.window_error.WindowError.{WindowError}}
 
 -- one packet more is sent, which isn't refused while there is room
 pub numbers_sent : (old new : Held Bool) (r : Result Seq WindowError) (n : ℕ) (sent : List Piece) (p : Piece) (b : Bool)

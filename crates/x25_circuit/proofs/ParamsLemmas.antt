@@ -1,17 +1,14 @@
 -- Packet sizes and windows that are proposed, said and answered.
-use Rattle.std.proofs.Common.{◌≡◌, ◌≤◌, ℕ, List, [], ◌∷◌, ◌++◌, Option, Some, None, Result, Ok, Err, Bool, true, false, ◌==◌, ◌&&◌, ◌||◌, nat_le, if◌then◌else◌}
-use Rattle.std.proofs.Common.{refl, sym, ap, ◌∙◌, arith, lit≤}
-use Rattle.std.proofs.lemmas.Bool.{le-leb, leb-true, leb-false, eqb-true, eq-eqb, and_parts, and_from, or_left, or_right}
-use Rattle.std.proofs.Math.Nat.{pow-le-pow_right}
-use Rattle.x25_packet.specs.declared.error.PacketError.{PacketError}
-use Rattle.x25_packet.specs.declared.error.PacketError.TheVariants.{BadFacility, BadParameter}
-use Rattle.x25_packet.specs.declared.facilities.Facilities.{Facilities}
-use Rattle.x25_packet.specs.declared.facilities.Directions.{Directions}
-use Rattle.x25_packet.specs.Facilities.{AreWithin, IfGiven, facilities_of, facility, field_of, is_within, last, with_sizes, windows_of as windows_in}
-use Rattle.x25_circuit.specs.declared.params.Params.{Params}
-use Rattle.x25_circuit.specs.Params.{in_brief, in_full, may_propose, is_toward, sizes_of, windows_of, params_of, news, said_of, said_or, said_by, terms_of}
+use Rattle.x25_circuit.proofs.Names.{◌≡◌, ◌≤◌, ℕ, List, [], ◌∷◌, ◌++◌, Option, Some, None, Result, Ok, Err, Bool, true, false, ◌==◌, ◌&&◌, nat_le}
+use Rattle.x25_circuit.proofs.Names.{if◌then◌else◌, refl, sym, ap, ◌∙◌, arith, le-leb, leb-true, leb-false, eqb-true, PacketError, Params, lit≤, and_from}
+use Rattle.x25_circuit.proofs.Names.{may_propose}
+use Rattle.std.proofs.{Common.{◌||◌}, Math.Nat.{pow-le-pow_right}, lemmas.Bool.{eq-eqb, and_parts, or_left, or_right}}
+use Rattle.x25_circuit.specs.Params.{in_brief, in_full, is_toward, sizes_of, windows_of, params_of, news, said_of, said_or, said_by, terms_of}
 use Rattle.x25_circuit.specs.laws.ParamsLaws.{FieldIsSaid, FullIsReadAlike, FullSaysAll, NoFieldIsKnown, KnownIsNoField, FieldIsAllowed, SaidIsAllowed}
 use Rattle.x25_circuit.specs.laws.ParamsLaws.{ProposalIsAnswer, DefaultIsAnswer, AnswerIsAllowed, AreTerms, TermsAreAllowed}
+use Rattle.x25_packet.specs.Facilities.{AreWithin, IfGiven, facilities_of, facility, field_of, is_within, last, with_sizes, windows_of as windows_in}
+use Rattle.x25_packet.specs.declared.{error.PacketError.TheVariants.{BadFacility, BadParameter}, facilities.Directions.{Directions}}
+use Rattle.x25_packet.specs.declared.facilities.Facilities.{Facilities}
 
 -- ---- tests
 

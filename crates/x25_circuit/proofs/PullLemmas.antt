@@ -1,24 +1,12 @@
 -- The next data packet of a circuit.
-use Rattle.std.proofs.Common.{arith, ◌≡◌, ℕ, ◌+◌, ◌%◌, Bool, true, false, ◌&&◌, nat_lt, List, [], ◌∷◌, length, Option, Some, None, IfSome, IfNone, inl, inr}
-use Rattle.std.proofs.Common.{refl, sym, ap, subst, ◌∙◌}
+use Rattle.x25_circuit.proofs.Names.{arith, ◌≡◌, ℕ, ◌+◌, ◌%◌, Bool, true, false, ◌&&◌, List, [], ◌∷◌, length, Option, Some, None, refl, sym, ap, subst, ◌∙◌}
+use Rattle.x25_circuit.proofs.Names.{Marks, State, Open, Transfer, Message, Piece, piece_of, cut_all, waiting, CircuitSettings, Circuit, outgoing, FitsTalk}
+use Rattle.std.proofs.Common.{nat_lt, IfNone}
+use Rattle.x25_circuit.proofs.{Names.{IfSome, inl, inr, FitsCircuit, has_memory, Pulled}, TalkLemmas.{with_transfer}}
+use Rattle.x25_circuit.specs.{Calling.{pulled, pull_in, pull_open, pulls_nothing, data_packet}, Pulling.{packet_with}, code.Changes.{with_sent}}
+use Rattle.x25_circuit.specs.{code.Fits.{IsHeld, IsSent}, declared.terms.Terms.{Terms}, declared.transfer.Header.{Header}}
 use Rattle.x25_packet.specs.Packet.{user_data}
-use Rattle.x25_packet.specs.declared.marks.Marks.{Marks}
 use Rattle.x25_circuit.specs.declared.circuit.Circuit as code
-use Rattle.x25_circuit.specs.declared.state.State.{State}
-use Rattle.x25_circuit.specs.declared.state.State.TheVariants.{Open}
-use Rattle.x25_circuit.specs.declared.terms.Terms.{Terms}
-use Rattle.x25_circuit.specs.declared.transfer.Transfer.{Transfer}
-use Rattle.x25_circuit.specs.declared.transfer.Header.{Header}
-use Rattle.x25_circuit.specs.Message.{Message, Piece, piece_of, cut_all}
-use Rattle.x25_circuit.specs.Queue.{waiting}
-use Rattle.x25_circuit.specs.Circuit.{CircuitSettings, Circuit, outgoing}
-use Rattle.x25_circuit.specs.code.Changes.{with_sent}
-use Rattle.x25_circuit.specs.Calling.{Pulled, pulled, pull_in, pull_open, pulls_nothing, data_packet}
-use Rattle.x25_circuit.specs.code.Fits.{FitsTalk, IsHeld, IsSent}
-use Rattle.x25_circuit.specs.code.FitsCircuit.{FitsCircuit}
-use Rattle.x25_circuit.specs.Pulling.{packet_with}
-use Rattle.x25_circuit.specs.code.CallMemory.{has_memory}
-use Rattle.x25_circuit.proofs.TalkLemmas.{with_transfer}
 
 -- where no message waits
 pulls_none : (c : CircuitSettings) (x : Circuit) (s : State) → x.talk.rest ≡ [] → pull_in c x s ≡ pulls_nothing x

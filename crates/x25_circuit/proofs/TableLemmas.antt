@@ -1,30 +1,18 @@
 -- The rows of the table for the states that a packet has in common.
-use Rattle.std.proofs.Common.{◌≡◌, ◌≢◌, ℕ, [], ◌∷◌, List, length, Option, Some, None, refl, sym, ap, ◌∙◌, Bool, true, false, ◌<◌, ◌≤◌, ◌++◌, not, ◌&&◌, ◌==◌}
-use Rattle.std.proofs.lemmas.Bool.{le-leb, lt-leb, lt-ltb}
-use Rattle.x25_bits.specs.declared.role.Role.{Role}
+use Rattle.x25_circuit.proofs.Names.{◌≡◌, ◌≢◌, ℕ, [], ◌∷◌, List, length, Option, Some, None, refl, sym, ap, ◌∙◌, Bool, true, false, ◌<◌, ◌≤◌, ◌++◌, not, ◌&&◌}
+use Rattle.x25_circuit.proofs.Names.{◌==◌, le-leb, PacketError, Marks, State, Open, Params, CircuitSettings, Circuit, outgoing, with_rest, cut, Refused, lt-ltb}
+use Rattle.x25_circuit.proofs.Names.{Role, awaited_in, is_any, call_in, waits, row_undecoded, row_clear, collided, Proposal, may_answer, said_in, Says}
+use Rattle.x25_circuit.proofs.Names.{notices_of, Calling, Arriving, Collision}
+use Rattle.std.proofs.lemmas.Bool.{lt-leb}
 use Rattle.x25_bits.specs.declared.role.Role.TheVariants.{Dte, Dce}
-use Rattle.x25_packet.specs.declared.error.PacketError.{PacketError}
-use Rattle.x25_packet.specs.Error.{diagnostic_of}
-use Rattle.x25_packet.specs.Packet.{PlainPacket, accept, clear_conf}
-use Rattle.x25_packet.specs.declared.marks.Marks.{Marks}
-use Rattle.x25_circuit.specs.declared.state.State.{State}
-use Rattle.x25_circuit.specs.declared.state.State.TheVariants.{Free, Calling, Arriving, Collision, Open, Resetting, Clearing}
-use Rattle.x25_circuit.specs.declared.params.Params.{Params}
-use Rattle.x25_circuit.specs.Params.{Proposal, may_answer, field_for, said_in}
-use Rattle.x25_circuit.specs.Circuit.{CircuitSettings, Circuit, outgoing, waits}
-use Rattle.x25_circuit.specs.code.Changes.{with_rest}
-use Rattle.x25_circuit.specs.Message.{cut}
+use Rattle.x25_circuit.specs.Calling.{keeps_on, does, accept_in, accept_with, clear_in, clear_with, ready_in, ready_open, send_in, send_open}
+use Rattle.x25_circuit.specs.Hearing.{row_reset, row_reset_conf, row_data, goes, collides, connects, clears_for, clears_to, unexpected, cause_of, row_call}
+use Rattle.x25_circuit.specs.{Hearing.{row_accept, row_clear_conf}, Notice.{CallRequest, cleared, connected, incoming, PlainNotice}, Params.{field_for}}
+use Rattle.x25_circuit.specs.{code.Replies.{is_message, tells_message, plain_notice}, declared.notice.Notice.{Notice}, declared.notice.Reply.{Reply}}
+use Rattle.x25_circuit.specs.declared.state.State.TheVariants.{Free, Resetting, Clearing}
+use Rattle.x25_packet.specs.{Error.{diagnostic_of}, Packet.{PlainPacket, accept, clear_conf}}
 use Rattle.x25_circuit.specs.declared.error.CircuitError.TheVariants as error
-use Rattle.x25_circuit.specs.Notice.{CallRequest, cleared, collided, connected, incoming}
-use Rattle.x25_circuit.specs.Calling.{Refused, keeps_on, does, call_in, accept_in, accept_with, clear_in, clear_with, ready_in, ready_open, send_in, send_open}
-use Rattle.x25_circuit.specs.Hearing.{goes, collides, connects, clears_for, clears_to, unexpected, cause_of, row_call, row_accept, row_clear, row_clear_conf}
-use Rattle.x25_circuit.specs.Hearing.{row_reset, row_reset_conf, row_data, row_undecoded}
-use Rattle.x25_circuit.specs.Notice.{PlainNotice}
-use Rattle.x25_circuit.specs.Awaits.{awaited_in, is_any}
-use Rattle.x25_circuit.specs.declared.notice.Notice.{Notice}
 use Rattle.x25_circuit.specs.declared.notice.Notice.TheVariants as notice
-use Rattle.x25_circuit.specs.declared.notice.Reply.{Reply}
-use Rattle.x25_circuit.specs.code.Replies.{Says, is_message, tells_message, plain_notice, notices_of}
 
 -- what tells no message says the same beside any
 pub said_beside : (message : List ℕ) (reply : Reply) (owed : Option PlainPacket) (told : List PlainNotice) → tells_message reply.notice ≡ false
@@ -32,16 +20,8 @@ pub said_beside : (message : List ℕ) (reply : Reply) (owed : Option PlainPacke
 said_beside message reply owed told none says = record { owed = says.owed; notices = by reply.collided reply.notice none ∙ says.notices }
   where
     same : (n : Notice) → is_message n ≡ false → plain_notice message n ≡ plain_notice [] n
-    same (notice.Incoming a params body) none = refl
-    same (notice.Connected params) none = refl
-    same (notice.Cleared cause diagnostic) none = refl
-    same notice.ClearDone none = refl
-    same (notice.WasReset cause diagnostic) none = refl
-    same notice.ResetDone none = refl
     same (notice.Delivered marks) none = absurd (cc)
-    same (notice.Interrupted user) none = refl
-    same notice.InterruptDone none = refl
-    same (notice.Fault diagnostic) none = refl
+    same n none = refl
 
     by : (b : Bool) (o : Option Notice) → tells_message o ≡ false → notices_of message b o ≡ notices_of [] b o
     by true None none = refl
@@ -178,7 +158,4 @@ pub awaited : (s : State) → s ≢ Free → s ≢ Arriving → s ≢ Open → i
 awaited Free free arriving d1 = absurd (free refl)
 awaited Arriving free arriving d1 = absurd (arriving refl)
 awaited Open free arriving d1 = absurd (d1 refl)
-awaited Calling free arriving d1 = refl
-awaited Collision free arriving d1 = refl
-awaited Resetting free arriving d1 = refl
-awaited Clearing free arriving d1 = refl
+awaited s free arriving d1 = refl

@@ -1,31 +1,14 @@
 -- What a circuit's variables stand for after a small change.
-use Rattle.std.proofs.Props.{props}
-use Rattle.std.proofs.Common.{◌≡◌, ℕ, ◌+◌, ◌≤◌, Bool, true, false, IsTrue, not, if◌then◌else◌, List, [], ◌++◌, drop, length, refl, sym, ap, subst, ◌∙◌, ◌==◌, ◌%◌}
-use Rattle.std.proofs.Common.{nat_le, Option, Some, None}
-use Rattle.x25_window.specs.code.Modulo.{resolved}
-use Rattle.x25_window.specs.Receiver.{FitsTaken}
-use Rattle.x25_window.specs.code.Held.{Held}
-use Rattle.x25_window.specs.declared.receiver.Receiver.{Receiver}
-use Rattle.x25_packet.specs.Facilities.{IsFacilityField}
-use Rattle.x25_packet.specs.declared.marks.Marks.{Marks}
-use Rattle.x25_circuit.specs.declared.circuit.Circuit as code
-use Rattle.x25_circuit.specs.declared.transfer.Transfer.{Transfer}
-use Rattle.x25_circuit.specs.declared.queue.Queue.{Queue}
-use Rattle.x25_circuit.specs.Message.{Piece, piece_of, piece_ground, ground_of, Partial, no_part, joined, joining, wholes, cut_all, asked_in}
-use Rattle.x25_circuit.specs.code.PartialMessage.{ShownPartial}
-use Rattle.x25_circuit.specs.code.CallMemory.{has_memory}
-use Rattle.x25_circuit.specs.Queue.{waiting}
-use Rattle.x25_circuit.specs.Hearing.{data_ground}
-use Rattle.std.proofs.lemmas.Bool.{eqb-true}
-use Rattle.std.proofs.lemmas.List.{length_push}
+use Rattle.x25_circuit.proofs.Names.{◌≡◌, ℕ, ◌+◌, ◌≤◌, Bool, true, false, not, if◌then◌else◌, List, [], ◌++◌, drop, length, refl, sym, ap, subst, ◌∙◌, ◌==◌}
+use Rattle.x25_circuit.proofs.Names.{◌%◌, nat_le, Option, Some, None, resolved, Held, Marks, Transfer, Piece, piece_of, ground_of, Partial, no_part, joined}
+use Rattle.x25_circuit.proofs.Names.{joining, wholes, cut_all, asked_in, has_memory, waiting, eqb-true, CircuitSettings, Talk, Circuit, outgoing, Params}
+use Rattle.x25_circuit.proofs.Names.{length_push, with_acked, with_rest, FitsNumbers, FitsTalk, FitsCircuit, incoming, ShownPartial, IsFacilityField}
+use Rattle.std.proofs.{Common.{IsTrue}, Props.{props}}
 use Rattle.x25_circuit.proofs.MessageLemmas.{wholes_all, joining_push}
-use Rattle.x25_circuit.specs.Circuit.{CircuitSettings, Talk, Circuit, outgoing, incoming}
-use Rattle.x25_circuit.specs.declared.params.Params.{Params}
-use Rattle.x25_circuit.specs.Params.{calling_terms, called_terms}
-use Rattle.x25_circuit.specs.code.Changes.{with_acked, with_taken, with_rest, with_peer, with_own}
-use Rattle.x25_circuit.specs.code.FitsNumbers.{FitsNumbers}
-use Rattle.x25_circuit.specs.code.Fits.{FitsTalk}
-use Rattle.x25_circuit.specs.code.FitsCircuit.{FitsCircuit}
+use Rattle.x25_circuit.specs.{Hearing.{data_ground}, Message.{piece_ground}, Params.{calling_terms, called_terms}}
+use Rattle.x25_circuit.specs.{code.Changes.{with_taken, with_peer, with_own}, declared.queue.Queue.{Queue}}
+use Rattle.x25_window.specs.{Receiver.{FitsTaken}, declared.receiver.Receiver.{Receiver}}
+use Rattle.x25_circuit.specs.declared.circuit.Circuit as code
 
 pub with_transfer : (c : CircuitSettings) (v : code.Circuit) (x : Circuit) (u : Transfer) (made : has_memory v.state ≡ true → u.partial.made ≡ true) (t : Talk)
     → FitsCircuit c v x

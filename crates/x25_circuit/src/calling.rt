@@ -6,7 +6,7 @@ ghost use Rattle.x25_circuit.specs.declared.state.State.{State};
 ghost use Rattle.x25_circuit.specs.Circuit.{CircuitSettings};
 ghost use Rattle.x25_circuit.specs.Circuit.{Circuit as Channel};
 ghost use Rattle.x25_circuit.specs.Params.{may_answer};
-ghost use Rattle.x25_circuit.specs.Calling.{outcome, Refused, Calls, Accepts, Clears, may_call, call_in, accept_in};
+ghost use Rattle.x25_circuit.specs.Calling.{outcome, Calls, Accepts, Clears, may_call, call_in, accept_in};
 ghost use Rattle.x25_circuit.specs.Calling.{is_address_text};
 ghost use Rattle.x25_circuit.specs.Request.{plain_answer, params_answered, refusal_of};
 ghost use Rattle.x25_circuit.specs.code.FitsCircuit.{FitsCircuit, SendsBy, BeginsBy};
@@ -113,9 +113,6 @@ impl Circuit {
         ensures calling_address { IfOk result (λ fields. IsAddress fields.calling) }
         ensures short { IfOk result (λ fields. length user.now ≤ 128) }
         ensures flow { IfOk result (λ fields. fields.flow.params ≡ params) }
-        ensures refused { (c : CircuitSettings) (x : Channel) (says_all : Bool) → FitsCircuit c self.now x
-            → IfErr result (λ e. call_in c x x.state called.now calling.now user.now
-            (record { params = params; says_all = says_all }) ≡ Refused e) }
         ensures refusal { (c : CircuitSettings) (x : Channel) (says_all : Bool) → FitsCircuit c self.now x
             → result_err result ≡ refusal_of (call_in c x x.state called.now calling.now user.now
             (record { params = params; says_all = says_all })) }
@@ -162,8 +159,6 @@ impl Circuit {
             (λ said. may_answer self.now.flow.params said.params ≡ true)) }
         ensures flow { IfOk result (λ flow. flow.params
             ≡ params_answered (plain_answer answer.entry) self.now.flow.params) }
-        ensures refused { (c : CircuitSettings) (x : Channel) → FitsCircuit c self.now x
-            → IfErr result (λ e. accept_in x x.state (plain_answer answer.entry) ≡ Refused e) }
         ensures refusal { (c : CircuitSettings) (x : Channel) → FitsCircuit c self.now x
             → result_err result ≡ refusal_of (accept_in x x.state (plain_answer answer.entry)) }
         ensures kinds { IfErr result (λ e. e ≢ CircuitError.NoMemory) }

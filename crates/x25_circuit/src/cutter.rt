@@ -50,7 +50,7 @@ impl Cutter {
         ensures { result.left ≡ [] }
     {
         Cutter {
-            marks: Marks::with_q(false),
+            marks: Marks { q: false, d: false },
             user: Vec::new(alloc),
             lent: 0,
             start: 0,
@@ -78,11 +78,11 @@ impl Cutter {
         self.is_cut = false;
     }
 
-    /// Drops what is left.
+    /// Drops what is left. Its memory stays until the next message is begun, or serves one.
     pub fn clear(&mut self)
         ensures { self.new.left ≡ [] }
     {
-        *self = Cutter::new(self.alloc);
+        self.is_cut = true;
     }
 
     /// Cuts the next packet off, of at most `size` octets.
@@ -105,14 +105,17 @@ impl Cutter {
             self.start += size;
             // A network may join it with the next one: section 4.3.4.
             Cut {
-                marks: Marks::with_q(self.marks.q),
+                marks: Marks {
+                    q: self.marks.q,
+                    d: false,
+                },
                 m: true,
             }
         }
     }
 
-    /// Memory for a message of so many octets: that of one that was cut to its end, of which the packet cut last isn't
-    /// lent any more then, or else new. Err: no memory.
+    /// Memory for a message of so many octets: that of one that was cut to its end or dropped, of which the packet cut
+    /// last isn't lent any more then, or else new. Err: no memory.
     pub fn memory(&mut self, count: usize) -> Result<Vec<u8>, AllocError>
         ensures left { self.new.left ≡ self.old.left }
         ensures unchanged { OnErr result (self.new ≡ self.old) }
@@ -126,8 +129,8 @@ impl Cutter {
         }
     }
 
-    // Memory of a message that was cut to its end, for one of so many octets and for 4,096 at most, where it is. The
-    // packet cut last isn't lent any more then.
+    // Memory of a message that was cut to its end or dropped, for one of so many octets and for 4,096 at most, where it
+    // is. The packet cut last isn't lent any more then.
     fn spent_memory(&mut self, count: usize) -> Option<Vec<u8>>
         ensures left { self.new.left ≡ self.old.left }
         ensures none { IfNone result (self.new ≡ self.old) }

@@ -15,7 +15,7 @@ use crate::notice::{Notice, Reply};
 use crate::octets::Octets;
 use crate::owed::Owed;
 use crate::state::State;
-use x25_packet::{Marks, Packet, PacketError, Seq, facility_field};
+use x25_packet::{Marks, Packet, PacketError, Seq, call_views};
 
 impl Circuit {
     /// RR, or RNR where this end isn't ready, with P(R).
@@ -149,7 +149,7 @@ impl Circuit {
         match packet {
             Packet::Call { a, body, .. } => self.hear_call(*a, body),
             Packet::Accept { a, body, .. } => {
-                self.hear_accept(facility_field(*a, body).as_slice())
+                self.hear_accept(call_views(*a, body).facilities.as_slice())
             }
             Packet::Clear {
                 cause,

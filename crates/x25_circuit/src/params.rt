@@ -63,12 +63,7 @@ impl Default for Params {
     fn default() -> Params
         ensures { result ≡ default_params }
     {
-        Params {
-            size_called: 7,
-            size_calling: 7,
-            win_called: 2,
-            win_calling: 2,
-        }
+        FlowControl::usual().params
     }
 }
 
@@ -98,7 +93,12 @@ impl FlowControl {
         ensures { result.params ≡ default_params }
     {
         FlowControl {
-            params: Params::default(),
+            params: Params {
+                size_called: 7,
+                size_calling: 7,
+                win_called: 2,
+                win_calling: 2,
+            },
         }
     }
 
@@ -133,16 +133,16 @@ impl FlowControl {
         let Ok(facilities) = Facilities::of(field) else {
             return self;
         };
-        let sizes = facilities.packet_size.unwrap_or(self.params.sizes());
-        let windows = facilities.window_size.unwrap_or(self.params.windows());
-        FlowControl {
-            params: Params {
-                size_called: sizes.called,
-                size_calling: sizes.calling,
-                win_called: windows.called,
-                win_calling: windows.calling,
-            },
+        let mut params = self.params;
+        if let Some(sizes) = facilities.packet_size {
+            params.size_called = sizes.called;
+            params.size_calling = sizes.calling;
         }
+        if let Some(windows) = facilities.window_size {
+            params.win_called = windows.called;
+            params.win_calling = windows.calling;
+        }
+        FlowControl { params }
     }
 
     /// Of the data packets that the calling end sends, or those of the called one.

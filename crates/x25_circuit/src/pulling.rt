@@ -51,7 +51,7 @@ impl Circuit {
         let header = self.advance()?;
         Some(DataPacket {
             header,
-            user: self.transfer.queue.lent(),
+            user: self.transfer.queue.cutter.lent(),
         })
     }
 

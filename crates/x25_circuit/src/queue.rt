@@ -52,14 +52,6 @@ impl Queue {
         let _ = self.ring.push_back(message);
     }
 
-    /// Drops all that wait.
-    pub fn clear(&mut self)
-        ensures { waiting self.new ≡ [] }
-    {
-        self.cutter.clear();
-        self.ring.clear();
-    }
-
     // Lets the first message be cut, unless one is. It says whether there is one.
     fn begin(&mut self) -> bool
         ensures same { waiting self.new ≡ waiting self.old }
@@ -92,8 +84,8 @@ impl Queue {
         Some(self.cutter.cut(size))
     }
 
-    /// Memory for a message of so many octets: that of one that was cut to its end, of which the packet cut last isn't
-    /// lent any more then, or else new. Err: no memory.
+    /// Memory for a message of so many octets: that of one that was cut to its end or dropped, of which the packet cut
+    /// last isn't lent any more then, or else new. Err: no memory.
     pub fn memory(&mut self, count: usize) -> Result<Vec<u8>, AllocError>
         ensures same { waiting self.new ≡ waiting self.old }
         ensures unchanged { OnErr result (self.new ≡ self.old) }
@@ -102,12 +94,5 @@ impl Queue {
         ensures most { IfOk result (λ memory. vec_capacity memory ≤ max count 4096) }
     {
         self.cutter.memory(count)
-    }
-
-    /// The user data of the packet cut last.
-    pub fn lent(&self) -> &[u8]
-        ensures { result.now ≡ self.now.cutter.lent }
-    {
-        self.cutter.lent()
     }
 }

@@ -7,7 +7,7 @@ ghost use Rattle.x25_packet.specs.declared.marks.Marks.{Marks};
 ghost use Rattle.x25_packet.specs.Spelling.{IsInRange};
 ghost use Rattle.x25_circuit.specs.Circuit.{CircuitSettings};
 ghost use Rattle.x25_circuit.specs.Circuit.{Circuit as Channel};
-ghost use Rattle.x25_circuit.specs.Calling.{outcome, Refused, Accepts, clear_in, send_in, interrupt_in, reset_in};
+ghost use Rattle.x25_circuit.specs.Calling.{outcome, Accepts, clear_in, send_in, interrupt_in, reset_in};
 ghost use Rattle.x25_circuit.specs.Calling.{ready_in};
 ghost use Rattle.x25_circuit.specs.Cause.{may_clear_for, may_reset_for};
 ghost use Rattle.x25_circuit.specs.code.FitsCircuit.{FitsCircuit, Sends, clears_of, resets_of};
@@ -137,8 +137,6 @@ impl Circuit {
     pub(crate) fn clear_refusal(&self, cause: u8) -> Option<CircuitError>
         ensures refusal { (c : CircuitSettings) (x : Channel) (diagnostic : ℕ) → FitsCircuit c self.now x
             → result ≡ refusal_of (clear_in c x x.state cause diagnostic) }
-        ensures refused { (c : CircuitSettings) (x : Channel) (diagnostic : ℕ) → FitsCircuit c self.now x
-            → IfSome result (λ e. clear_in c x x.state cause diagnostic ≡ Refused e) }
         ensures not_free { IfNone result (self.now.state ≢ State.Free) }
         ensures not_clearing { IfNone result (self.now.state ≢ State.Clearing) }
         ensures given { IfNone result (may_clear_for self.now.role cause ≡ true) }
@@ -155,8 +153,6 @@ impl Circuit {
     pub(crate) fn reset_refusal(&self, cause: u8) -> Option<CircuitError>
         ensures refusal { (c : CircuitSettings) (x : Channel) (diagnostic : ℕ) → FitsCircuit c self.now x
             → result ≡ refusal_of (reset_in c x x.state cause diagnostic) }
-        ensures refused { (c : CircuitSettings) (x : Channel) (diagnostic : ℕ) → FitsCircuit c self.now x
-            → IfSome result (λ e. reset_in c x x.state cause diagnostic ≡ Refused e) }
         ensures open { IfNone result (self.now.state ≡ State.Open) }
         ensures given { IfNone result (may_reset_for self.now.role cause ≡ true) }
         ensures kinds { IfSome result (λ e. e ≢ CircuitError.NoMemory) }
@@ -172,8 +168,6 @@ impl Circuit {
     pub(crate) fn send_refusal(&self, count: usize) -> Option<CircuitError>
         ensures refusal { (c : CircuitSettings) (x : Channel) (marks : Marks) (user : List ℕ) → length user ≡ count
             → FitsCircuit c self.now x → result ≡ refusal_of (send_in c x x.state marks user) }
-        ensures refused { (c : CircuitSettings) (x : Channel) (marks : Marks) (user : List ℕ) → length user ≡ count
-            → FitsCircuit c self.now x → IfSome result (λ e. send_in c x x.state marks user ≡ Refused e) }
         ensures open { IfNone result (self.now.state ≡ State.Open) }
         ensures longest { IfNone result (count ≤ self.now.transfer.partial.longest) }
         ensures short { IfNone result (count ≤ 65535) }
@@ -192,8 +186,6 @@ impl Circuit {
     pub(crate) fn interrupt_refusal(&self, user: &[u8]) -> Option<CircuitError>
         ensures refusal { (c : CircuitSettings) (x : Channel) → FitsCircuit c self.now x
             → result ≡ refusal_of (interrupt_in x x.state user.now) }
-        ensures refused { (c : CircuitSettings) (x : Channel) → FitsCircuit c self.now x
-            → IfSome result (λ e. interrupt_in x x.state user.now ≡ Refused e) }
         ensures open { IfNone result (self.now.state ≡ State.Open) }
         ensures none_out { IfNone result (self.now.transfer.interrupt_out ≡ false) }
         ensures some { IfNone result (1 ≤ length user.now) }
@@ -215,9 +207,7 @@ impl Circuit {
     // Where it isn't in p4 with d1.
     pub(crate) fn closed(&self) -> Option<CircuitError>
         ensures open { IfNone result (self.now.state ≡ State.Open) }
-        ensures no_ready { (c : CircuitSettings) (x : Channel) (is_ready : Bool) → FitsCircuit c self.now x
-            → IfSome result (λ e. ready_in x x.state is_ready ≡ Refused e) }
-        ensures ready { (c : CircuitSettings) (x : Channel) (is_ready : Bool) → FitsCircuit c self.now x
+        ensures refusal { (c : CircuitSettings) (x : Channel) (is_ready : Bool) → FitsCircuit c self.now x
             → result ≡ refusal_of (ready_in x x.state is_ready) }
         ensures kinds { IfSome result (λ e. e ≢ CircuitError.NoMemory) }
     {

@@ -4,7 +4,7 @@ ghost use Rattle.x25_packet.specs.Views.{called_of, calling_of, field_of, user_o
 ghost use Rattle.x25_circuit.specs.Params.{said_in};
 ghost use Rattle.x25_circuit.specs.code.FitsCircuit.{made_of};
 ghost use Rattle.x25_circuit.specs.code.Replies.{RepliesBy};
-ghost use Rattle.x25_circuit.specs.Hearing.{collides, connects, request_in, row_call, row_accept};
+ghost use Rattle.x25_circuit.specs.Hearing.{connects, request_in, row_call, row_accept};
 
 use crate::circuit::Circuit;
 use crate::codes::{INVALID_FACILITY, INVALID_PARAMETER};
@@ -12,7 +12,7 @@ use crate::notice::{Notice, Reply};
 use crate::params::FlowControl;
 use crate::state::State;
 use x25_bits::Role;
-use x25_packet::facility_field;
+use x25_packet::call_views;
 
 impl Circuit {
     pub(crate) fn hear_call<'a>(&mut self, a: bool, body: &'a [u8]) -> Reply<'a>
@@ -20,53 +20,27 @@ impl Circuit {
             (λ c x. row_call c x self.old.state (request_in (called_of a body.now) (calling_of a body.now)
             (field_of a body.now) (user_of a body.now))) }
     {
-        match self.state {
-            State::Free => {
-                let flow = FlowControl::usual().said(facility_field(a, body).as_slice());
-                self.enter(State::Arriving, flow, false);
-                Reply::tells(Notice::Incoming {
-                    a,
-                    params: flow.params,
-                    body,
-                })
-            }
-            State::Calling => {
-                let flow = FlowControl::usual().said(facility_field(a, body).as_slice());
-                self.collide(a, body, flow)
-            }
-            State::Clearing => Reply::nothing(),
-            _ => self.unexpected(),
-        }
-    }
-
-    // A call of each end: the DTE waits for the DCE's answer to what it proposed, and the DCE gives its own call up.
-    fn collide<'a>(&mut self, a: bool, body: &'a [u8], flow: FlowControl) -> Reply<'a>
-        requires { made_of self.old ≡ true }
-        ensures { RepliesBy self.old self.new result
-            (λ c x. collides c.role x (record {
-              called = called_of a body.now;
-              calling = calling_of a body.now;
-              user = user_of a body.now;
-              params = flow.params;
-            })) }
-    {
-        match self.role {
-            Role::Dte => {
+        let collided = match (self.state, self.role) {
+            (State::Free, _) => false,
+            // A call of each end: the DTE waits for the answer to what it proposed, and the DCE gives its own call up.
+            (State::Calling, Role::Dte) => {
                 self.enter(State::Collision, self.flow, true);
-                Reply::nothing()
+                return Reply::nothing();
             }
-            Role::Dce => {
-                self.enter(State::Arriving, flow, false);
-                Reply {
-                    packet: None,
-                    collided: true,
-                    notice: Some(Notice::Incoming {
-                        a,
-                        params: flow.params,
-                        body,
-                    }),
-                }
-            }
+            (State::Calling, Role::Dce) => true,
+            (State::Clearing, _) => return Reply::nothing(),
+            _ => return self.unexpected(),
+        };
+        let flow = FlowControl::usual().said(call_views(a, body).facilities.as_slice());
+        self.enter(State::Arriving, flow, false);
+        Reply {
+            packet: None,
+            collided,
+            notice: Some(Notice::Incoming {
+                a,
+                params: flow.params,
+                body,
+            }),
         }
     }
 

@@ -122,8 +122,9 @@ impl Transfer {
         ensures longest { self.new.partial.longest ≡ self.old.partial.longest }
     {
         self.sender.clear();
-        self.receiver.clear();
-        self.queue.clear();
+        self.receiver = Receiver::new();
+        self.queue.cutter.clear();
+        self.queue.ring.clear();
         self.partial.clear();
         self.unconfirmed = 0;
         self.interrupt_out = false;

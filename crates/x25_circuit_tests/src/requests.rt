@@ -38,7 +38,7 @@ impl Proposals {
             },
             5 => clear(0),
             6 => Request::Send {
-                marks: Marks::with_q(false),
+                marks: Marks { q: false, d: false },
                 user: &[],
             },
             7 => Request::Interrupt { user: b"1" },
@@ -55,11 +55,11 @@ impl Proposals {
                 user: &[],
             },
             17 => Request::Send {
-                marks: Marks::with_q(false),
+                marks: Marks { q: false, d: false },
                 user: b"1",
             },
             _ => Request::Send {
-                marks: Marks::with_q(false),
+                marks: Marks { q: false, d: false },
                 user: b"12",
             },
         }

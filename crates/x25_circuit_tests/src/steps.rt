@@ -4,7 +4,7 @@ use crate::calls::{ask, circuit, circuit_with, hear, hear_too_few, message};
 use crate::requests::{Proposals, acceptance};
 use std::alloc::Global;
 use x25_circuit::{Circuit, CircuitError, Notice, Octets, Owed, Params, Reply, Requested, Role};
-use x25_packet::{Marks, Packet, Seq, user_data};
+use x25_packet::{Marks, Packet, Seq, call_views};
 
 /// What happens to a circuit.
 #[derive(Clone, Copy)]
@@ -229,7 +229,7 @@ static JOINED: [Row; 6] = [
 // The third octet of a packet, and how many octets of user data it has.
 fn shape(packet: &Packet) -> (u8, usize) {
     match packet {
-        Packet::Call { a, body, .. } => (0x0B, user_data(*a, body).len()),
+        Packet::Call { a, body, .. } => (0x0B, call_views(*a, body).user.len()),
         Packet::Accept { .. } => (0x0F, 0),
         Packet::Clear { .. } => (0x13, 0),
         Packet::ClearConf { .. } => (0x17, 0),

@@ -8,10 +8,7 @@ ghost use Rattle.x25_given.specs.Writing.{fields, head_of, write};
 use crate::given::Given;
 use std::alloc::Global;
 use x25_bits::{NoMemory, append_octets};
-use x25_packet::{
-    FAST_SELECT_OCTETS, Packet, called_digits, calling_digits, decode_within, facility_field,
-    user_data,
-};
+use x25_packet::{FAST_SELECT_OCTETS, Packet, call_views, decode_within};
 
 const CALL: u8 = 0x0B;
 
@@ -68,20 +65,20 @@ impl Writing {
             return false;
         };
         match packet {
-            Packet::Call { a, channel, body } => self.spell(
-                &head(given.d, channel, CALL),
-                addresses(
-                    octets,
-                    called_digits(a, body).len() + calling_digits(a, body).len(),
-                ),
-                facility_field(a, body).as_slice(),
-                given.facilities,
-                user_data(a, body),
-            ),
+            Packet::Call { a, channel, body } => {
+                let views = call_views(a, body);
+                self.spell(
+                    &head(given.d, channel, CALL),
+                    addresses(octets, views.called.len() + views.calling.len()),
+                    views.facilities.as_slice(),
+                    given.facilities,
+                    views.user,
+                );
+            }
             Packet::Accept { a, channel, body } => self.spell(
                 &head(given.d, channel, ACCEPT),
                 &[0],
-                facility_field(a, body).as_slice(),
+                call_views(a, body).facilities.as_slice(),
                 given.facilities,
                 given.user,
             ),

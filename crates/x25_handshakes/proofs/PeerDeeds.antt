@@ -1,5 +1,5 @@
 -- What the peer does keeps what is kept of our circuit and it.
-use Rattle.x25_handshakes.proofs.Names.{◌≡◌, ℕ, ◌+◌, ◌%◌, ◌≤◌, List, [], ◌∷◌, ◌++◌, length, Some, None, Bool, true, false, refl, subst, arith, sym, ap}
+use Rattle.x25_handshakes.proofs.Names.{◌≡◌, ℕ, ◌%◌, ◌≤◌, List, [], ◌∷◌, ◌++◌, length, Some, None, Bool, true, false, refl, subst, arith, sym, ap}
 use Rattle.x25_handshakes.proofs.Names.{if◌then◌else◌, length_push, Piece, no_part, resolved, Packet, Data, Rr, Rnr, Int, IntConf, Stretch, PeerStretch, Deed}
 use Rattle.x25_handshakes.proofs.Names.{Sends, Says, does, packet_of, taking, Terms}
 use Rattle.std.proofs.lemmas.Bool.{eq-eqb}

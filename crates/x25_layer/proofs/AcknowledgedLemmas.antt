@@ -1,11 +1,10 @@
 -- What is acknowledged to an end the other one has handed up, from what is known of the nested handshakes.
 use Rattle.x25_layer.proofs.Names.{◌≡◌, ℕ, Bool, Some, true, sym, ap, subst, ◌∙◌, Talk, is_open, Message, Side, At, state_of, Stretch, Channels, Pair, pair_run}
 use Rattle.x25_layer.proofs.Names.{pair_start, Name, Lists, messages, name_at, held_at, IsPrefix, Histories, histories_run, histories_start, open_at, Ranges}
-use Rattle.std.proofs.Common.{take}
-use Rattle.x25_circuit.specs.Message.{carried}
+use Rattle.x25_layer.proofs.Names.{take, carried, under, messages_in, name_of, End, TwoLayers, run, start, Always, AcknowledgedAreHandedUp}
 use Rattle.x25_layer.proofs.{ArrivalLemmas.{OpenEnd, open_end}, LawLemmas.{near_present, far_present}}
-use Rattle.x25_layer.proofs.{Names.{under, messages_in, name_of, End, TwoLayers, run, start, Always}, RunLemmas.{Premises, histories_pair, InRun, in_run}}
-use Rattle.x25_layer.{proofs.Sees.{talk_of}, proofs.TwoLayerLemmas.{SeesEnd}, specs.laws.Acknowledged.{AcknowledgedAreUp, AcknowledgedAreHandedUp}}
+use Rattle.x25_layer.proofs.{RunLemmas.{Premises, histories_pair, InRun, in_run}, Sees.{talk_of}, TwoLayerLemmas.{SeesEnd}}
+use Rattle.x25_layer.specs.laws.Acknowledged.{AcknowledgedAreUp}
 use Rattle.x25_handshakes.specs.laws.Acknowledged as nested
 
 -- of an end and the history of the other

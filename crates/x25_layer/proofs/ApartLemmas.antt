@@ -2,10 +2,11 @@
 use Rattle.x25_layer.proofs.Names.{◌≡◌, List, [], ◌∷◌, ◌++◌, length, Bool, true, false, if◌then◌else◌, refl, sym, ap, subst, ◌∙◌, append_assoc, Dte, Dce}
 use Rattle.x25_layer.proofs.Names.{PlainPacket, IsPrefix, Ranges, LayerSettings, is_channel, LayerOutcome, Accepted, Declined, layer_outcome, layer_pulled, End}
 use Rattle.x25_layer.proofs.Names.{TwoLayers, requested, pulled_in, handed_up, moves_in, turned, settings_of, EndMove, happens, run, start, Always, KeepsOrder}
-use Rattle.std.proofs.{Common.{drop, ap₂}, lemmas.List.{append_cancel_left, drop_at}}
-use Rattle.x25_layer.specs.laws.Apart.{OwnMove, Requests, Pulls, Takes, GoesDown, as_move, coming, alone, own_moves, own_run, Ends, ApartEvent, apart_happens}
-use Rattle.x25_layer.specs.laws.Apart.{apart_run, ends_of, IsNext, IsInOrder, AreInOrder, over_links, all_over_links, as_world, AlwaysApart}
-use Rattle.x25_layer.specs.laws.ApartLaw.{IsOverLinks, AreByThemselves, OwnMovesDecide, StaysDown, EventsRunOn}
+use Rattle.x25_layer.proofs.Names.{drop, ap₂, OwnMove, Takes, as_move, coming, alone, own_moves, own_run, Ends, ApartEvent, apart_happens, apart_run, IsNext}
+use Rattle.x25_layer.proofs.Names.{IsInOrder, AreInOrder, as_world, AlwaysApart, IsOverLinks}
+use Rattle.std.proofs.lemmas.List.{append_cancel_left, drop_at}
+use Rattle.x25_layer.specs.laws.Apart.{Requests, Pulls, GoesDown, ends_of, over_links, all_over_links}
+use Rattle.x25_layer.specs.laws.ApartLaw.{AreByThemselves, OwnMovesDecide, StaysDown, EventsRunOn}
 use Rattle.x25_layer.specs.laws.TwoLayers as world
 
 -- ---- own moves alone decide

@@ -3,8 +3,8 @@ use Rattle.x25_layer.proofs.Names.{◌≡◌, ℕ, ◌+◌, ◌≤◌, List, [],
 use Rattle.x25_layer.proofs.Names.{Message, wholes, Terms, Circuit, is_open, waits, Side, Live, Left, At, state_of, Stretch, Phase, Talking, Connection}
 use Rattle.x25_layer.proofs.Names.{Channels, Name, Lists, messages, interrupts, held_in, name_at, held_at, open_call, open_at, Layer, under, messages_in}
 use Rattle.x25_handshakes.specs.laws.Arrivals.{HasArrived}
-use Rattle.x25_layer.proofs.{LayerSees.{ShowsAt}, Names.{interrupts_in, name_of, End}, Sees.{talk_of, Agreed, view}, StepLemmas.{name_eq}}
-use Rattle.x25_layer.{proofs.TwoLayerLemmas.{SeesEnd}, specs.laws.Law.{HasAllOf, IsIdleTo}}
+use Rattle.x25_layer.proofs.{LayerSees.{ShowsAt}, Names.{interrupts_in, name_of, End, HasAllOf, IsIdleTo}, Sees.{talk_of, Agreed, view}, StepLemmas.{name_eq}}
+use Rattle.x25_layer.proofs.TwoLayerLemmas.{SeesEnd}
 
 -- nothing is in flight where all is acknowledged, and what is acknowledged was handed up
 no_length : (l : List PlainPacket) → length l ≡ 0 → l ≡ []

@@ -1,15 +1,14 @@
 -- The busy channels.
 use Rattle.x25_layer.proofs.Names.{◌≡◌, inl, inr, ℕ, zero, suc, ◌+◌, ◌-◌, ◌<◌, ◌≤◌, List, length, Bool, true, false, not, ◌&&◌, ◌==◌, if◌then◌else◌, get_or}
 use Rattle.x25_layer.proofs.Names.{refl, sym, ap, subst, ◌∙◌, arith, eqb-true, CircuitSettings, Circuit, waits, FitsCircuit, LayerSettings, Layer, is_channel}
-use Rattle.std.proofs.lemmas.{Bool.{cases_eq, cases_lt, false_from_ne_true, true_from_ne_false}, Grind.{get_or_default_zero}}
+use Rattle.x25_layer.proofs.Names.{cases_lt, bit_not, trailing_zeros, awaited_in, is_any, Nothing, FitsCircuits, FitsLayer, awaited_at, waits_up_to}
+use Rattle.std.proofs.lemmas.{Bool.{cases_eq, false_from_ne_true, true_from_ne_false}, Grind.{get_or_default_zero}}
 use Rattle.std.proofs.lemmas.{List.{get_or-set_same, get_or-set_other, get_or_past}, Nat.{pow_below, and_le_l, and_le_r, shr-shr}}
 use Rattle.std.proofs.lemmas.Nat.Bits.{bit_at-zero, bit_at-suc, bit_at-lt, bit_at_or, bit_at_and, bit_at_not, bit_at-pow_same, bit_at-pow_other}
-use Rattle.std.proofs.lemmas.Nat.Bits.{bit_at_mask_below, bit_at_mask_inside, ones_shl, bit_at-trailing_zeros}
-use Rattle.std.specs.{Int.{w64, bit_at, bit_not, trailing_zeros}, Prelude.{◌*◌, ◌/◌, ◌%◌, ◌^◌, set, bit_and, bit_or}}
-use Rattle.x25_circuit.specs.{Awaits.{awaited_in, is_any}, Circuit.{is_idle}, code.FitsCircuit.{waits_of}, declared.awaits.Awaits.{Awaits}}
-use Rattle.x25_circuit.specs.declared.awaits.Awaits.TheVariants.{Nothing, Acceptance, ResetConfirmation, ClearConfirmation}
-use Rattle.x25_layer.proofs.{CallLemmas.{configured}, FitLemmas.{there}, Names.{FitsCircuits, FitsLayer}}
-use Rattle.x25_layer.specs.code.{FitsLayer.{awaited_at, waits_up_to, awaited_up_to}, Idle.{IsOutside, IsIdle, IdleBeside}}
+use Rattle.std.{proofs.lemmas.Nat.Bits.{bit_at_mask_below, bit_at_mask_inside, ones_shl, bit_at-trailing_zeros}, specs.Int.{w64, bit_at}}
+use Rattle.std.specs.Prelude.{◌*◌, ◌/◌, ◌%◌, ◌^◌, set, bit_and, bit_or}
+use Rattle.x25_circuit.specs.{Circuit.{is_idle}, code.FitsCircuit.{waits_of}, declared.awaits.Awaits.{Awaits}}
+use Rattle.x25_layer.proofs.{CallLemmas.{configured}, FitLemmas.{there}, Names.{awaited_up_to, IsOutside, IsIdle, IdleBeside}}
 use Rattle.x25_circuit.specs.declared.circuit.Circuit as circuit_code
 use Rattle.x25_layer.specs.declared.layer.Layer as code
 
@@ -327,9 +326,7 @@ none_awaited c v l fits k out = by (is_channel c.channels k) refl
   where
     not_any : (a : Awaits) → is_any a ≡ false → a ≡ Nothing
     not_any Nothing is = refl
-    not_any Acceptance is = absurd (cc)
-    not_any ResetConfirmation is = absurd (cc)
-    not_any ClearConfirmation is = absurd (cc)
+    not_any a is = absurd (cc)
 
     by : (b : Bool) → is_channel c.channels k ≡ b → (if b then awaited_in (l.circuits k).state else Nothing) ≡ Nothing
     by false is = refl

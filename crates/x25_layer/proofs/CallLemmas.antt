@@ -4,13 +4,12 @@ use Rattle.x25_layer.proofs.Names.{get_or, set, refl, sym, ap, subst, ◌∙◌,
 use Rattle.x25_layer.proofs.Names.{Done, Refused, Request, Calls, Accepts, Sends, outcome, FitsCircuit, is_number, LayerError, LayerSettings, Layer, is_channel}
 use Rattle.x25_layer.proofs.Names.{put_at, packet_on, is_ready, LayerRequest, Asks, Dials, Restarts, LayerOutcome, Accepted, Declined, free_channel}
 use Rattle.x25_layer.proofs.Names.{puts_at_once, where_room, if_at_once, dialled, restarted_for, outcome_in, layer_outcome, outcome_on, FitsCircuits, FitsLayer}
-use Rattle.std.proofs.{Common.{◌≢◌, OnOk, IsErrAnd}, Math.ListN.{length-set}, lemmas.Bool.{leb-true}}
-use Rattle.x25_circuit.specs.{Cause.{may_restart_for}, Request.{refusal_of, asks_memory, may_ask_memory, AnswersRequest, MayPut}, code.Replies.{plain_sent}}
-use Rattle.x25_circuit.specs.declared.{error.CircuitError.{CircuitError}, requested.Requested.{Requested}}
+use Rattle.x25_layer.proofs.Names.{leb-true, may_restart_for, plain_sent, CircuitError, Requested, with_circuit, declined_for, restarting_from, spelled, Gives}
+use Rattle.std.proofs.{Common.{◌≢◌, OnOk, IsErrAnd}, Math.ListN.{length-set}}
+use Rattle.x25_circuit.specs.Request.{refusal_of, asks_memory, may_ask_memory, AnswersRequest, MayPut}
 use Rattle.x25_layer.proofs.FitLemmas.{read_at}
-use Rattle.x25_layer.{proofs.PullLemmas.{fits_put, fits_same}, specs.Asking.{with_circuit, AsksCircuit, refusal_on}, specs.Calls.{asked_where, declined_for}}
-use Rattle.x25_layer.specs.{Error.{of_circuit}, Layer.{restarting_from}, code.Answering.{spelled, Gives, Does, Answers}}
-use Rattle.x25_layer.specs.declared.link_state.LinkState.{LinkState}
+use Rattle.x25_layer.{proofs.PullLemmas.{fits_put, fits_same}, specs.Asking.{AsksCircuit, refusal_on}, specs.Calls.{asked_where}, specs.Error.{of_circuit}}
+use Rattle.x25_layer.specs.{code.Answering.{Does, Answers}, declared.link_state.LinkState.{LinkState}}
 use Rattle.x25_circuit.specs.declared.circuit.Circuit as circuit_code
 use Rattle.x25_circuit.specs.declared.error.CircuitError.TheVariants as circuit_error
 use Rattle.x25_layer.specs.declared.layer.Layer as code

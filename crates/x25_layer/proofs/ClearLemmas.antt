@@ -2,11 +2,10 @@
 use Rattle.x25_layer.proofs.Names.{◌≡◌, ℕ, List, [], ◌∷◌, ◌++◌, Option, None, Bool, true, false, refl, sym, ap, subst, ◌∙◌, Role, Dte, Dce, PlainPacket, clear}
 use Rattle.x25_layer.proofs.Names.{Circuit, is_free, is_free_in, Side, Live, Left, has_left, At, OwnStep, Stretch, Phase, Unused, Talking, Connection}
 use Rattle.x25_layer.proofs.Names.{channel_takes, LayerPacket, On, Channels, Pair, pair_moves, pair_run, pair_start, layer_takes, Ranges, bare_layer}
-use Rattle.x25_handshakes.specs.laws.{Channel.{in_p1, channel_side_takes}, Layers.{Takes, layer_side_takes}, Stretch.{Clear}}
-use Rattle.x25_layer.proofs.{LayerLemmas.{true≢false}, LayerSees.{SeesLayer, ShowsAt}, Names.{bare_layers, End, TwoLayers, turned, run, start, Always}}
-use Rattle.x25_layer.proofs.{RunLemmas.{Premises, run_more, in_run}, Sees.{Agreed, state_in_transfer, state_in, state_at, view}}
-use Rattle.x25_layer.proofs.{TwoLayerLemmas.{Sees, second, sees_turned}, ViewLemmas.{some_none}}
-use Rattle.x25_layer.specs.laws.NameLaw.{IsNoClearInP1, FrontIsNoClearInP1, NoClearComesInP1}
+use Rattle.x25_layer.proofs.Names.{layer_side_takes, Clear, bare_layers, End, TwoLayers, turned, run, start, Always, IsNoClearInP1, FrontIsNoClearInP1}
+use Rattle.x25_handshakes.specs.laws.{Channel.{in_p1, channel_side_takes}, Layers.{Takes}}
+use Rattle.x25_layer.proofs.{LayerLemmas.{true≢false}, LayerSees.{SeesLayer, ShowsAt}, Names.{NoClearComesInP1}, RunLemmas.{Premises, run_more, in_run}}
+use Rattle.x25_layer.proofs.{Sees.{Agreed, state_in_transfer, state_in, state_at, view}, TwoLayerLemmas.{Sees, second, sees_turned}, ViewLemmas.{some_none}}
 
 not_free_in_transfer : (y : Side Stretch) → is_free_in (state_in_transfer y) ≡ false
 not_free_in_transfer (Live x) = refl

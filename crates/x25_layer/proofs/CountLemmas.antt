@@ -5,13 +5,11 @@ use Rattle.x25_layer.proofs.Names.{Answer, answers, Outcome, Done, Refused, Call
 use Rattle.x25_layer.proofs.Names.{LayerAnswer, is_channel, notices_on, is_ready, drops, answers_in, layer_answers, LayerRequest, Asks, Dials, Restarts}
 use Rattle.x25_layer.proofs.Names.{PullsAll, LayerOutcome, Accepted, Declined, free_channel, puts_at_once, where_room, if_at_once, outcome_on, dialled}
 use Rattle.x25_layer.proofs.Names.{restarted_for, outcome_in, layer_outcome, layer_pulled, name_of, End, TwoLayers, Move, Requests, Pulls, HandsUp, GoesDown}
-use Rattle.x25_layer.proofs.Names.{requested, pulled_in, handed_up, moves_in, turned, settings_of, EndMove, happens, run, start, Always}
-use Rattle.std.proofs.Common.{append-nil}
-use Rattle.x25_circuit.specs.Cause.{may_restart_for}
+use Rattle.x25_layer.proofs.Names.{requested, pulled_in, handed_up, moves_in, turned, settings_of, EndMove, happens, run, start, Always, append-nil}
+use Rattle.x25_layer.proofs.Names.{may_restart_for, outcome_ready, answers_on, restarting_from, answers_ready, answers_restarting, named_by, NamesAreCounted}
 use Rattle.x25_layer.proofs.LayerLemmas.{true≢false}
 use Rattle.x25_layer.proofs.NameLemmas.{name_in, named_by_all, ClearsNotFree, circuit_counts, KeepsName, outcome_keeps, pulled_keeps}
-use Rattle.x25_layer.specs.{Calls.{outcome_ready}, Layer.{answers_on, restarting_from, answers_ready, answers_restarting}}
-use Rattle.x25_layer.specs.laws.NameLaw.{first_name, named_by, named_after, counted, NamesAreCounted, IsNoClearInP1, FrontIsNoClearInP1, NoClearComesInP1}
+use Rattle.x25_layer.{proofs.Names.{IsNoClearInP1, FrontIsNoClearInP1, NoClearComesInP1}, specs.laws.NameLaw.{first_name, named_after, counted}}
 use Rattle.x25_circuit.specs.declared.error.CircuitError.TheVariants as circuit_error
 use Rattle.x25_layer.specs.declared.error.LayerError.TheVariants as error
 
@@ -54,8 +52,7 @@ ready_counts c e circuits other ok = channel_counts c e circuits other ok (is_ch
 restarting_counts : (e : ℕ) (circuits : ℕ → Circuit) (p : PlainPacket)
     → Counts (record { restarting = true; restarts = e; circuits = circuits }) (answers_restarting e circuits p)
 restarting_counts e circuits (restart cause diagnostic) = λ k. refl
-restarting_counts e circuits restart_conf = λ k. refl
-restarting_counts e circuits other = λ k. refl
+restarting_counts e circuits p = λ k. refl
 
 answer_counts : (c : LayerSettings) (b : Bool) (e : ℕ) (circuits : ℕ → Circuit) (p : PlainPacket) → (b ≡ false → ClearsNotFree (circuits (channel_of p)) p)
     → Counts (record { restarting = b; restarts = e; circuits = circuits }) (answers_in c b e circuits p)

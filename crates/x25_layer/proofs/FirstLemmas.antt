@@ -3,12 +3,11 @@ use Rattle.x25_layer.proofs.Names.{◌≡◌, ℕ, List, [], ◌∷◌, ◌++◌
 use Rattle.x25_layer.proofs.Names.{Dce, PlainPacket, restart, State, Free, Circuit, is_free_in, Pulled, pull_in, pulled, pulls_nothing, IsPrefix, Ranges}
 use Rattle.x25_layer.proofs.Names.{LayerSettings, Layer, LayerNotice, is_channel, packet_on, answers_in, layer_answers, LayerRequest, LayerOutcome, Accepted}
 use Rattle.x25_layer.proofs.Names.{Declined, outcome_in, layer_outcome, layer_pulled, AreQuiet, AreNoFaults, End, requested, pulled_in, moves_in, settings_of}
-use Rattle.std.proofs.Common.{append-nil}
+use Rattle.x25_layer.proofs.Names.{append-nil, restart_cause, goes_up, OwnMove, Takes, as_move, coming, alone, own_moves, own_run, Ends, ApartEvent}
 use Rattle.x25_layer.proofs.{ApartLemmas.{event}, LayerLemmas.{true≢false}}
-use Rattle.x25_layer.specs.Layer.{restarted, restart_cause, goes_up}
-use Rattle.x25_layer.specs.laws.Apart.{OwnMove, Requests, Pulls, Takes, GoesDown, as_move, coming, alone, own_moves, own_run, Ends, ApartEvent, apart_happens}
-use Rattle.x25_layer.specs.laws.Apart.{apart_run, apart_start, IsNext, IsInOrder, AreInOrder, as_world, AlwaysApart}
-use Rattle.x25_layer.specs.laws.{ApartLaw.{BeginsRestarted, IsToldFirst, RestartsFirst, BeginsAlone}, TwoLayers.{started}}
+use Rattle.x25_layer.{proofs.Names.{apart_happens, apart_run, IsNext, IsInOrder, AreInOrder, as_world, AlwaysApart}, specs.Layer.{restarted}}
+use Rattle.x25_layer.specs.laws.{Apart.{Requests, Pulls, GoesDown, apart_start}, ApartLaw.{BeginsRestarted, IsToldFirst, RestartsFirst, BeginsAlone}}
+use Rattle.x25_layer.specs.laws.TwoLayers.{started}
 
 -- ---- no packet came
 
@@ -99,14 +98,12 @@ BeginsRestart (restart cause diagnostic ∷ packets) = Unit {0}
 BeginsRestart packets = ⊥
 
 restart_more : (given more : List PlainPacket) → BeginsRestart given → BeginsRestart (given ++ more)
-restart_more [] more begins = absurd begins
 restart_more (restart cause diagnostic ∷ packets) more begins = tt
-restart_more (other ∷ packets) more begins = absurd begins
+restart_more given more begins = absurd begins
 
 restarted_more : (told more : List LayerNotice) → BeginsRestarted told → BeginsRestarted (told ++ more)
-restarted_more [] more begins = absurd begins
 restarted_more (restarted cause diagnostic ∷ notices) more begins = tt
-restarted_more (other ∷ notices) more begins = absurd begins
+restarted_more told more begins = absurd begins
 
 -- a restart by the other end is told, whether the layer waits for it or not
 restart_is_told : (c : LayerSettings) (b : Bool) (restarts : ℕ) (circuits : ℕ → Circuit) (p : PlainPacket) (packets : List PlainPacket)

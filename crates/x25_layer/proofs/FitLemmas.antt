@@ -1,12 +1,11 @@
 -- A layer's circuits, one by one.
 use Rattle.x25_layer.proofs.Names.{◌≡◌, ◌⊎◌, inl, inr, ℕ, zero, suc, ◌+◌, ◌-◌, ◌<◌, ◌≤◌, List, [], ◌∷◌, ◌++◌, length, Option, Some, None, Bool, true, false}
 use Rattle.x25_layer.proofs.Names.{slice_get, set, if◌then◌else◌, refl, sym, ap, subst, ◌∙◌, arith, Result, Ok, Err, get_or, not, ◌&&◌, ◌||◌, ◌==◌, eq-eqb}
-use Rattle.x25_layer.proofs.Names.{none-some, same_Some, eqb-true, Circuit, is_open, waits, FitsCircuit, is_number, LayerSettings, Layer, is_channel, Name}
-use Rattle.std.proofs.{Common.{◌^◌, take, IfSome, IfNone, MatchOption, Bor, OnErr, drop}, lemmas.List.{append-nil, take_all}}
-use Rattle.std.proofs.lemmas.Option.{slice_get_within, slice_get-get_or}
-use Rattle.x25_circuit.specs.{Awaits.{awaited_in, is_any}, code.FitsCircuit.{clears_of, resets_of}, declared.awaits.Awaits.TheVariants.{Nothing}}
-use Rattle.x25_layer.{proofs.Names.{name_of, FitsCircuits, FitsLayer}, proofs.SettleLemmas.{not_same}, specs.code.Counts.{HasCountsLeft, HaveCountsLeft}}
-use Rattle.x25_layer.specs.code.FitsLayer.{name_at, params_at, is_open_at, awaited_at, awaited_up_to, waits_up_to, is_most, full_up_to}
+use Rattle.x25_layer.proofs.Names.{none-some, same_Some, eqb-true, Circuit, is_open, waits, FitsCircuit, is_number, LayerSettings, Layer, is_channel, Name, ◌^◌}
+use Rattle.x25_layer.proofs.Names.{take, IfSome, MatchOption, drop, slice_get_within, slice_get-get_or, awaited_in, is_any, clears_of, resets_of, Nothing}
+use Rattle.std.proofs.{Common.{IfNone, Bor, OnErr}, lemmas.List.{append-nil, take_all}}
+use Rattle.x25_layer.proofs.{Names.{name_of, FitsCircuits, FitsLayer, awaited_at, awaited_up_to, waits_up_to, is_most, full_up_to}, SettleLemmas.{not_same}}
+use Rattle.x25_layer.specs.code.{Counts.{HasCountsLeft, HaveCountsLeft}, FitsLayer.{name_at, params_at, is_open_at}}
 use Rattle.x25_circuit.specs.declared.circuit.Circuit as circuit_code
 use Rattle.x25_layer.specs.declared.layer.Layer as code
 
@@ -16,26 +15,24 @@ not_false e = cc
 -- an element of a list with one more
 pub get_push : {X : Type 0} (xs : List X) (y v : X) (k : ℕ) → slice_get (xs ++ y ∷ []) k ≡ Some v → (slice_get xs k ≡ Some v) ⊎ ((k ≡ length xs) × (y ≡ v))
 get_push [] y v zero is = inr (refl, same_Some y v is)
-get_push [] y v (suc k) is = inl is
-get_push (x ∷ xs) y v zero is = inl is
 get_push (x ∷ xs) y v (suc k) is = next (get_push xs y v k is)
   where
     next : (slice_get xs k ≡ Some v) ⊎ ((k ≡ length xs) × (y ≡ v)) → (slice_get xs k ≡ Some v) ⊎ ((suc k ≡ length (x ∷ xs)) × (y ≡ v))
     next (inl e) = inl e
     next (inr p) = inr (ap suc p.0, p.1)
+get_push xs y v k is = inl is
 
 -- what is read of a list with one changed
 pub get_changed : {X : Type 0} (xs : List X) (y v : X) (i k : ℕ) → slice_get (set xs i y) k ≡ Some v → ((k ≡ i) × (y ≡ v))
     ⊎ ((k ≡ i → ⊥) × (slice_get xs k ≡ Some v))
 get_changed [] y v i k is = absurd (none-some v is)
 get_changed (x ∷ xs) y v zero zero is = inl (refl, same_Some y v is)
-get_changed (x ∷ xs) y v zero (suc k) is = inr ((λ e. omega (arith, e)), is)
-get_changed (x ∷ xs) y v (suc i) zero is = inr ((λ e. omega (arith, e)), is)
 get_changed (x ∷ xs) y v (suc i) (suc k) is = next (get_changed xs y v i k is)
   where
     next : ((k ≡ i) × (y ≡ v)) ⊎ ((k ≡ i → ⊥) × (slice_get xs k ≡ Some v)) → ((suc k ≡ suc i) × (y ≡ v)) ⊎ ((suc k ≡ suc i → ⊥) × (slice_get xs k ≡ Some v))
     next (inl p) = inl (ap suc p.0, p.1)
     next (inr p) = inr ((λ e. p.0 (let f : k ≡ i = omega (arith, e) in f)), p.1)
+get_changed (x ∷ xs) y v i k is = inr ((λ e. omega (arith, e)), is)
 
 -- each place within has an element
 pub there : {X : Type 0} (xs : List X) (i : ℕ) → i < length xs → (x : X) × (slice_get xs i ≡ Some x)

@@ -1,8 +1,8 @@
 -- The lowest and the highest free channel, one channel at a time.
 use Rattle.x25_layer.proofs.Names.{◌≡◌, ◌⊎◌, inl, inr, ℕ, zero, suc, ◌+◌, ◌-◌, ◌<◌, ◌≤◌, List, length, Option, Some, None, Bool, true, false, if◌then◌else◌}
 use Rattle.x25_layer.proofs.Names.{get_or, sym, ap, ◌∙◌, arith, Role, CircuitSettings, Circuit, is_free, FitsCircuit, LayerSettings, Ranges, FitsCircuits}
-use Rattle.x25_layer.proofs.FitLemmas.{read_at}
-use Rattle.x25_layer.{proofs.SettleLemmas.{split}, specs.Calls.{first_of, lowest_free, highest_free, first_free, where_callable}, specs.Ranges.{may_call}}
+use Rattle.x25_layer.proofs.{FitLemmas.{read_at}, Names.{first_of, lowest_free, highest_free, first_free, where_callable}, SettleLemmas.{split}}
+use Rattle.x25_layer.specs.Ranges.{may_call}
 use Rattle.x25_circuit.specs.declared.circuit.Circuit as circuit_code
 
 -- whether the circuit at a place is free

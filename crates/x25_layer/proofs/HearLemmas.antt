@@ -1,16 +1,15 @@
 -- What octets are read as, and the channel that they name.
 use Rattle.x25_layer.proofs.Names.{◌≡◌, ℕ, suc, ◌-◌, ◌<◌, ◌≤◌, ◌∙◌, List, [], ◌∷◌, length, Option, Some, None, Bool, true, false, Result, Ok, Err}
-use Rattle.x25_layer.proofs.Names.{if◌then◌else◌, set, not, ◌&&◌, slice_get, get_or, refl, sym, ap, subst, arith, same_Some, PlainPacket, call, accept, clear}
-use Rattle.x25_layer.proofs.Names.{clear_conf, user_data, rr, rnr, interrupt, interrupt_conf, reset, reset_conf, restart, restart_conf, HasChannel, channel_of}
-use Rattle.x25_layer.proofs.Names.{is_number, LayerSettings, Layer, LayerAnswer, LayerNotice, notices_on, packet_on, answers_in, is_channel, put_at, drops}
-use Rattle.std.proofs.Common.{All, IfOk, is_some}
-use Rattle.x25_circuit.specs.{Hearing.{hears as circuit_hears}, code.Replies.{RepliesWith, Says, plain_owed, plain_read, notices_of, tells_message}}
+use Rattle.x25_layer.proofs.Names.{if◌then◌else◌, set, not, ◌&&◌, slice_get, get_or, refl, sym, ap, subst, arith, same_Some, PlainPacket, restart, restart_conf}
+use Rattle.x25_layer.proofs.Names.{HasChannel, channel_of, is_number, LayerSettings, Layer, LayerAnswer, LayerNotice, notices_on, packet_on, answers_in}
+use Rattle.x25_layer.proofs.Names.{is_channel, put_at, drops, All, IfOk, is_some, plain_read, FitsLayer, with_circuit, hears_on, answer_to, spelled, plain}
+use Rattle.x25_circuit.specs.{Hearing.{hears as circuit_hears}, code.Replies.{RepliesWith, Says, plain_owed, notices_of, tells_message}}
 use Rattle.x25_circuit.specs.declared.notice.{Notice.{Notice}, Reply.{Reply}}
-use Rattle.x25_layer.proofs.{CallLemmas.{IsLike, configured, found_at, layer_put}, FitLemmas.{read_at}, Names.{FitsLayer}}
-use Rattle.x25_layer.specs.{Asking.{with_circuit}, Layer.{undecoded_in}, Receiving.{channel_hears, hears_on, answer_to, undecoded_at}}
-use Rattle.x25_layer.specs.{Report.{plain_report, has_message, is_of_channel}, code.Answering.{Hears, spelled}, declared.report.Report.{Report}}
-use Rattle.x25_packet.specs.{Grammar.{Gives, read_of}, Packet.{plain}, Reading.{channel_in}, Taking.{read_in}, declared.error.PacketError.{PacketError}}
-use Rattle.x25_packet.specs.{declared.packet.Packet.{Packet}, laws.TakingLaw.{TakesOnItsChannel}}
+use Rattle.x25_layer.proofs.{CallLemmas.{IsLike, configured, found_at, layer_put}, FitLemmas.{read_at}, Names.{read_in}}
+use Rattle.x25_layer.specs.{Layer.{undecoded_in}, Receiving.{channel_hears, undecoded_at}, Report.{plain_report, has_message, is_of_channel}}
+use Rattle.x25_layer.specs.{code.Answering.{Hears}, declared.report.Report.{Report}}
+use Rattle.x25_packet.specs.{Grammar.{Gives, read_of}, Reading.{channel_in}, declared.error.PacketError.{PacketError}, declared.packet.Packet.{Packet}}
+use Rattle.x25_packet.specs.laws.TakingLaw.{TakesOnItsChannel}
 use Rattle.x25_layer.specs.declared.layer.Layer as code
 use Rattle.x25_layer.specs.declared.report.Report.TheVariants as report
 use Rattle.x25_circuit.specs.declared.circuit.Circuit as circuit_code
@@ -29,30 +28,10 @@ hears_error c l octets h e at = ap (λ (o : Option ℕ). undecoded_at c l e o) a
 
 pub ready_hears : (c : LayerSettings) (l : Layer) (v : PlainPacket) → HasChannel v → (b : Bool) → answers_in c b l.restarts l.circuits v
     ≡ hears_on c l b (channel_of v) (Ok v)
-ready_hears c l (call channel called calling facilities user) has true = refl
-ready_hears c l (call channel called calling facilities user) has false = refl
-ready_hears c l (accept channel facilities) has true = refl
-ready_hears c l (accept channel facilities) has false = refl
-ready_hears c l (clear channel cause diagnostic) has true = refl
-ready_hears c l (clear channel cause diagnostic) has false = refl
-ready_hears c l (clear_conf channel) has true = refl
-ready_hears c l (clear_conf channel) has false = refl
-ready_hears c l (user_data channel q m ps pr user) has true = refl
-ready_hears c l (user_data channel q m ps pr user) has false = refl
-ready_hears c l (rr channel pr) has true = refl
-ready_hears c l (rr channel pr) has false = refl
-ready_hears c l (rnr channel pr) has true = refl
-ready_hears c l (rnr channel pr) has false = refl
-ready_hears c l (interrupt channel user) has true = refl
-ready_hears c l (interrupt channel user) has false = refl
-ready_hears c l (interrupt_conf channel) has true = refl
-ready_hears c l (interrupt_conf channel) has false = refl
-ready_hears c l (reset channel cause diagnostic) has true = refl
-ready_hears c l (reset channel cause diagnostic) has false = refl
-ready_hears c l (reset_conf channel) has true = refl
-ready_hears c l (reset_conf channel) has false = refl
 ready_hears c l (restart cause diagnostic) has b = absurd has
 ready_hears c l restart_conf has b = absurd has
+ready_hears c l v has true = refl
+ready_hears c l v has false = refl
 
 hears_packet : (c : LayerSettings) (l : Layer) (octets : List ℕ) (h : ℕ) (v : PlainPacket) → HasChannel v → channel_in octets ≡ Some (channel_of v)
     → channel_in octets ≡ Some h → answer_to c l octets (Ok v) ≡ hears_on c l l.restarting h (Ok v)
@@ -88,9 +67,7 @@ heard_from old mid new told before after f h still same by = record {
 pub told_nothing : (message : List ℕ) (h : ℕ) (none b : Bool) (o : Option Notice) → is_some o ≡ not none → (none && not b) ≡ true
     → [] ≡ notices_on h (notices_of message b o)
 told_nothing message h true false None has is = refl
-told_nothing message h true false (Some notice) has is = absurd (cc)
-told_nothing message h true true o has is = absurd (cc)
-told_nothing message h false b o has is = absurd (cc)
+told_nothing message h none b o has is = absurd (cc)
 
 pub no_message : (none b : Bool) (o : Option Notice) → is_some o ≡ not none → (none && not b) ≡ true → tells_message o ≡ false
 no_message true b None has is = refl
@@ -109,11 +86,8 @@ told_something h false false None has is empty = cc
 -- a report of no channel is the same beside any message
 pub reported_beside : (message : List ℕ) (t : Report) (told : List LayerNotice) → is_of_channel t ≡ false → plain_report [] t ≡ told
     → plain_report message t ≡ told
-reported_beside message report.Nothing told of same = same
 reported_beside message (report.Channel channel collided notice) told of same = absurd (cc)
-reported_beside message (report.Restarted cause diagnostic) told of same = same
-reported_beside message report.RestartDone told of same = same
-reported_beside message (report.Fault diagnostic) told of same = same
+reported_beside message t told of same = same
 
 -- a layer fits what is equal
 pub fits_as : (c : LayerSettings) (v : code.Layer) (l m : Layer) → l ≡ m → FitsLayer c v l → FitsLayer c v m

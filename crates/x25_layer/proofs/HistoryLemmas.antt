@@ -2,8 +2,8 @@
 use Rattle.x25_layer.proofs.Names.{◌≡◌, ◌⊎◌, inl, inr, ℕ, List, [], ◌∷◌, ◌++◌, Bool, true, false, ◌==◌, if◌then◌else◌, refl, sym, ap, ◌∙◌, append_assoc}
 use Rattle.x25_layer.proofs.Names.{eqb-true, CallRequest, Live, At, state_of, Stretch, Phase, Unused, Talking, Connection, Channels, Name, both, same_name}
 use Rattle.x25_layer.proofs.Names.{IsEarlier, Lists, none, Kind, held_in, messages, interrupts, calls, circuit_at, name_at, held_at, Handed, nothing_handed}
-use Rattle.x25_handshakes.specs.laws.Histories.{of_stretch, written}
-use Rattle.x25_layer.proofs.{LayerSees.{present, TurnOf, Here, Afresh, StepOf}, Names.{added, Entry, under, calls_in, messages_in, interrupts_in}}
+use Rattle.x25_handshakes.specs.laws.Histories.{of_stretch}
+use Rattle.x25_layer.proofs.{LayerSees.{present, TurnOf, Here, Afresh, StepOf}, Names.{written, added, Entry, under, calls_in, messages_in, interrupts_in}}
 use Rattle.x25_layer.proofs.{NoteLemmas.{append_nil}, Sees.{held_phase, held_of, Adds, AfterReset, AfterClear}, StepLemmas.{name_eq}}
 use Rattle.x25_layer.specs.laws.Transcript.{says}
 
@@ -65,10 +65,9 @@ entered {M} kind lists listed k x y h turn m = by (listed.named k x y h turn)
     as_lists false = listed.nothing
 
     all_none : (b c : Bool) → lists h ≡ none → (if b then lists h else none) ≡ (if c then lists h else none)
-    all_none true true e = refl
     all_none true false e = e
     all_none false true e = sym e
-    all_none false false e = refl
+    all_none b c e = refl
 
     by : ((lists h ≡ none) ⊎ (name_at kind y k ≡ present y k)) → lists (if same_name m (present y k) then h else nothing_handed)
         ≡ (if same_name m (name_at kind y k) then lists h else none)

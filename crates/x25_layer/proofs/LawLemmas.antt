@@ -1,9 +1,10 @@
 -- What holds of two layers after every event, from what is known of the nested handshakes.
 use Rattle.x25_layer.proofs.Names.{◌≡◌, Bool, ℕ, sym, ap, subst, ◌∙◌, state_of, Pair, pair_run, pair_start, Name, Lists, Kind, messages, interrupts, calls}
 use Rattle.x25_layer.proofs.Names.{name_at, held_at, IsPrefix, Histories, histories_run, histories_start, Ranges, bare_layers, Handed, under, calls_in}
+use Rattle.x25_layer.proofs.Names.{messages_in, interrupts_in, TwoLayers, run, start, Always, KeepsOrder, IsQuietWorld, IsLawfulWorld, ArrivesAll}
 use Rattle.x25_handshakes.specs.laws.Histories.{IsLawful, channel_view}
-use Rattle.x25_layer.proofs.{ArrivalLemmas.{none_in_flight, AtPresent, has_all}, Names.{messages_in, interrupts_in, TwoLayers, run, start, Always, KeepsOrder}}
-use Rattle.x25_layer.{proofs.RunLemmas.{Premises, histories_pair, AreHistories, InRun, in_run}, specs.laws.Law.{IsQuietWorld, IsLawfulWorld, ArrivesAll}}
+use Rattle.x25_layer.proofs.ArrivalLemmas.{none_in_flight, AtPresent, has_all}
+use Rattle.x25_layer.proofs.RunLemmas.{Premises, histories_pair, AreHistories, InRun, in_run}
 
 pub always_in_order : Premises → (long_data : Bool) (channels : Ranges) → Always KeepsOrder long_data channels
 always_in_order p long_data channels es = (in_run p long_data channels es).sees.order

@@ -8,18 +8,17 @@ use Rattle.x25_layer.proofs.Names.{both, same_name, is_number, Ranges, LayerSett
 use Rattle.x25_layer.proofs.Names.{drops, answers_in, layer_answers, LayerRequest, Asks, Dials, Restarts, PullsAll, LayerOutcome, Accepted, Declined}
 use Rattle.x25_layer.proofs.Names.{free_channel, puts_at_once, where_room, if_at_once, outcome_on, dialled, restarted_for, outcome_in, layer_outcome}
 use Rattle.x25_layer.proofs.Names.{LayerPulled, layer_pulled, found, layer_found, bare, bare_layer, bare_layers, AreQuiet, AreNoFaults, Handed, nothing_handed}
-use Rattle.x25_layer.proofs.Names.{added, told_by_all, Entry, name_of, entries_asked, entries_told, Packet}
+use Rattle.x25_layer.proofs.Names.{added, told_by_all, Entry, name_of, entries_asked, entries_told, Packet, is_of_end, begun, put, layer_side_takes, first_of}
+use Rattle.x25_layer.proofs.Names.{lowest_free, highest_free, first_free, where_callable, outcome_ready, answers_on, answers_ready, answers_restarting, IsQuiet}
 use Rattle.std.proofs.lemmas.Bool.{le-leb}
-use Rattle.x25_circuit.specs.{Cause.{is_fault_of_restart, is_of_end}, Circuit.{begun}}
-use Rattle.x25_handshakes.specs.laws.{Channel.{fresh_channel}, Layers.{Restart, put, addressed, on_channel, layer_side_takes, layer_side_acts}}
+use Rattle.x25_circuit.specs.Cause.{is_fault_of_restart}
+use Rattle.x25_handshakes.specs.laws.{Channel.{fresh_channel}, Layers.{Restart, addressed, on_channel, layer_side_acts}}
 use Rattle.x25_layer.proofs.LayerSees.{ShowsAt, SeesLayer, StepOf, FollowsLayer, DoesLayer, dial_act, layer_act, DoesItself, HeedsLayer}
-use Rattle.x25_layer.proofs.{NoteLemmas.{still, notes_taken, notes_asked, notes_pulled}, Sees.{NotesOutcome}}
-use Rattle.x25_layer.proofs.Sees.{unagreed, view, Shows, ParamsLaws, bare_if, IsQuietIf, TellNoFault, Follows, Does, Heeds, act_of, pull_act, Notes}
+use Rattle.x25_layer.proofs.{Names.{asked_by, moved_to}, NoteLemmas.{still, notes_taken, notes_asked, notes_pulled}, Sees.{Notes}}
+use Rattle.x25_layer.proofs.Sees.{NotesOutcome, unagreed, view, Shows, ParamsLaws, bare_if, IsQuietIf, TellNoFault, Follows, Does, Heeds, act_of, pull_act}
 use Rattle.x25_layer.proofs.{StepLemmas.{quiet_step, restart_step, step_on, under_one, told_under}, ViewLemmas.{some_none, follows, heeds, pulls_as}}
-use Rattle.x25_layer.specs.Calls.{first_of, lowest_free, highest_free, first_free, where_callable, outcome_ready}
-use Rattle.x25_layer.specs.{Layer.{answers_on, answers_ready, answers_restarting}, Ranges.{may_call}, laws.PeerJoined.{IsConfigured}}
-use Rattle.x25_layer.specs.laws.{Quiet.{IsQuiet, IsQuietAt}, Transcript.{asked_by, Asked}, TwoLayers.{shown, entry_of_request, entry_of_dial}}
-use Rattle.x25_packet.specs.Spelling.{moved_to}
+use Rattle.x25_layer.specs.{Ranges.{may_call}, laws.PeerJoined.{IsConfigured}, laws.Quiet.{IsQuietAt}, laws.Transcript.{Asked}}
+use Rattle.x25_layer.specs.laws.TwoLayers.{shown, entry_of_request, entry_of_dial}
 use Rattle.x25_circuit.specs.declared.error.CircuitError.TheVariants as circuit_error
 use Rattle.x25_layer.specs.declared.error.LayerError.TheVariants as layer_error
 use Rattle.x25_layer.specs.Layer as flat

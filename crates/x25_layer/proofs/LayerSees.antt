@@ -3,8 +3,8 @@ use Rattle.x25_layer.proofs.Names.{◌≡◌, ℕ, ◌<◌, List, Option, None, 
 use Rattle.x25_layer.proofs.Names.{Side, Live, Left, has_left, At, OwnStep, Channels, OnChannel, LayerPacket, Name, same_name, circuit_at, Ranges}
 use Rattle.x25_layer.proofs.Names.{LayerSettings, Layer, LayerAnswer, LayerRequest, Asks, Dials, Restarts, PullsAll, LayerOutcome, Accepted, Declined}
 use Rattle.x25_layer.proofs.Names.{free_channel, bare_layers, AreQuiet, AreNoFaults, Handed, nothing_handed, Entry, under, entries_told, entries_asked}
-use Rattle.x25_handshakes.specs.laws.{Calls.{PlacesCall}, Channel.{Within}, Layers.{LayerAct, SendsRestart}}
-use Rattle.x25_layer.proofs.Sees.{unagreed, view, Shows, held_of, resets_of, Notes, act_of}
+use Rattle.x25_handshakes.specs.laws.Layers.{SendsRestart}
+use Rattle.x25_layer.proofs.{Names.{PlacesCall, Within, LayerAct}, Sees.{unagreed, view, Shows, held_of, resets_of, Notes, act_of}}
 
 -- of a channel in a layer that restarts nothing but its counts is kept
 abbrev pub ShowsAt : ℕ → Side Channels → ℕ → Circuit → Type 0

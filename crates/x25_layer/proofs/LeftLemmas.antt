@@ -2,9 +2,10 @@
 use Rattle.x25_layer.proofs.Names.{◌≡◌, ◌⊎◌, inl, inr, ℕ, zero, suc, ◌<◌, ◌≤◌, [], ◌∷◌, ◌++◌, length, Option, Some, None, Bool, true, false, nat_le, ◌==◌}
 use Rattle.x25_layer.proofs.Names.{if◌then◌else◌, refl, sym, ap, subst, ◌∙◌, arith, and_parts, PlainPacket, LayerError, LayerSettings, Layer, is_ready}
 use Rattle.x25_layer.proofs.Names.{PullsAll, outcome_in, layer_outcome, layer_pulled, LinkView, Putting, begin, with_pulled, pull_one, round, rounds_of, rounds}
-use Rattle.std.proofs.lemmas.{Bool.{lt-ltb, leb-true}, List.{length_push}}
-use Rattle.x25_layer.proofs.{Names.{backlog}, SettleLemmas.{left, Lessens, one_lessens, lessens_then, round_lessens, split, rounds_settle}}
-use Rattle.x25_layer.specs.laws.{Rounds.{Went, Refuses, went}, WaitLaw.{PullsNone, RoundsLeaveNone, StillPullsNone}}
+use Rattle.x25_layer.proofs.Names.{leb-true, backlog, Went, Refuses, went}
+use Rattle.std.proofs.lemmas.{Bool.{lt-ltb}, List.{length_push}}
+use Rattle.x25_layer.proofs.SettleLemmas.{left, Lessens, one_lessens, lessens_then, round_lessens, split, rounds_settle}
+use Rattle.x25_layer.specs.laws.WaitLaw.{PullsNone, RoundsLeaveNone, StillPullsNone}
 use Rattle.x25_layer.specs.declared.error.LayerError.TheVariants as error
 
 -- a pull that leaves all as it was gives nothing

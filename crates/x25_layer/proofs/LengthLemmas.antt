@@ -1,10 +1,9 @@
 -- How many octets spell a packet at most.
 use Rattle.x25_layer.proofs.Names.{◌≡◌, ℕ, ◌+◌, ◌≤◌, List, [], ◌∷◌, ◌++◌, length, length-append, Option, Some, None, ap, ◌∙◌, arith, PlainPacket, call, accept}
-use Rattle.x25_layer.proofs.Names.{user_data, interrupt}
-use Rattle.std.proofs.Common.{◌*◌}
+use Rattle.x25_layer.proofs.Names.{user_data, interrupt, ◌*◌, IsFacilityField, spelling_of}
 use Rattle.x25_circuit.specs.code.FitsCircuit.{user_octets}
-use Rattle.x25_packet.specs.{Digits.{packed, IsAddress}, Facilities.{facility, IsFacilityField}}
-use Rattle.x25_packet.specs.{Spelling.{addresses, call_body, accept_body, spelling_of, IsInRange}, declared.facilities.Directions.{Directions}}
+use Rattle.x25_packet.specs.{Digits.{packed, IsAddress}, Facilities.{facility}, Spelling.{addresses, call_body, accept_body, IsInRange}}
+use Rattle.x25_packet.specs.declared.facilities.Directions.{Directions}
 
 pub packed_short : (digits : List ℕ) → 2 * length (packed digits) ≤ length digits + 1
 unfolding packed

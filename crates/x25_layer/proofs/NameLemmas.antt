@@ -6,11 +6,11 @@ use Rattle.x25_layer.proofs.Names.{Proposal, default_params, may_answer, field_f
 use Rattle.x25_layer.proofs.Names.{CircuitSettings, Talk, Circuit, outgoing, is_free, is_free_in, waits, CallRequest, PlainNotice, connected, deliveries}
 use Rattle.x25_layer.proofs.Names.{Answer, answers, goes, clears_for, request_in, collides, unless, takes, hears_status, confirms, Outcome, Done, Refused}
 use Rattle.x25_layer.proofs.Names.{Request, Calls, Accepts, Clears, Sends, Interrupts, Resets, SaysReady, SaysNotReady, does, call_sent, may_call, outcome}
+use Rattle.x25_layer.proofs.Names.{may_clear_for, may_reset_for, Pulled, pull_open, pull_in, pulled, Name, named_by}
 use Rattle.x25_circuit.specs.Calling.{keeps_on, call_in, accept_with, accept_in, clear_with, clear_in, send_in, interrupt_in, reset_in, ready_in}
-use Rattle.x25_circuit.specs.{Cause.{may_clear_for, may_reset_for}, Circuit.{incoming as terms_in}, Hearing.{number_ground}, Message.{cut}}
-use Rattle.x25_circuit.specs.Hearing.{connects, row_call, row_accept, row_clear, row_clear_conf, row_reset, row_reset_conf, row_open, row_data, data_ground}
+use Rattle.x25_circuit.specs.{Circuit.{incoming as terms_in}, Hearing.{data_ground}, Message.{cut}}
+use Rattle.x25_circuit.specs.Hearing.{number_ground, connects, row_call, row_accept, row_clear, row_clear_conf, row_reset, row_reset_conf, row_open, row_data}
 use Rattle.x25_circuit.specs.declared.error.CircuitError.TheVariants.{Full, TooLong, InterruptOutstanding}
-use Rattle.x25_layer.{proofs.Names.{Pulled, pull_open, pull_in, pulled, Name}, specs.laws.NameLaw.{named_by}}
 
 -- the name of the stretch of a circuit
 abbrev pub name_in : ℕ → Circuit → Name
@@ -59,12 +59,7 @@ module _ (c : CircuitSettings) (e : ℕ) (x : Circuit) where
     where
       never : true ≡ false → ⊥
       never same = cc
-  clear_count Clearing cause diagnostic not_free = refl
-  clear_count Calling cause diagnostic not_free = refl
-  clear_count Arriving cause diagnostic not_free = refl
-  clear_count Collision cause diagnostic not_free = refl
-  clear_count Open cause diagnostic not_free = refl
-  clear_count Resetting cause diagnostic not_free = refl
+  clear_count s cause diagnostic not_free = refl
 
   clear_conf_count : (s : State) → Counts e x (row_clear_conf c x s)
   clear_conf_count Clearing = refl
@@ -92,9 +87,8 @@ module _ (c : CircuitSettings) (e : ℕ) (x : Circuit) where
       (deliveries_count (name_in e x) (completed (joining no_part t.taken) (piece_of q m user)))
   open_count t (rr channel pr) = unless_count (number_ground t pr) (hears_status x t true pr) refl
   open_count t (rnr channel pr) = unless_count (number_ground t pr) (hears_status x t false pr) refl
-  open_count t (interrupt channel user) = refl
   open_count t (interrupt_conf channel) = confirms_count t t.int_out
-  open_count t other = refl
+  open_count t p = refl
 
   data_count : (s : State) (p : PlainPacket) → Counts e x (row_data c x s p)
   data_count Open p = open_count x.talk p

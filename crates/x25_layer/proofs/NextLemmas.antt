@@ -1,11 +1,10 @@
 -- The next data packet, one circuit after another.
 use Rattle.x25_layer.proofs.Names.{◌≡◌, ℕ, zero, suc, ◌+◌, ◌<◌, ◌≤◌, List, length, Option, Some, None, Bool, true, false, refl, sym, ap, subst, ◌∙◌, inl, inr}
 use Rattle.x25_layer.proofs.Names.{arith, none-some, PlainPacket, CircuitSettings, Circuit, Pulled, pulled, FitsCircuit, LayerSettings, Layer, packet_on}
-use Rattle.std.proofs.{Common.{IfSome, MatchOption}, lemmas.Bool.{cases_lt}}
+use Rattle.x25_layer.proofs.Names.{IfSome, MatchOption, cases_lt, FitsCircuits, FitsLayer, IsOutside, IdleBeside, IsPut, next_packet, moved_to}
 use Rattle.x25_circuit.specs.laws.PullLaw.{PullsWhatWaits}
-use Rattle.x25_layer.proofs.{CallLemmas.{IsLike}, FitLemmas.{there}, Names.{FitsCircuits, FitsLayer}, PullLemmas.{none_kept}}
-use Rattle.x25_layer.specs.code.{Answering.{GivesNext, GivesNone}, Idle.{IsOutside, IdleBeside}, Pulling.{IsPut, next_packet, GoesTo, GoesNowhere}}
-use Rattle.x25_packet.specs.Spelling.{moved_to}
+use Rattle.x25_layer.proofs.{CallLemmas.{IsLike}, FitLemmas.{there}}
+use Rattle.x25_layer.{proofs.PullLemmas.{none_kept}, specs.code.Answering.{GivesNext, GivesNone}, specs.code.Pulling.{GoesTo, GoesNowhere}}
 use Rattle.x25_circuit.specs.declared.circuit.Circuit as circuit_code
 use Rattle.x25_layer.specs.declared.layer.Layer as code
 

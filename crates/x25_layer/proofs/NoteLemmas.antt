@@ -8,13 +8,12 @@ use Rattle.x25_layer.proofs.Names.{CircuitSettings, Circuit, CallRequest, connec
 use Rattle.x25_layer.proofs.Names.{goes, clears_for, collides, Outcome, Refused, Request, Calls, Accepts, Clears, Sends, Interrupts, Resets, does, call_sent}
 use Rattle.x25_layer.proofs.Names.{may_call, request_of, outcome, Side, Live, Left, At, OwnStep, live, left, Stretch, Packet, Phase, Unused, Waiting, Offered}
 use Rattle.x25_layer.proofs.Names.{Crossed, Talking, Connection, channel_takes, channel_acts, found, bare, Handed, nothing_handed, added, told_by_all}
+use Rattle.x25_layer.proofs.Names.{may_clear_for, may_reset_for, in_transfer, call_crosses, calling_talk, called_talk, lifted_call, pulls, lifted, Data, Call}
+use Rattle.x25_layer.proofs.Names.{Accept, stretch_does, stretch_fails, by_ground, takes_data, takes_status, data_ground, ack_ground, asked_by}
 use Rattle.std.proofs.lemmas.Grind.{common_steps}
-use Rattle.x25_circuit.specs.Cause.{may_clear_for, may_reset_for}
-use Rattle.x25_handshakes.specs.laws.{Calls.{in_transfer, call_crosses, calling_talk, called_talk}, Channel.{lifted_call}, Stretch.{pulls}, Transfer.{lifted}}
-use Rattle.x25_handshakes.specs.laws.Stretch.{Data, Call, Accept, stretch_does, stretch_fails, by_ground, takes_data, takes_status, data_ground, ack_ground}
-use Rattle.x25_layer.proofs.{ParamsLemmas.{call_proposes}, Sees.{AfterReset, AfterClear, NotesOutcome}}
-use Rattle.x25_layer.proofs.Sees.{talk_of, Agreed, taken_on, AreAgreedIn, AreAgreed, view, act_of, pull_act, held_stretch, held_of, resets_of, Notes, Adds}
-use Rattle.x25_layer.{proofs.ViewLemmas.{some_none, channel_step, in_open, in_resetting, in_talk, in_call, on_terms}, specs.laws.Transcript.{asked_by}}
+use Rattle.x25_layer.proofs.{ParamsLemmas.{call_proposes}, Sees.{held_of, resets_of, Notes, Adds}}
+use Rattle.x25_layer.proofs.Sees.{AfterReset, AfterClear, NotesOutcome, talk_of, Agreed, taken_on, AreAgreedIn, AreAgreed, view, act_of, pull_act, held_stretch}
+use Rattle.x25_layer.proofs.ViewLemmas.{some_none, channel_step, in_open, in_resetting, in_talk, in_call, on_terms}
 use Rattle.x25_handshakes.specs.laws.Calls as nested_calls
 
 -- nothing more

@@ -1,7 +1,7 @@
 -- An empty facility field is allowed, and what a call proposes may be proposed.
-use Rattle.x25_layer.proofs.Names.{◌≡◌, Bool, ℕ, None, true, ◌&&◌, nat_le, List, [], length, refl, and_parts, Params, may_propose, may_call}
+use Rattle.x25_layer.proofs.Names.{◌≡◌, Bool, ℕ, None, true, ◌&&◌, nat_le, List, [], length, refl, and_parts, Params, may_propose, may_call, IsFacilityField}
+use Rattle.x25_layer.proofs.Names.{longest_user}
 use Rattle.x25_circuit.specs.Calling.{is_address_text}
-use Rattle.x25_packet.specs.{Facilities.{IsFacilityField}, Spelling.{longest_user}}
 
 pub no_field : IsFacilityField []
 no_field = (record { packet_size = None; window_size = None }, record { sizes = tt; windows = tt }, refl)

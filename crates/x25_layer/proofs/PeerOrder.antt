@@ -3,11 +3,10 @@ use Rattle.x25_layer.proofs.Names.{◌≡◌, inl, inr, ℕ, List, [], ◌++◌,
 use Rattle.x25_layer.proofs.Names.{arith, wholes, Circuit, forgotten, is_open, Side, Live, Left, At, state_of, Stretch, Phase, Unused, Waiting, Offered}
 use Rattle.x25_layer.proofs.Names.{Crossed, Talking, Connection, Channels, Name, same_name, IsEarlier, Lists, none, Kind, messages, interrupts, calls, held_in}
 use Rattle.x25_layer.proofs.Names.{circuit_at, name_at, held_at, IsPrefix, open_call, Layer, Handed, Entry, under, calls_in, messages_in, interrupts_in}
-use Rattle.x25_circuit.specs.Message.{carried}
-use Rattle.x25_handshakes.specs.laws.{Arrivals.{open_in, open_phase, open_channel}, Histories.{resets_in, written}, Names.{IsEarlierCount}}
-use Rattle.x25_handshakes.specs.laws.PeerLayer.{PeerChannels}
+use Rattle.x25_handshakes.specs.laws.{Arrivals.{open_channel}, Names.{IsEarlierCount}}
 use Rattle.x25_layer.proofs.{HistoryLemmas.{Moves, StaysAt, GrowsAt, IsListed, same_name-is, recorded}, LayerSees.{ShowsAt, SeesLayer, present, StepOf}}
-use Rattle.x25_layer.proofs.{Names.{name_of}, Sees.{Agreed, unagreed, view}, StepLemmas.{name_eq}}
+use Rattle.x25_layer.proofs.{Names.{carried, open_in, open_phase, resets_in, written, PeerChannels, name_of}, Sees.{Agreed, unagreed, view}}
+use Rattle.x25_layer.proofs.StepLemmas.{name_eq}
 use Rattle.x25_layer.specs.laws.PeerClaims.{peer_call, peer_stretch, peer_name, of_call, StretchIsInOrder, CallIsInOrder, HasArrived}
 use Rattle.x25_handshakes.specs.laws.PeerClaims as nested
 

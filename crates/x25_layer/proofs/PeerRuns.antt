@@ -4,18 +4,16 @@ use Rattle.x25_layer.proofs.Names.{PlainPacket, restart, restart_conf, channel_o
 use Rattle.x25_layer.proofs.Names.{OnChannel, layer_acts, layer_takes, messages, interrupts, calls, layer_found, Ranges, LayerSettings, Layer, LayerAnswer}
 use Rattle.x25_layer.proofs.Names.{is_channel, layer_answers, LayerRequest, PullsAll, LayerOutcome, Accepted, Declined, layer_outcome, LayerPulled}
 use Rattle.x25_layer.proofs.Names.{layer_pulled, bare, bare_layer, bare_layers, Entry, calls_in, messages_in, interrupts_in, TwoLayers, entries_asked}
-use Rattle.x25_layer.proofs.Names.{entries_told, Move, Requests, Pulls, HandsUp, GoesDown, requested, pulled_in, handed_up, moves_in, settings_of}
-use Rattle.x25_handshakes.specs.laws.{Handshake.{near_stepped}, Layers.{LayerAct}}
-use Rattle.x25_handshakes.specs.laws.{PeerClaims.{WithAnyPeerLayer, LayerFindsNoError, KeepsLayers, LayerHasArrived}, PeerLayer.{PeerChannels}}
+use Rattle.x25_layer.proofs.Names.{entries_told, Move, Requests, Pulls, HandsUp, GoesDown, requested, pulled_in, handed_up, moves_in, settings_of, LayerAct}
+use Rattle.x25_handshakes.specs.laws.{Handshake.{near_stepped}, PeerClaims.{WithAnyPeerLayer, LayerFindsNoError, KeepsLayers, LayerHasArrived}}
 use Rattle.x25_handshakes.specs.laws.PeerLayers.{JoinedLayers}
 use Rattle.x25_layer.proofs.{FirstLemmas.{restart_is_quiet}, HistoryLemmas.{messages_listed, interrupts_listed, calls_listed}}
 use Rattle.x25_layer.proofs.LayerLemmas.{layer_follows, layer_heeds, layer_pulls}
-use Rattle.x25_layer.proofs.LayerSees.{SeesLayer, StepOf, FollowsLayer, DoesLayer, layer_act, HeedsLayer}
+use Rattle.x25_layer.proofs.{LayerSees.{SeesLayer, StepOf, FollowsLayer, DoesLayer, layer_act, HeedsLayer}, Names.{PeerChannels, IsQuietEnd, puts}}
 use Rattle.x25_layer.proofs.{PeerOrder.{Written, written_on, calls_order, stretch_order, has_arrived}, Sees.{ParamsLaws, pull_act}}
-use Rattle.x25_layer.{proofs.TwoLayerLemmas.{bare_more, quiet_more, no_faults_more, pulls_change_nothing, second}, specs.laws.Law.{IsQuietEnd}}
-use Rattle.x25_layer.specs.laws.{PeerClaims.{WithAnyPeer, IsAllInOrder, FindsNoError, AllHaveArrived}, PeerJoined.{Theirs, IsReached, at_start, goes_on}}
-use Rattle.x25_layer.specs.laws.PeerJoined.{PeerJoined, start, our_end, with_peer, AreConfigured, StaysUp, PeerMoves, Does, Hears, HearsChannel, Happens, Ours}
-use Rattle.x25_layer.specs.laws.TwoLayers.{puts}
+use Rattle.x25_layer.proofs.TwoLayerLemmas.{bare_more, quiet_more, no_faults_more, pulls_change_nothing, second}
+use Rattle.x25_layer.specs.laws.{PeerClaims.{WithAnyPeer, IsAllInOrder, FindsNoError, AllHaveArrived}, PeerJoined.{Does, Hears, HearsChannel, Happens, Ours}}
+use Rattle.x25_layer.specs.laws.PeerJoined.{Theirs, IsReached, at_start, goes_on, PeerJoined, start, our_end, with_peer, AreConfigured, StaysUp, PeerMoves}
 use Rattle.x25_handshakes.specs.laws.PeerLayers as nested
 
 -- what is known of the nested handshakes and a peer, and of packet sizes and windows

@@ -1,8 +1,9 @@
 -- One circuit pulled, and changed.
 use Rattle.x25_layer.proofs.Names.{◌≡◌, ℕ, suc, ◌+◌, List, [], ◌∷◌, length, Some, None, Bool, true, false, nat_lt, ◌==◌, ◌&&◌, if◌then◌else◌, set, slice_get}
-use Rattle.x25_layer.proofs.Names.{refl, sym, ap, subst, ◌∙◌, ◌⊎◌, inl, inr, arith, eq-eqb, none-some, PlainPacket, State, Free, Calling, Arriving, Collision}
-use Rattle.x25_layer.proofs.Names.{Open, Resetting, Clearing, Piece, CircuitSettings, Talk, Circuit, outgoing, Pulled, pulls_nothing, pull_open, pull_in}
-use Rattle.x25_layer.proofs.{FitLemmas.{get_changed}, Names.{pulled, FitsCircuit, LayerSettings, put_at, FitsCircuits}, SettleLemmas.{put_other, not_same}}
+use Rattle.x25_layer.proofs.Names.{refl, sym, ap, subst, ◌∙◌, ◌⊎◌, inl, inr, arith, eq-eqb, none-some, PlainPacket, State, Open, Piece, CircuitSettings, Talk}
+use Rattle.x25_layer.proofs.Names.{Circuit, outgoing, Pulled, pulls_nothing, pull_open, pull_in, pulled, FitsCircuit, LayerSettings, put_at, FitsCircuits}
+use Rattle.x25_layer.proofs.FitLemmas.{get_changed}
+use Rattle.x25_layer.proofs.SettleLemmas.{put_other, not_same}
 use Rattle.x25_circuit.specs.declared.circuit.Circuit as circuit_code
 
 -- a pull that gives none leaves the circuit as it was
@@ -21,12 +22,7 @@ none_kept c x none = at x.state none
   where
     at : (s : State) → (pull_in c x s).packet ≡ None → (pull_in c x s).next ≡ x
     at Open is = none_kept_open c x x.talk x.talk.rest is
-    at Free is = refl
-    at Calling is = refl
-    at Arriving is = refl
-    at Collision is = refl
-    at Resetting is = refl
-    at Clearing is = refl
+    at s is = refl
 
 -- circuits with another one on one channel
 

@@ -3,9 +3,9 @@ use Rattle.x25_layer.proofs.Names.{◌≡◌, ℕ, zero, suc, ◌≤◌, List, [
 use Rattle.x25_layer.proofs.Names.{option_to_list, refl, sym, ap, subst, ◌∙◌, append_assoc, arith, PlainPacket, Ranges, LayerSettings, Layer, LayerAnswer}
 use Rattle.x25_layer.proofs.Names.{is_channel, layer_answers, LayerOutcome, Accepted, Declined, layer_outcome, layer_pulled, LinkView, Putting, begin}
 use Rattle.x25_layer.proofs.Names.{with_pulled, pull_one, round, rounds_of, rounds, backlog, LayerError, TwoLayers, Move, Requests, Pulls, HandsUp, requested}
-use Rattle.x25_layer.proofs.{LayerLemmas.{is_between}, Names.{pulled_in, handed_up, moves_in}, NoteLemmas.{append_nil}}
-use Rattle.x25_layer.specs.{Receiving.{answer_to}, laws.RoundLaw.{moves_all, pulls_of, AreChannels, IsRun, CallsRun, HearsRun}}
-use Rattle.x25_layer.specs.laws.{Rounds.{Answered, Went, Refuses, went, heard}, TwoLayers.{answered, moves}}
+use Rattle.x25_layer.proofs.{LayerLemmas.{is_between}, Names.{pulled_in, handed_up, moves_in, answer_to, Went, Refuses, went, answered, moves}}
+use Rattle.x25_layer.{proofs.NoteLemmas.{append_nil}, specs.laws.RoundLaw.{moves_all, pulls_of, AreChannels, IsRun, CallsRun, HearsRun}}
+use Rattle.x25_layer.specs.laws.Rounds.{Answered, heard}
 use Rattle.x25_layer.specs.declared.error.LayerError.TheVariants as error
 
 -- the pulls that lead from s to s₂, at an end that stands as s

@@ -5,8 +5,8 @@ use Rattle.x25_layer.proofs.Names.{name_at, held_at, Histories, histories_run, h
 use Rattle.x25_handshakes.specs.laws.{Arrivals.{AllArrives}, Histories.{turned_histories, histories_moves, histories_happens, AreInOrder}}
 use Rattle.x25_handshakes.specs.laws.Layers.{pair_happens}
 use Rattle.x25_layer.proofs.{HistoryLemmas.{IsListed, recorded, messages_listed, interrupts_listed, calls_listed}, LayerSees.{StepOf}}
-use Rattle.x25_layer.proofs.{Names.{interrupts_in, TwoLayers, Move, EndMove, turned, happens, run, start, settings_of}, Sees.{ParamsLaws}}
-use Rattle.x25_layer.{proofs.TwoLayerLemmas.{Sees, Stepped, world_moves, sees_turned}, specs.laws.TwoLayers.{moves}}
+use Rattle.x25_layer.proofs.{Names.{interrupts_in, TwoLayers, Move, EndMove, turned, happens, run, start, settings_of, moves}, Sees.{ParamsLaws}}
+use Rattle.x25_layer.proofs.TwoLayerLemmas.{Sees, Stepped, world_moves, sees_turned}
 use Rattle.x25_handshakes.specs.laws.Layers as nested
 
 -- what is known of the nested handshakes, and of packet sizes and windows

@@ -4,11 +4,11 @@ use Rattle.x25_layer.proofs.Names.{◌≡◌, ◌⊎◌, ℕ, ◌<◌, List, [],
 use Rattle.x25_layer.proofs.Names.{Calling, Arriving, Collision, Open, Resetting, Clearing, Params, default_params, may_propose, Talk, Circuit, CallRequest}
 use Rattle.x25_layer.proofs.Names.{PlainNotice, Answer, Outcome, Done, Refused, Request, Calls, Accepts, Clears, Sends, Interrupts, Resets, SaysReady}
 use Rattle.x25_layer.proofs.Names.{SaysNotReady, request_of, Side, Live, Left, At, state_of, OwnStep, Packet, Stretch, Terms, Phase, Unused, Waiting, Offered}
-use Rattle.x25_circuit.specs.{Circuit.{silent}, Params.{called_terms, calling_terms}}
-use Rattle.x25_circuit.specs.laws.ParamsLaws.{FieldIsSaid, FieldIsAllowed, SaidIsAllowed, AnswerIsAllowed}
-use Rattle.x25_handshakes.specs.laws.{Calls.{PlacesCall, AcceptsCall, Talks}, Channel.{ChannelAct, Within, SendsClear}, Histories.{resets_in}}
-use Rattle.x25_handshakes.specs.laws.{Stretch.{Send, Pull, Ready, NotReady, Interrupt}, Terms.{with_longest}, Transfer.{Inside, SendsReset}}
-use Rattle.x25_layer.{proofs.Names.{Crossed, Talking, Connection, bare, Handed, nothing_handed, added}, specs.laws.Quiet.{IsQuiet, IsNoFault}}
+use Rattle.x25_layer.proofs.Names.{silent, PlacesCall, Within, resets_in, Crossed, Talking, Connection, bare, Handed, nothing_handed, added, IsQuiet}
+use Rattle.x25_circuit.specs.{Params.{called_terms, calling_terms}, laws.ParamsLaws.{FieldIsSaid, FieldIsAllowed, SaidIsAllowed, AnswerIsAllowed}}
+use Rattle.x25_handshakes.specs.laws.{Calls.{AcceptsCall, Talks}, Channel.{ChannelAct, SendsClear}, Stretch.{Send, Pull, Ready, NotReady, Interrupt}}
+use Rattle.x25_handshakes.specs.laws.{Terms.{with_longest}, Transfer.{Inside, SendsReset}}
+use Rattle.x25_layer.specs.laws.Quiet.{IsNoFault}
 
 -- a stretch as the table has it
 abbrev pub talk_of : Stretch → Talk

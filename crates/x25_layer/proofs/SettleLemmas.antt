@@ -1,10 +1,10 @@
 -- Behind the rounds of a step, one round more gives nothing.
 use Rattle.x25_layer.proofs.Names.{◌≡◌, ◌⊎◌, inl, inr, ℕ, zero, suc, ◌+◌, ◌<◌, ◌≤◌, ◌%◌, List, [], ◌∷◌, ◌++◌, length, Option, Some, None, Bool, true, false}
-use Rattle.x25_layer.proofs.Names.{nat_lt, ◌==◌, ◌&&◌, if◌then◌else◌, refl, sym, ap, ◌∙◌, eq-eqb, arith, none-some, eqb-true, PlainPacket, State, Free, Calling}
-use Rattle.x25_layer.proofs.Names.{Arriving, Collision, Open, Resetting, Clearing, Piece, CircuitSettings, Talk, Circuit, outgoing, Pulled, pulls_nothing}
-use Rattle.x25_layer.proofs.Names.{pull_open, pull_in, pulled, LayerSettings, put_at, packet_on, layer_pulled, LinkView, Putting, begin, with_pulled, pull_one}
-use Rattle.x25_circuit.specs.{Calling.{data_packet}, Circuit.{begun, talking}}
-use Rattle.x25_layer.{proofs.Names.{round, rounds_of, rounds, backlog}, specs.Layer.{goes_up}, specs.laws.RoundLaw.{RoundsSettle, ComesUpAlone}}
+use Rattle.x25_layer.proofs.Names.{nat_lt, ◌==◌, ◌&&◌, if◌then◌else◌, refl, sym, ap, ◌∙◌, eq-eqb, arith, none-some, eqb-true, PlainPacket, State, Open, Piece}
+use Rattle.x25_layer.proofs.Names.{CircuitSettings, Talk, Circuit, outgoing, Pulled, pulls_nothing, pull_open, pull_in, pulled, LayerSettings, put_at}
+use Rattle.x25_layer.proofs.Names.{packet_on, layer_pulled, LinkView, Putting, begin, with_pulled, pull_one, data_packet, begun, round, rounds_of, rounds}
+use Rattle.x25_circuit.specs.Circuit.{talking}
+use Rattle.x25_layer.{proofs.Names.{backlog, goes_up}, specs.laws.RoundLaw.{RoundsSettle, ComesUpAlone}}
 
 -- a pull that gives a packet leaves one fewer
 
@@ -37,12 +37,7 @@ shorter c x p found = at x.state found
   where
     at : (s : State) → (pull_in c x s).packet ≡ Some p → suc (length (pull_in c x s).next.talk.rest) ≡ length x.talk.rest
     at Open is = shorter_open c x x.talk x.talk.rest p refl is
-    at Free is = absurd (none-some p is)
-    at Calling is = absurd (none-some p is)
-    at Arriving is = absurd (none-some p is)
-    at Collision is = absurd (none-some p is)
-    at Resetting is = absurd (none-some p is)
-    at Clearing is = absurd (none-some p is)
+    at s is = absurd (none-some p is)
 
 -- what is still to be sent, with another circuit on one channel
 

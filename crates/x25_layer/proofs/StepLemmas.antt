@@ -1,9 +1,8 @@
 -- The entries of a step stand under the name after it, and are what the channels gain.
 use Rattle.x25_layer.proofs.Names.{◌≡◌, ℕ, suc, List, [], ◌∷◌, ◌++◌, Bool, true, false, ◌==◌, if◌then◌else◌, refl, sym, ap, subst, ◌∙◌, arith, eqb-true}
 use Rattle.x25_layer.proofs.Names.{Circuit, PlainNotice, Side, At, live, Connection, Channels, all_fresh, Name, both, same_name, circuit_at, Layer, notices_on}
-use Rattle.x25_handshakes.specs.laws.Layers.{put}
 use Rattle.x25_layer.proofs.LayerSees.{SeesLayer, present, Here, Afresh, StepOf}
-use Rattle.x25_layer.proofs.{Names.{Handed, nothing_handed, added, told_by_all, Entry, under, name_of, entries_told}, NoteLemmas.{still, append_nil}}
+use Rattle.x25_layer.proofs.{Names.{put, Handed, nothing_handed, added, told_by_all, Entry, under, name_of, entries_told}, NoteLemmas.{still, append_nil}}
 use Rattle.x25_layer.{proofs.Sees.{Notes}, specs.laws.Transcript.{told_by}}
 
 -- a name is its three counts

@@ -5,11 +5,11 @@ use Rattle.x25_layer.proofs.Names.{OnChannel, Pair, pair_moves, layer_acts, laye
 use Rattle.x25_layer.proofs.Names.{LayerNotice, LayerAnswer, is_channel, layer_answers, LayerRequest, PullsAll, LayerOutcome, Accepted, Declined, outcome_in}
 use Rattle.x25_layer.proofs.Names.{layer_outcome, LayerPulled, layer_pulled, bare_layer, bare_layers, AreQuiet, AreNoFaults, Entry, End, TwoLayers}
 use Rattle.x25_layer.proofs.Names.{entries_asked, entries_told, Move, Requests, Pulls, HandsUp, GoesDown, requested, pulled_in, handed_up, moves_in, turned}
-use Rattle.x25_handshakes.specs.laws.{Handshake.{first_error}, Layers.{Restart, RestartConf, Acts, Takes, LinkDown}, Stretch.{Clear}}
+use Rattle.x25_handshakes.specs.laws.{Handshake.{first_error}, Layers.{Acts, Takes, LinkDown}}
 use Rattle.x25_layer.proofs.LayerLemmas.{true≢false, layer_follows, layer_heeds, layer_pulls}
-use Rattle.x25_layer.proofs.{LayerSees.{SeesLayer, StepOf, FollowsLayer, DoesLayer, layer_act, HeedsLayer}, Names.{settings_of, KeepsOrder}}
-use Rattle.x25_layer.{proofs.NoteLemmas.{still, append_nil}, proofs.Sees.{ParamsLaws, pull_act}, proofs.StepLemmas.{quiet_step}, specs.Layer.{rested}}
-use Rattle.x25_layer.specs.laws.{Law.{IsQuietEnd}, TwoLayers.{puts, answered}}
+use Rattle.x25_layer.proofs.LayerSees.{SeesLayer, StepOf, FollowsLayer, DoesLayer, layer_act, HeedsLayer}
+use Rattle.x25_layer.proofs.{Names.{Clear, settings_of, KeepsOrder, IsQuietEnd, puts, answered}, NoteLemmas.{still, append_nil}, Sees.{ParamsLaws, pull_act}}
+use Rattle.x25_layer.{proofs.StepLemmas.{quiet_step}, specs.Layer.{rested}}
 use Rattle.x25_handshakes.specs.laws.Layers as nested
 
 -- what an end is of one of the nested handshakes; an end that is out has stopped there
@@ -141,8 +141,7 @@ found_none p e none = ap (λ f. layer_found p f) none ∙ at p
 
     at : (p : LayerPacket) → layer_found p None ≡ None
     at (On h p) = on p
-    at Restart = refl
-    at RestartConf = refl
+    at p = refl
 
 -- An event at the near end, with the settings of its role.
 pub world_moves : ParamsLaws → (r : Role) (long_data : Bool) (channels : Ranges) (w : TwoLayers) (near far : Side (At Channels)) (out back : List LayerPacket)

@@ -7,13 +7,11 @@ use Rattle.x25_layer.proofs.Names.{field_for, said_in, CircuitSettings, Circuit,
 use Rattle.x25_layer.proofs.Names.{confirms, request_in, goes, clears_for, collides, Outcome, Refused, Request, Calls, Accepts, Clears, Sends, Interrupts}
 use Rattle.x25_layer.proofs.Names.{Resets, SaysReady, SaysNotReady, does, request_of, call_sent, may_call, outcome, Pulled, pulled, pull_open, Side, Live, Left}
 use Rattle.x25_layer.proofs.Names.{At, OwnStep, live, left, Stretch, Packet, Phase, Unused, Waiting, Offered, Crossed, Talking, Connection, channel_takes}
-use Rattle.x25_circuit.specs.{Calling.{data_packet}, Cause.{is_of_end, may_give, is_fault_of_clear, is_fault_of_reset}, Circuit.{silent, entered}}
-use Rattle.x25_circuit.specs.{Hearing.{status}, Message.{More, Last}}
-use Rattle.x25_handshakes.specs.laws.{Calls.{in_transfer, call_crosses, calling_talk, called_talk}, Channel.{lifted_call}, Stretch.{ack_ground}}
-use Rattle.x25_handshakes.specs.laws.Stretch.{Data, Call, Accept, stretch_does, stretch_fails, pulls, by_ground, takes_data, takes_status, data_ground}
-use Rattle.x25_handshakes.specs.laws.Transfer.{lifted}
-use Rattle.x25_layer.proofs.{Names.{channel_acts, found, bare}, ParamsLemmas.{no_field, call_proposes}, Sees.{Heeds, act_of, pull_act}}
-use Rattle.x25_layer.proofs.Sees.{talk_of, Agreed, sent_on, taken_on, AreAgreedIn, AreAgreed, view, ParamsLaws, bare_if, IsQuietIf, TellNoFault, Follows, Does}
+use Rattle.x25_layer.proofs.Names.{data_packet, is_of_end, silent, in_transfer, call_crosses, calling_talk, called_talk, lifted_call, ack_ground, Data, Call}
+use Rattle.x25_layer.proofs.Names.{Accept, stretch_does, stretch_fails, pulls, by_ground, takes_data, takes_status, data_ground, lifted, channel_acts, found}
+use Rattle.x25_circuit.specs.{Cause.{may_give, is_fault_of_clear, is_fault_of_reset}, Circuit.{entered}, Hearing.{status}, Message.{More, Last}}
+use Rattle.x25_layer.proofs.{Names.{bare}, ParamsLemmas.{no_field, call_proposes}, Sees.{TellNoFault, Follows, Does}}
+use Rattle.x25_layer.proofs.Sees.{Heeds, act_of, pull_act, talk_of, Agreed, sent_on, taken_on, AreAgreedIn, AreAgreed, view, ParamsLaws, bare_if, IsQuietIf}
 use Rattle.x25_packet.specs.Digits.{digits_of_text}
 use Rattle.x25_handshakes.specs.laws.Stretch as nested
 use Rattle.x25_handshakes.specs.laws.Calls as nested_calls

@@ -3,12 +3,12 @@ use Rattle.x25_layer.proofs.Names.{◌≡◌, ◌⊎◌, inl, inr, ℕ, ◌+◌,
 use Rattle.x25_layer.proofs.Names.{ap, ◌∙◌, length-append, arith, same_Some, none-some, Dte, Dce, PlainPacket, wholes, Terms, Circuit, is_open, waits, Side}
 use Rattle.x25_layer.proofs.Names.{Live, Left, has_left, At, state_of, Stretch, Phase, Talking, Connection, Channels, Pair, pair_run, pair_start, messages}
 use Rattle.x25_layer.proofs.Names.{name_at, open_call, open_at, Ranges, LayerSettings, Layer, is_channel, layer_pulled, bare_layers, name_of, End, TwoLayers}
+use Rattle.x25_layer.proofs.Names.{open_in, open_phase, settings_of, run, start, Always, HasAllOf, IsIdleTo, ClosedKeepNone, NoneOpenInRestart}
 use Rattle.std.proofs.lemmas.Bool.{true≢false}
-use Rattle.x25_handshakes.specs.laws.{Arrivals.{open_in, open_phase}, Drained.{is_up, pulled_at, IsOpenThere, AllIsKnown}}
+use Rattle.x25_handshakes.specs.laws.Drained.{is_up, pulled_at, IsOpenThere, AllIsKnown}
 use Rattle.x25_layer.proofs.{ArrivalLemmas.{OpenEnd, open_end}, LawLemmas.{always_arrives}, LayerLemmas.{layer_pulls}, LayerSees.{ShowsAt}}
-use Rattle.x25_layer.proofs.{Names.{settings_of, run, start, Always}, RunLemmas.{Premises, InRun, in_run}, Sees.{Agreed, view}, StepLemmas.{name_eq}}
-use Rattle.x25_layer.{proofs.TwoLayerLemmas.{SeesEnd}, specs.laws.Law.{HasAllOf, IsIdleTo}}
-use Rattle.x25_layer.specs.laws.WaitLaw.{ClosedKeepNone, NoneOpenInRestart, IsOpenAtBoth, WaitsForUser, NotOpen, Arrived, NotReady, WaitForUsersAlone}
+use Rattle.x25_layer.proofs.{Names.{WaitForUsersAlone}, RunLemmas.{Premises, InRun, in_run}, Sees.{Agreed, view}, StepLemmas.{name_eq}}
+use Rattle.x25_layer.{proofs.TwoLayerLemmas.{SeesEnd}, specs.laws.WaitLaw.{IsOpenAtBoth, WaitsForUser, NotOpen, Arrived, NotReady}}
 
 -- ---- a circuit that isn't open keeps nothing
 

@@ -7,7 +7,6 @@ ghost use Rattle.x25_layer.specs.code.Answering.{Hears};
 ghost use Rattle.x25_layer.specs.Full.{HaveCountsLeft, IsNotFull};
 ghost use Rattle.x25_layer.specs.Receiving.{IsReadBy, hears_on, layer_hears};
 
-use crate::full::is_full;
 use crate::layer::Layer;
 use crate::report::Report;
 use x25_circuit::{Octets, Reply};
@@ -43,9 +42,9 @@ impl Layer {
             collided,
             notice,
         } = circuit.hear(read, message);
-        let is_full = is_full(circuit);
+        let (clears, resets) = circuit.counts();
         self.busy.note(channel, !circuit.is_idle());
-        self.counts_left &= !is_full;
+        self.counts_left &= (clears < u64::MAX) & (resets < u64::MAX);
         self.sheet.spell_owed(channel, packet);
         if notice.is_none() & !collided {
             return Report::Nothing;
@@ -78,7 +77,7 @@ impl Layer {
     /// It takes no memory: the octets of a message that is told are those of `message` then. Where none is told, those
     /// are as they were.
     #[tactic(auto, using(crate::proofs::HearLemmas::reported_beside))]
-    pub fn packet<'a>(
+    pub fn hear<'a>(
         &mut self,
         form: &Option<Result<Form<'a>, PacketError>>,
         octets: &'a [u8],

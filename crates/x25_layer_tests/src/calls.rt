@@ -70,5 +70,5 @@ pub fn hear<'a>(
         return None;
     }
     let form = if wide { Some(layer.form(octets)) } else { None };
-    Some(layer.packet(&form, octets, message))
+    Some(layer.hear(&form, octets, message))
 }

@@ -14,7 +14,7 @@ pub fn request(index: usize) -> Request<'static> {
             diagnostic: 0,
         },
         2 => Request::Send {
-            marks: Marks::with_q(false),
+            marks: Marks { q: false, d: false },
             user: &[],
         },
         3 => Request::Interrupt { user: &[7] },

@@ -263,7 +263,7 @@ fn sends(alloc: Global, layer: &mut Layer, channel: u16, count: usize) -> (Answe
         return (NO_MEMORY, None);
     };
     let request = Request::Send {
-        marks: Marks::with_q(false),
+        marks: Marks { q: false, d: false },
         user: user.as_slice(),
     };
     let answer = ask(layer, UP, channel, request);

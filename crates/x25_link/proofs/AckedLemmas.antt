@@ -1,13 +1,7 @@
 -- What is acknowledged at a step is what the N(R) that was heard acknowledges: the rest of the step leaves it.
-use Rattle.std.proofs.Common.{◌≡◌, ℕ, zero, suc, ◌+◌, Bool, true, false, not, if◌then◌else◌, refl, sym, ap, ◌∙◌, arith}
-use Rattle.std.specs.Prelude.{nat_lt}
-use Rattle.std.proofs.lemmas.Bool.{le-ltb}
-use Rattle.x25_link.specs.declared.phase.Phase.{Phase}
-use Rattle.x25_link.specs.declared.phase.Phase.TheVariants.{Up}
-use Rattle.x25_link.specs.declared.phase.Reason.TheVariants.{Retries}
-use Rattle.x25_link.specs.Station.{LinkSettings, LinkStation, Side, is_busy, with_near, ready, may_send, pumped, owes_ready, ended}
-use Rattle.x25_link.specs.Hearing.{LinkStep, acknowledges, quiet, leaves, answers, passes_over, polls}
-use Rattle.x25_link.specs.Link.{asks_again, fires, closed_by}
+use Rattle.x25_link.proofs.Names.{◌≡◌, ℕ, zero, suc, ◌+◌, Bool, true, false, not, if◌then◌else◌, refl, sym, ap, ◌∙◌, arith, nat_lt, le-ltb, Phase, Up, Retries}
+use Rattle.x25_link.proofs.Names.{LinkSettings, LinkStation, Side, is_busy, with_near, ready, may_send, pumped, owes_ready, ended, LinkStep, quiet, leaves}
+use Rattle.x25_link.{proofs.Names.{answers, passes_over, polls, asks_again, fires, closed_by}, specs.Hearing.{acknowledges}}
 
 abbrev acked : Side → ℕ
 acked t = t.near.outgoing.acked

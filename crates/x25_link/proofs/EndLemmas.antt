@@ -1,10 +1,9 @@
 -- The end of a step comes to rest: nothing is left that may be sent, and no RR is owed.
-use Rattle.std.proofs.Common.{◌≡◌, ℕ, ◌+◌, ◌<◌, ◌≤◌, zero, suc, List, [], ◌∷◌, ◌⊎◌, inl, inr, length, Bool, true, false, not, if◌then◌else◌, refl, sym, ap, ◌∙◌}
-use Rattle.std.proofs.Common.{arith, length-append}
-use Rattle.std.specs.Prelude.{◌&&◌, nat_lt}
-use Rattle.std.proofs.lemmas.Bool.{lt-ltb, le-ltb, ltb-true, ltb-false, not-true, and_parts, and_left, and_right}
-use Rattle.x25_link.specs.Outgoing.{Outgoing, waits, is_open, added, moved_on}
-use Rattle.x25_link.specs.Station.{LinkStation, Side, is_up, is_busy, ready, send_next, may_send, pumped_once, pumped, owes_ready, finished, ended}
+use Rattle.x25_link.proofs.Names.{◌≡◌, ℕ, ◌+◌, ◌<◌, ◌≤◌, zero, suc, List, [], ◌∷◌, length, Bool, true, false, not, if◌then◌else◌, refl, sym, ap, ◌∙◌, arith}
+use Rattle.x25_link.proofs.Names.{length-append, ◌&&◌, nat_lt, lt-ltb, le-ltb, ltb-false, not-true, and_parts, and_right, Outgoing, waits, is_open, added}
+use Rattle.x25_link.proofs.Names.{moved_on, LinkStation, Side, is_up, is_busy, ready, send_next, may_send, pumped, owes_ready, finished, ended}
+use Rattle.std.proofs.{Common.{◌⊎◌, inl, inr}, lemmas.Bool.{ltb-true, and_left}}
+use Rattle.x25_link.specs.Station.{pumped_once}
 
 -- ---- tests
 
@@ -84,10 +83,6 @@ unfolding pumped
 pumped_first zero k t = refl
 pumped_first (suc n) k t = ap (pumped_once k) (pumped_first n k t)
 
-pub pumped_none : (n k : ℕ) (t : Side) → may_send k t.near ≡ false → pumped (suc n) k t ≡ pumped_once k t
-unfolding pumped
-pumped_none n k t h = ap (pumped_once k) (pumped_stays n k t h)
-
 -- where nothing may be sent any more, the others send nothing
 pub pumped_settled : (d i k : ℕ) (t : Side) → may_send k (pumped i k t).near ≡ false → pumped (d + i) k t ≡ pumped i k t
 unfolding pumped
@@ -136,10 +131,8 @@ pub busy_is : (s : LinkStation) → owes_ready s ≡ false → is_up s.phase ≡
 busy_is s = owes_by (is_up s.phase) s.said_busy (is_busy s)
 
 calm_from : (up said busy : Bool) → (up ≡ true → said ≡ true → busy ≡ true) → (up && (said && not busy)) ≡ false
-calm_from false said busy f = refl
-calm_from true false busy f = refl
-calm_from true true true f = refl
 calm_from true true false f = sym (f refl refl)
+calm_from up said busy f = refl
 
 pub calm_is : (s : LinkStation) → (is_up s.phase ≡ true → s.said_busy ≡ true → is_busy s ≡ true) → owes_ready s ≡ false
 calm_is s = calm_from (is_up s.phase) s.said_busy (is_busy s)

@@ -1,25 +1,14 @@
 -- What the code's variables stand for after a small change.
-use Rattle.std.proofs.Common.{◌≡◌, ℕ, ◌%◌, List, [], ◌∷◌, ◌++◌, Bool, true, false, if◌then◌else◌, refl, sym, ap, ◌∙◌, append_assoc, add-one, ◌+◌, ◌<◌, ◌==◌}
-use Rattle.std.proofs.Common.{max, arith, not, length, length-append, ◌≤◌, ◌-◌, ◌&&◌}
-use Rattle.std.specs.Prelude.{IsTrue}
-use Rattle.std.proofs.lemmas.Bool.{eq-eqb, ne_eqb, and_right}
-use Rattle.x25_window.specs.code.Modulo.{resolved}
-use Rattle.std.proofs.lemmas.List.{map-append}
-use Rattle.x25_bits.specs.declared.role.Role.{Role}
-use Rattle.x25_frame.specs.Frame.{PlainFrame, info}
-use Rattle.x25_frame.specs.Spelling.{spelling_of}
-use Rattle.x25_link.specs.declared.outgoing.Outgoing.{Outgoing as OutgoingCode}
-use Rattle.x25_link.specs.declared.station.LinkStation.{LinkStation as StationCode}
-use Rattle.x25_link.specs.Outgoing.{Outgoing, acknowledged_to, gone_back, is_open, next_packet, moved_on}
-use Rattle.x25_link.specs.code.OutgoingHeld.{FitsOutgoing}
-use Rattle.x25_link.specs.declared.phase.Phase.{Phase}
-use Rattle.x25_link.specs.declared.phase.Phase.TheVariants.{Up}
-use Rattle.x25_link.specs.Station.{LinkSettings, LinkStation, Side, with_near, with_nothing, fresh, is_up, is_busy, wanted, may_send, pumped, pumped_once, owes_ready}
-use Rattle.x25_bits.specs.declared.seq.Seq.{Seq}
-use Rattle.x25_window.specs.Receiver.{FitsTaken}
-use Rattle.x25_link.specs.Hearing.{acknowledged, peer_is, goes_back, is_taken, takes}
-use Rattle.x25_link.specs.code.Fits.{FitsStation, FitsSide, Made}
+use Rattle.x25_link.proofs.Names.{◌≡◌, ℕ, ◌%◌, List, [], ◌∷◌, ◌++◌, Bool, true, false, if◌then◌else◌, refl, sym, ap, ◌∙◌, ◌+◌, ◌<◌, arith, not, length}
+use Rattle.x25_link.proofs.Names.{length-append, ◌≤◌, ◌-◌, eq-eqb, and_right, PlainFrame, info, spelling_of, Outgoing, is_open, next_packet, moved_on}
+use Rattle.x25_link.proofs.Names.{FitsOutgoing, Phase, Up, LinkSettings, LinkStation, Side, with_near, with_nothing, fresh, is_up, is_busy, wanted, may_send}
+use Rattle.x25_link.proofs.Names.{pumped, owes_ready, acknowledged, peer_is, goes_back, is_taken, takes, FitsStation, FitsSide}
+use Rattle.std.{proofs.Common.{append_assoc, add-one, ◌==◌, max, ◌&&◌}, proofs.lemmas.Bool.{ne_eqb}, proofs.lemmas.List.{map-append}, specs.Prelude.{IsTrue}}
+use Rattle.x25_bits.specs.declared.{role.Role.{Role}, seq.Seq.{Seq}}
 use Rattle.x25_link.proofs.EndLemmas.{true_false, pumped_settled, once_none}
+use Rattle.x25_link.specs.{Outgoing.{acknowledged_to, gone_back}, Station.{pumped_once}, code.Fits.{Made}}
+use Rattle.x25_link.specs.declared.{outgoing.Outgoing.{Outgoing as OutgoingCode}, station.LinkStation.{LinkStation as StationCode}}
+use Rattle.x25_window.specs.{Receiver.{FitsTaken}, code.Modulo.{resolved}}
 
 pub made_more : (c : LinkSettings) (role : Role) (before old made : List (List ℕ)) (frames : List PlainFrame) (frame : PlainFrame) → role ≡ c.role
     → Made c before old frames

@@ -1,23 +1,12 @@
 -- How many frames a step sends: one for what it hears, seven by the sending rule, and the RR that ends an RNR.
-use Rattle.std.proofs.Common.{◌≡◌, ℕ, zero, suc, ◌+◌, ◌≤◌, List, [], ◌∷◌, length, Bool, true, false, not, if◌then◌else◌, Result, Ok, Err, refl, ap, arith}
-use Rattle.std.proofs.Common.{length-append, subst, sym}
-use Rattle.x25_frame.specs.Frame.{PlainFrame, info, rr, rnr, rej, sabm, disc, ua, dm, frmr}
-use Rattle.std.specs.Prelude.{◌&&◌}
-use Rattle.x25_frame.specs.Spelling.{is_command, poll_or_final}
-use Rattle.x25_frame.specs.Reading.{frame_of}
-use Rattle.x25_frame.specs.declared.error.FrameError.{FrameError}
-use Rattle.x25_frame.specs.declared.error.FrameError.TheVariants.{Undefined, NoInfoAllowed, TooLong}
-use Rattle.x25_link.specs.declared.phase.Phase.{Phase}
-use Rattle.x25_link.specs.declared.phase.Phase.TheVariants.{Down, Waiting, Up, Closed}
-use Rattle.x25_link.specs.Outgoing.{no_packet, moved_on}
-use Rattle.x25_link.specs.Station.{LinkSettings, LinkStation, Side, with_nothing, fresh, is_busy, wanted, with_near, next_frame, sends, ready, send_next}
-use Rattle.x25_link.specs.Station.{may_send, pumped, owes_ready, ended}
-use Rattle.x25_link.specs.Hearing.{LinkStep, quiet, other, is_valid, acknowledged, is_taken, takes, answers, passes_over, hears_info, peer_is, goes_back, polls}
-use Rattle.x25_link.specs.Hearing.{numbered, rejects, reject_of, row_of_frame, row_of}
-use Rattle.x25_link.specs.Link.{alone, hears, when_down, when_waiting}
-use Rattle.x25_link.specs.code.Bounds.{TakeSendsFew, PutSendsOne}
-use Rattle.x25_link.proofs.OutgoingLemmas.{sent_length}
+use Rattle.x25_link.proofs.Names.{◌≡◌, ℕ, zero, suc, ◌+◌, ◌≤◌, List, [], ◌∷◌, length, Bool, true, false, not, if◌then◌else◌, Result, Ok, Err, refl, ap, arith}
+use Rattle.x25_link.proofs.Names.{length-append, subst, sym, PlainFrame, info, rr, rnr, rej, sabm, disc, ua, dm, ◌&&◌, is_command, poll_or_final}
+use Rattle.x25_link.proofs.Names.{frame_of, FrameError, Undefined, NoInfoAllowed, TooLong, Phase, Down, Waiting, Up, Closed, no_packet, moved_on, LinkSettings}
+use Rattle.x25_link.proofs.Names.{LinkStation, Side, with_nothing, fresh, is_busy, wanted, with_near, next_frame, sends, ready, send_next, may_send, pumped}
+use Rattle.x25_link.proofs.Names.{owes_ready, ended, LinkStep, quiet, other, is_valid, acknowledged, is_taken, takes, answers, passes_over, hears_info, peer_is}
+use Rattle.x25_link.proofs.Names.{goes_back, polls, numbered, rejects, reject_of, row_of_frame, row_of, alone, hears, when_down, when_waiting}
 use Rattle.x25_link.proofs.EndLemmas.{with_packet, put_once}
+use Rattle.x25_link.{proofs.OutgoingLemmas.{sent_length}, specs.code.Bounds.{TakeSendsFew, PutSendsOne}}
 
 -- ---- one frame at most, and V(S) stays where it may lie
 
@@ -93,8 +82,7 @@ module _ (was : Type 0) where
   frame_few c octets (sabm p) t h = anew (ua p) t fresh h refl
   frame_few c octets (disc p) t h = anew (ua p) t (with_nothing Down t.near.tries) h refl
   frame_few c octets (ua f) t h = silent t h
-  frame_few c octets (dm f) t h = let few = h.few in record { few = omega (arith, few); low = λ _. omega arith }
-  frame_few c octets (frmr f why) t h = let few = h.few in record { few = omega (arith, few); low = λ _. omega arith }
+  frame_few c octets frame t h = let few = h.few in record { few = omega (arith, few); low = λ _. omega arith }
 
   read_few : (c : LinkSettings) (octets : List ℕ) (read : Result PlainFrame FrameError) (t : Side) → Few was 0 t → Few was 1 (row_of c octets read t).side
   read_few c octets (Ok frame) t h = frame_few c octets frame t h

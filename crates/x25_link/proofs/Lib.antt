@@ -1,3 +1,4 @@
+pub mod Names
 pub mod AckedLemmas
 pub mod OutgoingLemmas
 pub mod PlaceLemmas

@@ -1,28 +1,13 @@
 -- A link between its calls.
-use Rattle.std.proofs.Common.{length, arith, ◌≤◌, ◌≡◌, ℕ, ◌+◌, ◌%◌, List, [], ◌∷◌, ◌++◌, append-nil, Bool, true, false, not, if◌then◌else◌, refl, sym, ap, ◌∙◌, subst}
-use Rattle.std.proofs.lemmas.Bool.{and_left, and_right}
-use Rattle.std.proofs.lemmas.List.{length-drop}
-use Rattle.std.specs.Prelude.{nat_lt, ◌&&◌, ◌||◌, Result, Ok}
-use Rattle.x25_frame.specs.Frame.{PlainFrame, info}
-use Rattle.x25_frame.specs.Reading.{frame_of}
-use Rattle.x25_frame.specs.declared.error.FrameError.{FrameError}
+use Rattle.x25_link.proofs.Names.{length, arith, ◌≤◌, ◌≡◌, ℕ, ◌+◌, ◌%◌, List, [], ◌∷◌, ◌++◌, append-nil, Bool, true, false, not, if◌then◌else◌, refl, sym, ap}
+use Rattle.x25_link.proofs.Names.{◌∙◌, subst, and_right, length-drop, nat_lt, ◌&&◌, ◌||◌, PlainFrame, info, frame_of, FrameError, spelling_of, Outgoing, added}
+use Rattle.x25_link.proofs.Names.{is_open, moved_on, next_packet, FitsOutgoing, Phase, Up, LinkSettings, LinkStation, Side, is_up, is_busy, wanted, with_near}
+use Rattle.x25_link.proofs.Names.{ready, may_send, owes_ready, ended, other, row_of_frame, alone, asks_again, closed_by, fires, hears, puts, FitsStation}
+use Rattle.std.{proofs.lemmas.Bool.{and_left}, specs.Prelude.{Result, Ok}}
 use Rattle.x25_bits.specs.declared.role.Role.{Role}
-use Rattle.x25_frame.specs.Spelling.{spelling_of}
-use Rattle.x25_link.specs.declared.outgoing.Outgoing.{Outgoing as OutgoingCode}
-use Rattle.x25_link.specs.declared.station.LinkStation.{LinkStation as StationCode}
-use Rattle.x25_link.specs.Outgoing.{Outgoing, added, is_open, moved_on, next_packet}
-use Rattle.x25_link.specs.code.OutgoingHeld.{FitsOutgoing}
-use Rattle.x25_link.proofs.FitsLemmas.{sends_fits}
-use Rattle.x25_link.specs.declared.phase.Phase.{Phase}
-use Rattle.x25_link.specs.declared.phase.Phase.TheVariants.{Up}
-use Rattle.x25_link.specs.Station.{LinkSettings, LinkStation, Side, is_up, is_busy, wanted, with_near, ready, may_send, owes_ready, ended}
-use Rattle.x25_link.specs.Hearing.{other, row_of_frame}
-use Rattle.x25_link.specs.Link.{alone, asks_again, closed_by, fires, hears, puts}
-use Rattle.x25_link.specs.code.Fits.{FitsStation, FitsSide, Made}
-use Rattle.x25_link.proofs.OutgoingLemmas.{sent_length}
-use Rattle.x25_link.specs.code.Bounds.{FewWait, FewStand, WindowIsSmall}
-use Rattle.x25_link.specs.code.FitsLink.{ShownLink, FitsLink}
-use Rattle.x25_link.proofs.EndLemmas.{true_false, put_once, ready_sends, ended_stays}
+use Rattle.x25_link.proofs.{EndLemmas.{true_false, put_once, ready_sends, ended_stays}, FitsLemmas.{sends_fits}, Names.{FitsSide}, OutgoingLemmas.{sent_length}}
+use Rattle.x25_link.specs.code.{Bounds.{FewWait, FewStand, WindowIsSmall}, Fits.{Made}, FitsLink.{ShownLink, FitsLink}}
+use Rattle.x25_link.specs.declared.{outgoing.Outgoing.{Outgoing as OutgoingCode}, station.LinkStation.{LinkStation as StationCode}}
 
 -- ---- a call begins: no frame is made yet
 

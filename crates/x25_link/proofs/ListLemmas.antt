@@ -1,5 +1,6 @@
 -- The first item of what is left of a list.
-use Rattle.std.proofs.Common.{◌≡◌, ℕ, zero, suc, ◌+◌, ◌<◌, List, [], ◌∷◌, length, drop, Some, slice_get, ◌∙◌, arith, add-one}
+use Rattle.x25_link.proofs.Names.{◌≡◌, ℕ, zero, suc, ◌+◌, ◌<◌, List, [], ◌∷◌, length, drop, Some, ◌∙◌, arith}
+use Rattle.std.proofs.Common.{slice_get, add-one}
 
 pub record First (n : ℕ) (xs : List (List ℕ)) (x : List ℕ) (rest : List (List ℕ)) : Type 0 where
   pub below : n < length xs

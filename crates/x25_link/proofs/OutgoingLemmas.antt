@@ -1,17 +1,12 @@
 -- The two lists of a outgoing, the packets sent and those that wait, as one.
-use Rattle.std.proofs.Common.{◌≡◌, ℕ, ◌+◌, ◌%◌, ◌<◌, ◌≤◌, ◌&&◌, List, [], ◌∷◌, ◌++◌, length, length-append, take, drop, slice_index_or, max, Bool, true, false, not, if◌then◌else◌}
-use Rattle.std.proofs.Common.{refl, sym, ap, ◌∙◌, arith}
-use Rattle.std.specs.Prelude.{nat_lt, slice_get, Some}
-use Rattle.std.proofs.lemmas.Option.{get_or_from_slice_get}
-use Rattle.std.proofs.lemmas.List.{length-take-le, take-append-le, drop-append-le, take_more, drop_more, length-drop, get_or-take}
-use Rattle.std.proofs.lemmas.Bool.{lt-ltb, ltb-true, ltb-false, eq-eqb}
-use Rattle.x25_window.specs.code.Held.{Held, Fits, advanced}
-use Rattle.x25_window.specs.Sender.{Sending, acknowledged, offered}
-use Rattle.x25_frame.specs.Frame.{info}
+use Rattle.x25_link.proofs.Names.{◌≡◌, ℕ, ◌+◌, ◌%◌, ◌<◌, ◌≤◌, List, [], ◌∷◌, ◌++◌, length, length-append, take, drop, Bool, true, false, not, if◌then◌else◌}
+use Rattle.x25_link.proofs.Names.{refl, sym, ap, ◌∙◌, arith, nat_lt, length-take-le, length-drop, lt-ltb, ltb-false, eq-eqb, Held, Fits, info, Outgoing, added}
+use Rattle.std.proofs.{Common.{◌&&◌, slice_index_or, max}, lemmas.Bool.{ltb-true}}
+use Rattle.std.proofs.lemmas.{List.{take-append-le, drop-append-le, take_more, drop_more, get_or-take}, Option.{get_or_from_slice_get}}
+use Rattle.std.specs.Prelude.{slice_get, Some}
+use Rattle.x25_link.{proofs.Names.{is_open, next_packet, FitsOutgoing, sending_of}, specs.Outgoing.{moved_on as sent_on}}
 use Rattle.x25_link.specs.declared.outgoing.Outgoing.{Outgoing as OutgoingCode}
-use Rattle.x25_link.specs.Outgoing.{moved_on as sent_on}
-use Rattle.x25_link.specs.Outgoing.{Outgoing, added, is_open, next_packet}
-use Rattle.x25_link.specs.code.OutgoingHeld.{FitsOutgoing, sending_of}
+use Rattle.x25_window.specs.{Sender.{Sending, acknowledged, offered}, code.Held.{advanced}}
 
 pub sent_length : (k : ℕ) (b : OutgoingCode) (o : Outgoing) → FitsOutgoing k b o → length (take o.sent o.given) ≡ o.sent
 sent_length k b o fits = length-take-le o.sent o.given fits.sent

@@ -1,9 +1,8 @@
 -- How many packets stand in long places.
-use Rattle.std.proofs.Common.{◌≡◌, ℕ, ◌+◌, ◌<◌, ◌≤◌, List, [], ◌∷◌, ◌++◌, length, drop, Some, slice_get, length-append, Bool, true, false, if◌then◌else◌, refl}
-use Rattle.std.proofs.Common.{◌-◌, sym, ap, ◌∙◌, arith}
-use Rattle.std.specs.Prelude.{nat_le}
+use Rattle.x25_link.proofs.Names.{◌≡◌, ℕ, ◌+◌, ◌<◌, ◌≤◌, List, [], ◌∷◌, ◌++◌, length, drop, Some, length-append, Bool, true, false, if◌then◌else◌, refl, ◌-◌}
 use Rattle.circular_buffer.specs.Buffer.{Buffer, buffer, keep_last}
-use Rattle.x25_link.specs.code.Places.{long_of, longs, left_for, ShownSpares}
+use Rattle.std.{proofs.Common.{slice_get}, specs.Prelude.{nat_le}}
+use Rattle.x25_link.{proofs.Names.{sym, ap, ◌∙◌, arith}, specs.code.Places.{long_of, longs, left_for, ShownSpares}}
 
 by_size : (b : Bool) → (if b then 0 else 1) ≤ 1
 by_size true = omega arith

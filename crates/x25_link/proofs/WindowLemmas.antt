@@ -1,14 +1,10 @@
 -- What each small step of a station keeps: it is a run of the window machine.
-use Rattle.std.proofs.Common.{◌≡◌, ℕ, zero, suc, List, [], Bool, true, false, not, if◌then◌else◌, refl, arith}
+use Rattle.x25_link.proofs.Names.{◌≡◌, ℕ, zero, suc, List, [], Bool, true, false, not, if◌then◌else◌, refl, arith, PlainFrame, rr, rnr, rej, Outgoing, Side}
+use Rattle.x25_link.proofs.Names.{is_up, is_busy, wanted, with_near, sends, ready, send_next, may_send, pumped, owes_ready, finished, ended, answers}
 use Rattle.std.proofs.lemmas.Option.{slice_get-get_or}
-use Rattle.x25_frame.specs.Frame.{PlainFrame, rr, rnr, rej}
-use Rattle.x25_link.specs.Outgoing.{Outgoing}
-use Rattle.x25_link.specs.Station.{Side, is_up, is_busy, wanted, with_near, sends, ready, send_next, may_send, pumped, owes_ready, finished, ended}
-use Rattle.x25_link.specs.Hearing.{answers, passes_over, goes_back, polls}
-use Rattle.x25_window.specs.laws.Window.EndStep.{Send, Tell}
+use Rattle.x25_link.{proofs.EndLemmas.{open_is}, proofs.Names.{passes_over, goes_back, polls}, specs.laws.WindowLaw.{IsSound, window_in}}
 use Rattle.x25_link.specs.laws.WindowMachine.{Window, Runs, goes_on}
-use Rattle.x25_link.specs.laws.WindowLaw.{IsSound, window_in}
-use Rattle.x25_link.proofs.EndLemmas.{open_is}
+use Rattle.x25_window.specs.laws.Window.EndStep.{Send, Tell}
 
 -- by the values alone, so that a step that changes only flags keeps it by computation
 pub record KeptAt (k : ℕ) (from : Window) (is_on : Bool) (o : Outgoing) (taken : List (List ℕ)) (out : List PlainFrame) : Type 0 where

@@ -1,11 +1,12 @@
 ghost use Rattle.std.specs.Prelude.{◌≡◌, ◌+◌, ◌<◌, ◌≤◌, List, [], ◌∷◌, ◌++◌, length, map, IfOk, OnOk};
-ghost use Rattle.std.specs.Prelude.{vec_capacity, false};
+ghost use Rattle.std.specs.Prelude.{vec_capacity, false, take, drop};
 ghost use Rattle.std.specs.List.{All};
 ghost use Rattle.x25_frame.specs.Frame.{plain, info};
 ghost use Rattle.x25_frame.specs.Spelling.{spelling_of, information_of};
 
 use std::alloc::{AllocError, Global};
 use std::marker::Model;
+use std::mem::replace;
 use x25_bits::{Role, Seq};
 use x25_frame::{Frame, encode};
 
@@ -59,6 +60,19 @@ impl Frames {
         ensures memory { All (λ v. vec_capacity v ≡ 4103) result.now }
     {
         &self.places[..self.count]
+    }
+
+    /// Takes the octets of the frame at this place out with their memory. Other memory comes in its stead, and what
+    /// stands there is of no use.
+    pub fn exchange(&mut self, place: usize, memory: Vec<u8>) -> Vec<u8>
+        requires place { place < length self.old }
+        requires memory { vec_capacity memory ≡ 4103 }
+        ensures frame { take 1 (drop place self.old) ≡ result.items ∷ [] }
+        ensures memory { vec_capacity result ≡ 4103 }
+        ensures rest { drop (place + 1) self.new ≡ drop (place + 1) self.old }
+        ensures count { length self.new ≡ length self.old }
+    {
+        replace(&mut self.places[place], memory)
     }
 
     /// Takes all frames out. Their memory stays.

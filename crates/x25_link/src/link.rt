@@ -94,7 +94,7 @@ impl Link {
     }
 
     /// Takes octets, frame check sequence included, and does what they ask for by the must-send table and the phases.
-    pub fn take<'a>(&mut self, octets: &'a [u8]) -> Heard<'a>
+    pub fn hear<'a>(&mut self, octets: &'a [u8]) -> Heard<'a>
         ensures { Does self.old self.new (Ok result) (λ s. None) (λ c s. take_step c octets.now s) }
     {
         self.frames.clear();

@@ -121,7 +121,7 @@ impl LinkStation {
     {
         self.phase = phase;
         self.outgoing.clear();
-        self.receiver.clear();
+        self.receiver = Receiver::new();
         self.recovery = false;
         self.peer_busy = false;
         self.rejecting = false;

@@ -36,6 +36,15 @@ pub fn swap(link: &mut Link, frames: &mut Frames) {
     link.swap_frames(frames);
 }
 
+/// The first frame of a list, for which other memory is given.
+pub fn first_out(frames: &mut Frames, alloc: Global) -> Option<Vec<u8>> {
+    let memory = Vec::with_capacity(alloc, 4103).ok()?;
+    if frames.len() == 0 {
+        return None;
+    }
+    Some(frames.exchange(0, memory))
+}
+
 pub fn connect(link: &mut Link) -> Result<Heard<'static>, LinkError> {
     link.connect()
 }
@@ -66,7 +75,7 @@ pub fn fire(link: &mut Link) -> Result<Heard<'static>, LinkError> {
 }
 
 pub fn take<'a>(link: &mut Link, octets: &'a [u8]) -> Heard<'a> {
-    link.take(octets)
+    link.hear(octets)
 }
 
 /// Hands a packet down, where it is short enough.

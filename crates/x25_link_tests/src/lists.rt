@@ -1,6 +1,6 @@
 //! The list of frames that a link exchanges with its caller's.
 
-use crate::calls::{connect, link, no_frames, put, relink, swap, take};
+use crate::calls::{connect, first_out, link, no_frames, put, relink, swap, take};
 use std::alloc::Global;
 use x25_bits::{Role, Seq};
 use x25_frame::{Frame, encode};
@@ -54,6 +54,22 @@ fn answers_of_a_dce(alloc: Global) -> Result<(Ends, usize, Ends), LinkError> {
 fn frames_come_in_order(rt: HostRuntime) {
     let wanted = ((1, true, false), 0, (2, true, true));
     assert_eq!(rt; answers_of_a_dce(rt.alloc()), Ok(wanted));
+}
+
+// Whether the first of two frames is UA, and what stands in the list once it is taken out.
+fn taken_out(alloc: Global) -> Result<(bool, Ends), LinkError> {
+    let mut link = link(alloc, Role::Dce, 7, 10)?;
+    let mut frames = no_frames(alloc)?;
+    take(&mut link, &SABM);
+    put(&mut link, &[0])?;
+    swap(&mut link, &mut frames);
+    let first = first_out(&mut frames, alloc);
+    Ok((is(first.as_ref(), &UA), ends(&frames)))
+}
+
+#[test]
+fn a_frame_is_taken_out_with_its_memory(rt: HostRuntime) {
+    assert_eq!(rt; taken_out(rt.alloc()), Ok((true, (2, false, true))));
 }
 
 // The DCE acknowledges all frames below this number.

@@ -1,14 +1,9 @@
 -- Digits packed into octets, and read from them again.
-use Rattle.std.proofs.Common.{ℕ, zero, suc, ◌+◌, ◌*◌, ◌/◌, ◌%◌, ◌<◌, ◌≤◌, ◌≡◌, ◌∙◌, true, List, [], ◌∷◌, ◌++◌, length, get_or, take, drop, refl, ap, sym, arith}
-use Rattle.std.proofs.Common.{nat_eq, length-drop, length-append}
-use Rattle.std.specs.Prelude.{◌&&◌}
-use Rattle.std.specs.List.{list_all}
-use Rattle.std.proofs.lemmas.List.{length-take-le, append_assoc, take_more, drop-drop, drop-append-le, take-append-drop, take-append-le}
-use Rattle.x25_packet.specs.Spelling.{addresses, call_body}
-use Rattle.std.proofs.lemmas.List.Folds.{list_all-append}
-use Rattle.std.proofs.lemmas.Bool.{and_parts, leb-true, and_from, eqb-true}
-use Rattle.x25_packet.specs.Digits.{halves_of, halves_at, packed, is_digit, hold_digits, IsAddress}
-use Rattle.x25_packet.proofs.DigitLemmas.{length-halves_of, list_all-take, list_all-drop, list_all-get}
+use Rattle.x25_packet.proofs.Names.{ℕ, zero, suc, ◌+◌, ◌*◌, ◌/◌, ◌%◌, ◌<◌, ◌≤◌, ◌≡◌, ◌∙◌, true, List, [], ◌∷◌, ◌++◌, length, get_or, take, drop, refl, ap, sym}
+use Rattle.x25_packet.proofs.Names.{arith, nat_eq, length-drop, length-append, ◌&&◌, list_all, length-take-le, list_all-append, and_parts, leb-true, and_from}
+use Rattle.std.proofs.lemmas.List.{append_assoc, take_more}
+use Rattle.x25_packet.proofs.DigitLemmas.{length-halves_of, list_all-take, list_all-drop}
+use Rattle.x25_packet.{proofs.Names.{eqb-true, halves_of, halves_at, packed, is_digit, hold_digits, IsAddress}, specs.Spelling.{addresses, call_body}}
 
 -- 0 in the half octet that is left over, where the number is odd
 filler : List ℕ → List ℕ

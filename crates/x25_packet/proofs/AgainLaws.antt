@@ -1,24 +1,15 @@
 -- What is spelled as a packet is read so.
-use Rattle.std.proofs.Common.{ℕ, ◌+◌, ◌*◌, ◌/◌, ◌%◌, ◌<◌, ◌≤◌, ◌≡◌, ◌∙◌, Bool, true, false, List, [], ◌∷◌, ◌++◌, length, take, drop, refl, ap, inl, inr, arith}
-use Rattle.std.proofs.Common.{nat_eq, nat_lt, Option, Some, None, Ok, length-append}
-use Rattle.std.specs.Prelude.{max, nat_le, ◌||◌}
-use Rattle.std.proofs.lemmas.Bool.{le-leb, le-ltb, ne_eqb}
+use Rattle.x25_packet.proofs.Names.{ℕ, ◌+◌, ◌*◌, ◌/◌, ◌%◌, ◌<◌, ◌≤◌, ◌≡◌, ◌∙◌, Bool, true, false, List, [], ◌∷◌, ◌++◌, length, take, drop, refl, ap, inl, inr}
+use Rattle.x25_packet.proofs.Names.{arith, nat_eq, nat_lt, Option, Some, None, Ok, length-append, max, nat_le, ◌||◌, le-leb, le-ltb, ne_eqb, bit, Facilities}
+use Rattle.x25_packet.proofs.Names.{Forms, Written, Any, PlainFields, PlainBlock, fields_octets, block_octets, optional_octets, IsField, MayBeFields, IsBlock}
+use Rattle.x25_packet.proofs.Names.{MayBeBlock, facilities_of, PlainKind, PlainForm, call, accept, clear, extended_clear, clear_conf, user_data, rr, rnr, rej}
+use Rattle.x25_packet.proofs.Names.{interrupt, interrupt_conf, reset, reset_conf, restart, restart_conf, diagnostic, registration, registration_conf, type_of}
+use Rattle.x25_packet.proofs.Names.{body_of, spelling_of, reason_octets, may_have, HasFacilities, HasPlace, IsAnswer, IsShort, IsKind, IsPacket, MayLack}
+use Rattle.x25_packet.proofs.Names.{Spells, when, mapped, is_over, field_read, fields_of, with_addresses, addressed, block_of, optional_block, is_short, called}
+use Rattle.x25_packet.proofs.Names.{call_of, written_answer, accept_of, reason_of, caused, clear_of, clear_conf_of, interrupt_of, unchannelled, channelled}
 use Rattle.std.proofs.lemmas.List.{take_at, drop_at}
-use Rattle.x25_bits.specs.Bits.{bit}
-use Rattle.x25_packet.specs.declared.facilities.Facilities.{Facilities}
-use Rattle.x25_packet.specs.declared.form.Forms.{Forms}
-use Rattle.x25_packet.specs.declared.form.Forms.TheVariants.{Written, Any}
-use Rattle.x25_packet.specs.Block.{PlainFields, PlainBlock, fields_octets, block_octets, optional_octets, IsField, MayBeFields, IsBlock, MayBeBlock}
-use Rattle.x25_packet.specs.Facilities.{facilities_of}
-use Rattle.x25_packet.specs.Form.{PlainKind, PlainForm, call, accept, clear, extended_clear, clear_conf, user_data, rr, rnr, rej, interrupt, interrupt_conf}
-use Rattle.x25_packet.specs.Form.{reset, reset_conf, restart, restart_conf, diagnostic, registration, registration_conf}
-use Rattle.x25_packet.specs.Form.Spelling.{type_of, body_of, spelling_of, first_of, reason_octets, may_have, HasFacilities, HasPlace, IsAnswer, IsCall}
-use Rattle.x25_packet.specs.Form.Spelling.{IsCleared, IsShort, IsKind, IsPacket, MayLack, Spells}
-use Rattle.x25_packet.specs.Grammar.{when, mapped, is_over, field_read, fields_of, with_addresses, addressed, block_of, optional_block, is_short, called}
-use Rattle.x25_packet.specs.Grammar.{call_of, written_answer, accept_of, reason_of, caused, clear_of, clear_conf_of, interrupt_of, unchannelled, channelled}
-use Rattle.x25_packet.specs.Grammar.{kind_of, with_head, read_of}
-use Rattle.x25_packet.proofs.FacilityLaws.{facilities_again}
-use Rattle.x25_packet.proofs.FacilityLemmas.{field_again}
+use Rattle.x25_packet.proofs.{FacilityLaws.{facilities_again}, FacilityLemmas.{field_again}, Names.{kind_of, with_head, read_of}}
+use Rattle.x25_packet.specs.Form.Spelling.{first_of, IsCall, IsCleared}
 
 -- ---- addresses, facilities and user data
 

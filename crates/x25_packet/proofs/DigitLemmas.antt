@@ -1,12 +1,8 @@
 -- Half octets by their place, and digits packed into octets.
-use Rattle.std.proofs.Common.{ℕ, zero, suc, ◌+◌, ◌-◌, ◌*◌, ◌/◌, ◌%◌, ◌<◌, ◌≤◌, ◌≡◌, ◌≢◌, ◌∙◌, Bool, true, false, List, [], ◌∷◌, ◌++◌, length, get_or, take}
-use Rattle.std.proofs.Common.{drop, refl, ap, sym, arith, nat_eq}
-use Rattle.std.specs.Prelude.{◌&&◌, nat_le}
-use Rattle.std.specs.List.{list_all}
-use Rattle.std.proofs.lemmas.List.{append-nil, drop_all, drop_more, length-map, take-append-drop}
-use Rattle.std.proofs.lemmas.List.Folds.{list_all-append}
-use Rattle.std.proofs.lemmas.Bool.{and_parts, leb-true, le-leb, and_from}
-use Rattle.x25_packet.specs.Digits.{IsAddress, halves_of, digits_of_text, is_digit, is_pair, is_figure, hold_digits}
+use Rattle.x25_packet.proofs.Names.{ℕ, zero, suc, ◌+◌, ◌-◌, ◌*◌, ◌/◌, ◌%◌, ◌<◌, ◌≤◌, ◌≡◌, ◌≢◌, ◌∙◌, Bool, true, false, List, [], ◌∷◌, ◌++◌, length, get_or}
+use Rattle.x25_packet.proofs.Names.{take, drop, refl, ap, sym, arith, nat_eq, ◌&&◌, nat_le, list_all, take-append-drop, list_all-append, and_parts, leb-true}
+use Rattle.std.proofs.{Math.Bool.{and-true}, lemmas.List.{append-nil, length-map}}
+use Rattle.x25_packet.{proofs.Names.{le-leb, and_from, IsAddress, halves_of, is_digit, hold_digits}, specs.Digits.{digits_of_text, is_pair, is_figure}}
 
 pub length-halves_of : (octets : List ℕ) → length (halves_of octets) ≡ 2 * length octets
 unfolding halves_of
@@ -81,38 +77,23 @@ halves_are_digits (b ∷ octets) = rw (halves_are_digits octets) (regroup (is_di
     regroup true y z = refl
     regroup false y z = refl
 
-pub filler_none : (count : ℕ) (octets : List ℕ) → 2 * length octets ≤ count
-    → list_all (λ half. nat_eq half 0) (drop count (halves_of octets)) ≡ true
-filler_none count octets few =
-    let none : drop count (halves_of octets) ≡ [] = drop_all count (halves_of octets) (rw length-halves_of few) in
-    rw none refl
+-- what stands behind the digits is the low half of the last octet, or nothing
+pub filler_is : (count : ℕ) (octets : List ℕ) → length octets ≤ (count + 1) / 2
+    → list_all (λ half. nat_eq half 0) (drop count (halves_of octets)) ≡ nat_eq (get_or octets (count / 2) 0 % 16) 0
+unfolding halves_of
+filler_is zero [] few = refl
+filler_is zero (b ∷ octets) few = absurd (omega (arith, few))
+filler_is (suc zero) [] few = refl
+filler_is (suc zero) (b ∷ []) few = and-true (nat_eq (b % 16) 0)
+filler_is (suc zero) (b ∷ b' ∷ octets) few = absurd (omega (arith, few))
+filler_is (suc (suc n)) [] few = refl
+filler_is (suc (suc n)) (b ∷ octets) few =
+    let at : suc (suc n) / 2 ≡ suc (n / 2) = omega arith in
+    rw at (filler_is n octets (omega (arith, few)))
 
-pub filler_one : (count : ℕ) (octets : List ℕ) → length octets ≡ (count + 1) / 2 → count % 2 ≢ 0
-    → drop count (halves_of octets) ≡ get_or octets (count / 2) 0 % 16 ∷ []
-filler_one count octets size odd =
-    let at : count ≡ 2 * (count / 2) + 1 = omega arith in
-    let long : count < length (halves_of octets) = rw length-halves_of (omega arith) in
-    let past : drop (count + 1) (halves_of octets) ≡ [] = drop_all (count + 1) (halves_of octets) (rw length-halves_of (omega arith)) in
-    let half : get_or (halves_of octets) count 0 ≡ get_or octets (count / 2) 0 % 16 =
-    ap (λ n. get_or (halves_of octets) n 0) at ∙ low_half octets (count / 2) in
-    drop_more (halves_of octets) count 0 long ∙ ap (λ (rest : List ℕ). get_or (halves_of octets) count 0 ∷ rest) past ∙ ap (λ h. h ∷ []) half
+pub none_held : (count : ℕ) (octets : List ℕ) (b : Bool) → b ≡ list_all is_pair octets → b ≡ false → false ≡ hold_digits count octets
+none_held count octets b is none = rw (halves_are_digits octets, sym is, none) refl
 
-pub no_pairs : (count : ℕ) (octets : List ℕ) (b : Bool) → b ≡ list_all is_pair octets → b ≡ false → false ≡ hold_digits count octets
-no_pairs count octets b e h =
-    let none : list_all is_digit (halves_of octets) ≡ false = halves_are_digits octets ∙ sym e ∙ h in
-    rw none refl
-
-pub all_digits : (octets : List ℕ) (b : Bool) → b ≡ list_all is_pair octets → b ≡ true → list_all is_digit (halves_of octets) ≡ true
-all_digits octets b e h = halves_are_digits octets ∙ sym e ∙ h
-
-pub no_filler : (count : ℕ) (octets : List ℕ) → 2 * length octets ≤ count → list_all is_digit (halves_of octets) ≡ true
-    → true ≡ hold_digits count octets
-no_filler count octets few all = rw (all, filler_none count octets few) refl
-
-pub a_filler : (count : ℕ) (octets : List ℕ) → length octets ≡ (count + 1) / 2 → count % 2 ≢ 0 → list_all is_digit (halves_of octets) ≡ true
-    → nat_eq (get_or octets (count / 2) 0 % 16) 0 ≡ hold_digits count octets
-a_filler count octets size odd all = rw (all, filler_one count octets size odd) (plain (nat_eq (get_or octets (count / 2) 0 % 16) 0))
-  where
-    plain : (b : Bool) → b ≡ (b && true)
-    plain true = refl
-    plain false = refl
+pub digits_held : (count : ℕ) (octets : List ℕ) (b : Bool) (last : ℕ) → b ≡ list_all is_pair octets → b ≡ true → length octets ≤ (count + 1) / 2
+    → last ≡ get_or octets (count / 2) 0 → nat_eq (last % 16) 0 ≡ hold_digits count octets
+digits_held count octets b last is all few last_is = rw (halves_are_digits octets, sym is, all, filler_is count octets few, last_is) refl

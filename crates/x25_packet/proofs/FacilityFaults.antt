@@ -1,16 +1,9 @@
 -- The error of a facility field that is answered is the first.
-use Rattle.std.proofs.Common.{ℕ, ◌<◌, ◌≡◌, ◌≢◌, ◌∙◌, true, false, List, [], ◌∷◌, ◌++◌, length, get_or, refl, ap, sym, subst, inl, inr, arith, nat_eq, Option}
-use Rattle.std.proofs.Common.{Some, None, Result, Ok, Err}
-use Rattle.std.specs.Prelude.{◌&&◌}
-use Rattle.std.proofs.lemmas.Bool.{eqb-true, eqb-false}
-use Rattle.x25_packet.specs.declared.error.PacketError.{PacketError}
+use Rattle.x25_packet.proofs.Names.{ℕ, ◌<◌, ◌≡◌, ◌≢◌, ◌∙◌, true, false, List, [], ◌∷◌, ◌++◌, length, get_or, refl, ap, sym, subst, inl, inr, arith, nat_eq}
+use Rattle.x25_packet.proofs.Names.{Option, Some, None, Result, Ok, Err, ◌&&◌, eqb-true, eqb-false, PacketError, Facilities, Directions, AreAllowed, AreWithin}
+use Rattle.x25_packet.proofs.Names.{IfGiven, facilities_of, facility, field_of, is_within, last, windows_of, with_sizes, FieldError, wrong_code, cut_off}
+use Rattle.x25_packet.{proofs.FacilityLaws.{chosen, within, both_within}, proofs.Names.{out_of_range}, specs.Reading.FirstError.{MayFollow}}
 use Rattle.x25_packet.specs.declared.error.PacketError.TheVariants.{BadFacility, BadParameter}
-use Rattle.x25_packet.specs.declared.facilities.Facilities.{Facilities}
-use Rattle.x25_packet.specs.declared.facilities.Directions.{Directions}
-use Rattle.x25_packet.specs.Facilities.{AreAllowed, AreWithin, IfGiven, facilities_of, facility, field_of, is_within, last, windows_of, with_sizes}
-use Rattle.x25_packet.specs.Reading.FirstError.{FieldError, MayFollow}
-use Rattle.x25_packet.specs.Reading.FirstError.FieldError.{wrong_code, cut_off, out_of_range}
-use Rattle.x25_packet.proofs.FacilityLaws.{chosen, within, both_within}
 
 pub err_ok : {A : Type 0} {v : A} {e : PacketError} → (let x : Result A PacketError = Ok v in let y : Result A PacketError = Err e in x ≡ y) → ⊥
 err_ok h = cc

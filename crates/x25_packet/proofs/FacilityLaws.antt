@@ -1,11 +1,7 @@
 -- A facility field is read exactly where it is one.
-use Rattle.std.proofs.Common.{ℕ, ◌≤◌, ◌≡◌, ◌⊎◌, Bool, true, false, List, [], ◌∷◌, ◌++◌, refl, ap, subst, inl, inr, nat_eq, Result, Ok, Err, Option, Some, None}
-use Rattle.std.specs.Prelude.{cond, nat_le, ◌&&◌}
-use Rattle.std.proofs.lemmas.Bool.{and_parts, and_from, leb-true, le-leb, eqb-true}
-use Rattle.x25_packet.specs.declared.error.PacketError.{PacketError}
-use Rattle.x25_packet.specs.declared.facilities.Facilities.{Facilities}
-use Rattle.x25_packet.specs.declared.facilities.Directions.{Directions}
-use Rattle.x25_packet.specs.Facilities.{AreAllowed, AreWithin, IfGiven, facilities_of, facility, field_of, is_within, last, windows_of, with_sizes}
+use Rattle.x25_packet.proofs.Names.{ℕ, ◌≤◌, ◌≡◌, ◌⊎◌, Bool, true, false, List, [], ◌∷◌, ◌++◌, refl, ap, subst, inl, inr, nat_eq, Result, Ok, Err, Option, Some}
+use Rattle.x25_packet.proofs.Names.{None, cond, nat_le, ◌&&◌, and_parts, and_from, leb-true, le-leb, eqb-true, PacketError, Facilities, Directions, AreAllowed}
+use Rattle.x25_packet.proofs.Names.{AreWithin, IfGiven, facilities_of, facility, field_of, is_within, last, windows_of, with_sizes}
 
 -- which way a test went
 pub chosen : {A : Type 0} (b : Bool) (x y z : A) → cond b x y ≡ z → ((b ≡ true) × (x ≡ z)) ⊎ ((b ≡ false) × (y ≡ z))

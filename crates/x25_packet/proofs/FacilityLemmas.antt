@@ -1,11 +1,8 @@
 -- A facility field is read exactly where it is facilities one behind another.
-use Rattle.std.proofs.Common.{ℕ, zero, suc, ◌+◌, ◌/◌, ◌<◌, ◌≤◌, ◌≡◌, ◌∙◌, Bool, true, false, List, [], ◌∷◌, ◌++◌, length, get_or, drop, refl, ap, sym, arith}
-use Rattle.std.proofs.Common.{nat_eq, nat_lt, ◌≢◌, inl, inr}
-use Rattle.std.specs.Prelude.{cond, ◌||◌}
-use Rattle.std.proofs.lemmas.Bool.{cases_lt, ne_eqb, le-ltb, lt-ltb}
-use Rattle.x25_packet.specs.Classes.{Facility, class_a, class_b, class_c, class_d, octets_of, IsOfClass, AreOfClass, field_of, IsFacilityField, are_facilities}
-use Rattle.x25_packet.specs.Classes.{more_of, size_of, own_in, with_facility}
-use Rattle.x25_packet.specs.declared.classes.Own.{Own}
+use Rattle.x25_packet.proofs.Names.{ℕ, zero, suc, ◌+◌, ◌/◌, ◌<◌, ◌≤◌, ◌≡◌, ◌∙◌, Bool, true, false, List, [], ◌∷◌, ◌++◌, length, get_or, drop, refl, ap, sym}
+use Rattle.x25_packet.proofs.Names.{arith, nat_eq, nat_lt, ◌≢◌, inl, inr, cond, ◌||◌, ne_eqb, le-ltb, class_b, IsFacilityField, are_facilities, own_in, Own}
+use Rattle.std.proofs.lemmas.Bool.{cases_lt, lt-ltb}
+use Rattle.x25_packet.specs.Classes.{Facility, class_a, class_c, class_d, octets_of, IsOfClass, AreOfClass, field_of, more_of, size_of, with_facility}
 
 -- ---- the code's steps
 

@@ -1,41 +1,23 @@
 -- The error that is answered is the first.
-use Rattle.std.proofs.Common.{ℕ, ◌+◌, ◌*◌, ◌/◌, ◌%◌, ◌<◌, ◌≤◌, ◌≡◌, ◌≢◌, ◌⊎◌, ◌∙◌, Bool, true, false, not, List, [], ◌∷◌, ◌++◌, length, get_or, take, drop}
-use Rattle.std.proofs.Common.{refl, ap, sym, subst, inl, inr, arith, nat_eq, nat_lt, Option, Some, None, Result, Ok, Err}
-use Rattle.std.specs.Prelude.{nat_le}
-use Rattle.std.proofs.lemmas.Bool.{and_parts, leb-false, le-ltb, ltb-true, ltb-false, eqb-true, eqb-false, ne_eqb}
-use Rattle.std.proofs.lemmas.List.{take-append-drop, length-take-le}
-use Rattle.x25_packet.specs.declared.error.PacketError.{PacketError}
-use Rattle.x25_packet.specs.declared.error.PacketError.TheVariants.{Unidentified}
-use Rattle.x25_packet.specs.declared.facilities.Facilities.{Facilities}
-use Rattle.x25_packet.specs.declared.form.Forms.TheVariants.{Written}
-use Rattle.x25_packet.specs.Digits.{halves_of, hold_digits}
-use Rattle.x25_packet.specs.Reading.FirstError.{AcceptError, BehindError, CallError, FieldError, HasFormat, IsBodyError, IsFirstError, IsLengthError, digits_of}
-use Rattle.x25_packet.specs.Reading.FirstError.FieldError.{wrong_code, cut_off, out_of_range}
+use Rattle.x25_packet.proofs.Names.{ℕ, ◌+◌, ◌*◌, ◌/◌, ◌%◌, ◌<◌, ◌≤◌, ◌≡◌, ◌≢◌, ◌⊎◌, ◌∙◌, Bool, true, false, not, List, [], ◌∷◌, ◌++◌, length, get_or, take}
+use Rattle.x25_packet.proofs.Names.{drop, refl, ap, sym, subst, inl, inr, arith, nat_eq, nat_lt, Option, Some, None, Result, Ok, Err, nat_le, and_parts, le-ltb}
+use Rattle.x25_packet.proofs.Names.{ltb-false, eqb-true, eqb-false, ne_eqb, take-append-drop, length-take-le, PacketError, Facilities, Written, halves_of}
+use Rattle.x25_packet.proofs.Names.{hold_digits, FieldError, wrong_code, cut_off, out_of_range, PlainPacket, IsAddress, bit, channel_of, PlainFields}
+use Rattle.x25_packet.proofs.Names.{facilities_of, packet_of, PlainKind, may_have, when, mapped, field_read, fields_of, with_addresses, block_of}
+use Rattle.x25_packet.proofs.Names.{optional_block, bare, written_answer, accept_of, reason_of, caused, clear_of, interrupt_of, data_of, unchannelled, named}
+use Rattle.std.proofs.lemmas.Bool.{leb-false, ltb-true}
+use Rattle.x25_packet.proofs.{AgainLaws.{bit_lt}, FacilityFaults.{err_ok, err_same, facilities_fault}, FacilityLaws.{chosen}}
+use Rattle.x25_packet.proofs.{FieldLaws.{no_field as none_is_field}, FoundLaws.{AreSmall, bit_eq, field_read_found, is_true}}
+use Rattle.x25_packet.proofs.{Names.{channelled, kind_of, has_format, with_head, read_of}, NarrowLaws.{error_read}, WiderLaws.{no_d}}
+use Rattle.x25_packet.specs.Marks.{with_q}
+use Rattle.x25_packet.specs.Packet.{call, accept, clear, clear_conf, user_data, rr, rnr, interrupt, interrupt_conf, reset, reset_conf, restart, restart_conf}
+use Rattle.x25_packet.specs.Reading.FirstError.{AcceptError, BehindError, CallError, HasFormat, IsBodyError, IsFirstError, IsLengthError, digits_of}
+use Rattle.x25_packet.specs.Reading.FirstError.AcceptError.{some_lengths, no_field, zero_size, behind_lengths}
 use Rattle.x25_packet.specs.Reading.FirstError.BehindError.{no_size, field_missing, in_field, user_long}
 use Rattle.x25_packet.specs.Reading.FirstError.CallError.{no_lengths, digits_missing, wrong_digit, behind_digits}
-use Rattle.x25_packet.specs.Reading.FirstError.AcceptError.{some_lengths, no_field, zero_size, behind_lengths}
 use Rattle.x25_packet.specs.Reading.FirstError.IsFirstError.{no_header, wrong_format, no_packet, in_body}
-use Rattle.x25_packet.specs.Marks.{with_q}
-use Rattle.x25_packet.specs.Packet.{PlainPacket, call, accept, clear, clear_conf, user_data, rr, rnr, interrupt, interrupt_conf, reset, reset_conf, restart}
-use Rattle.x25_packet.specs.Packet.{restart_conf}
-use Rattle.x25_packet.specs.Digits.{IsAddress}
-use Rattle.x25_bits.specs.Bits.{bit}
-use Rattle.x25_packet.specs.Spelling.{channel_of, format_of, header_of, type_of, IsChannel, IsInRange, IsWithoutD}
-use Rattle.x25_packet.specs.Block.{PlainFields}
-use Rattle.x25_packet.specs.Facilities.{facilities_of}
-use Rattle.x25_packet.specs.Reading.{packet_of}
+use Rattle.x25_packet.specs.{Spelling.{format_of, header_of, type_of, IsChannel, IsInRange, IsWithoutD}, declared.error.PacketError.TheVariants.{Unidentified}}
 use Rattle.x25_packet.specs.Form as wide
-use Rattle.x25_packet.specs.Form.{PlainKind}
-use Rattle.x25_packet.specs.Form.Spelling.{may_have}
-use Rattle.x25_packet.specs.Grammar.{when, mapped, field_read, fields_of, with_addresses, block_of, optional_block, bare, written_answer, accept_of, reason_of}
-use Rattle.x25_packet.specs.Grammar.{caused, clear_of, interrupt_of, data_of, unchannelled, named, channelled, kind_of, has_format, with_head, read_of}
-use Rattle.x25_packet.proofs.AgainLaws.{bit_lt}
-use Rattle.x25_packet.proofs.FieldLaws.{no_field as none_is_field}
-use Rattle.x25_packet.proofs.FoundLaws.{AreSmall, bit_eq, field_read_found, is_true}
-use Rattle.x25_packet.proofs.NarrowLaws.{error_read}
-use Rattle.x25_packet.proofs.WiderLaws.{no_d}
-use Rattle.x25_packet.proofs.FacilityLaws.{chosen}
-use Rattle.x25_packet.proofs.FacilityFaults.{err_ok, err_same, facilities_fault}
 
 -- ---- in a body
 

@@ -1,12 +1,7 @@
 -- The facility field that a station writes is facilities of all classes, is short, and says itself.
-use Rattle.std.proofs.Common.{ℕ, ◌≤◌, ◌≡◌, ◌∙◌, false, List, [], ◌∷◌, ◌++◌, length, refl, ap, subst, sym, arith, Option, Some, None, Ok}
-use Rattle.x25_packet.specs.declared.facilities.Directions.{Directions}
-use Rattle.x25_packet.specs.declared.facilities.Facilities.{Facilities}
-use Rattle.x25_packet.specs.declared.classes.Own.{Own}
+use Rattle.x25_packet.proofs.Names.{ℕ, ◌≤◌, ◌≡◌, ◌∙◌, false, List, [], ◌∷◌, ◌++◌, length, refl, ap, subst, sym, arith, Option, Some, None, Ok, Directions}
+use Rattle.x25_packet.proofs.{FacilityLaws.{both_within}, Names.{Facilities, Own, field_said, class_b, none_own, own_in, IsFacilityField}}
 use Rattle.x25_packet.specs.Facilities as strict_field
-use Rattle.x25_packet.specs.Narrowing.{field_said}
-use Rattle.x25_packet.specs.Classes.{class_b, none_own, own_in, IsFacilityField}
-use Rattle.x25_packet.proofs.FacilityLaws.{both_within}
 
 pub record SaysItself (field : List ℕ) : Type 0 where
   pub whole : IsFacilityField field

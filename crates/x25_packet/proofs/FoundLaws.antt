@@ -1,30 +1,16 @@
 -- What is read as a packet is spelled so.
-use Rattle.std.proofs.Common.{ℕ, zero, suc, ◌+◌, ◌*◌, ◌/◌, ◌%◌, ◌<◌, ◌≤◌, ◌≡◌, ◌≢◌, ◌∙◌, Bool, true, false, not, List, [], ◌∷◌, ◌++◌, length, get_or, take}
-use Rattle.std.proofs.Common.{drop, refl, ap, sym, subst, inl, inr, arith, nat_eq, nat_lt, Option, Some, None, Result, Ok, Err}
-use Rattle.std.specs.Prelude.{cond, max, nat_le, ◌||◌}
-use Rattle.std.proofs.lemmas.Bool.{and_parts, leb-true, ltb-false, eqb-true, eqb-false}
-use Rattle.std.proofs.lemmas.List.{take-append-drop, length-take-le}
-use Rattle.x25_packet.specs.declared.error.PacketError.{PacketError}
-use Rattle.x25_bits.specs.Bits.{bit}
-use Rattle.x25_packet.specs.declared.facilities.Facilities.{Facilities}
-use Rattle.x25_packet.specs.declared.form.Forms.{Forms}
-use Rattle.x25_packet.specs.declared.form.Forms.TheVariants.{Written, Any}
-use Rattle.x25_packet.specs.Block.{PlainFields, PlainBlock, fields_octets, block_octets, optional_octets, bound_of, hold_addresses, IsField, MayBeFields}
-use Rattle.x25_packet.specs.Block.{IsBlock, MayBeBlock}
-use Rattle.x25_packet.specs.Facilities.{facilities_of}
-use Rattle.x25_packet.specs.Classes.{are_facilities, asks_fast_select}
-use Rattle.x25_packet.specs.Form.{registration, registration_conf, PlainKind, PlainForm, call, accept, extended_clear, clear_conf, rr, rnr, rej, interrupt_conf}
-use Rattle.x25_packet.specs.Form.{reset, reset_conf, restart, restart_conf}
-use Rattle.x25_packet.specs.Form.Spelling.{type_of, body_of, reason_octets, may_have, HasFacilities, HasPlace, IsAnswer, IsShort, IsKind, MayLack, Spells}
-use Rattle.x25_packet.specs.declared.form.Form.{Form}
-use Rattle.x25_packet.specs.Form.{plain}
-use Rattle.x25_packet.specs.Made.{Reads}
-use Rattle.x25_packet.specs.Grammar.{Gives, when, mapped, is_over, field_read, fields_of, with_addresses, addressed, block_of, optional_block, bare, is_short, called}
-use Rattle.x25_packet.specs.Grammar.{call_of, written_answer, accept_of, reason_of, caused, clear_of, clear_conf_of, interrupt_of, data_of, diagnostic_of}
-use Rattle.x25_packet.specs.Grammar.{registered, rej_of, others, unchannelled, named, channelled, kind_of, has_format, with_head, read_of}
-use Rattle.x25_packet.proofs.FacilityLaws.{chosen, ok_err, ok_same, facilities_found}
-use Rattle.x25_packet.proofs.FieldLaws.{field_few}
-use Rattle.x25_packet.proofs.FacilityLemmas.{field_found}
+use Rattle.x25_packet.proofs.Names.{ℕ, zero, suc, ◌+◌, ◌*◌, ◌/◌, ◌%◌, ◌<◌, ◌≤◌, ◌≡◌, ◌≢◌, ◌∙◌, Bool, true, false, not, List, [], ◌∷◌, ◌++◌, length, get_or}
+use Rattle.x25_packet.proofs.Names.{take, drop, refl, ap, sym, subst, inl, inr, arith, nat_eq, nat_lt, Option, Some, None, Result, Ok, Err, cond, max, nat_le}
+use Rattle.x25_packet.proofs.Names.{◌||◌, and_parts, leb-true, ltb-false, eqb-true, eqb-false, take-append-drop, length-take-le, PacketError, bit, Facilities}
+use Rattle.x25_packet.proofs.Names.{Forms, Written, Any, PlainFields, PlainBlock, fields_octets, block_octets, optional_octets, hold_addresses, IsField}
+use Rattle.x25_packet.proofs.Names.{MayBeFields, IsBlock, MayBeBlock, facilities_of, are_facilities, registration, registration_conf, PlainKind, PlainForm}
+use Rattle.x25_packet.proofs.Names.{call, accept, extended_clear, clear_conf, rr, rnr, rej, interrupt_conf, reset, reset_conf, restart, restart_conf, type_of}
+use Rattle.x25_packet.proofs.Names.{body_of, reason_octets, may_have, HasFacilities, HasPlace, IsAnswer, IsShort, IsKind, MayLack, Spells, Reads, Gives, when}
+use Rattle.x25_packet.proofs.Names.{mapped, is_over, field_read, fields_of, with_addresses, addressed, block_of, optional_block, bare, is_short, called}
+use Rattle.x25_packet.proofs.Names.{call_of, written_answer, accept_of, reason_of, caused, clear_of, clear_conf_of, interrupt_of, data_of, rej_of, others}
+use Rattle.x25_packet.proofs.{FacilityLaws.{chosen, ok_err, ok_same, facilities_found}, FacilityLemmas.{field_found}, FieldLaws.{field_few}}
+use Rattle.x25_packet.{proofs.Names.{unchannelled, named, channelled, kind_of, has_format, with_head, read_of}, specs.Block.{bound_of}}
+use Rattle.x25_packet.specs.{Classes.{asks_fast_select}, Form.{plain}, Grammar.{diagnostic_of, registered}, declared.form.Form.{Form}}
 
 -- no error by a test
 pub passed : {A : Type 0} (b : Bool) (e : PacketError) (r : Result A PacketError) (v : A) → cond b (Err e) r ≡ Ok v → (b ≡ false) × (r ≡ Ok v)

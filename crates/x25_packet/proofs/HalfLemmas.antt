@@ -1,35 +1,24 @@
 -- Half octets as far as they are there, and the digits behind the type and the plan of an address.
-use Rattle.std.proofs.Common.{ℕ, zero, suc, ◌+◌, ◌-◌, ◌*◌, ◌/◌, ◌%◌, ◌<◌, ◌≤◌, ◌≡◌, ◌∙◌, Bool, true, false, List, [], ◌∷◌, length, take, drop, get_or}
-use Rattle.std.proofs.Common.{if◌then◌else◌, refl, ap, sym, arith, length-drop}
-use Rattle.std.specs.Prelude.{◌&&◌, nat_le}
-use Rattle.std.proofs.Math.Nat.{min-le_left}
-use Rattle.std.proofs.lemmas.Bool.{and_parts, le-leb, leb-true}
-use Rattle.std.proofs.lemmas.List.{drop_all, drop-drop, drop-take, length-take, take_all}
+use Rattle.x25_packet.proofs.Names.{ℕ, ◌+◌, ◌-◌, ◌*◌, ◌/◌, ◌%◌, ◌<◌, ◌≤◌, ◌≡◌, ◌∙◌, Bool, true, false, List, [], ◌∷◌, length, take, drop, get_or, refl, ap, sym}
+use Rattle.x25_packet.proofs.Names.{arith, length-drop, ◌&&◌, nat_le, and_parts, le-leb, leb-true, halves_at, halves_of, hold_digits, PlainBlock, digits_behind}
+use Rattle.std.proofs.{Common.{if◌then◌else◌, min}, Math.Nat.{min-le_left}, lemmas.List.{drop_min, drop-drop, drop-take, length-take, take_min}}
 use Rattle.x25_packet.proofs.DigitLemmas.{length-halves_of}
-use Rattle.x25_packet.specs.Digits.{halves_at, halves_of, hold_digits}
-use Rattle.x25_packet.specs.Block.{PlainBlock, block_at}
-use Rattle.x25_packet.specs.Narrowing.{digits_behind}
-use Rattle.x25_packet.specs.Views.{called_of, calling_of}
+use Rattle.x25_packet.specs.{Block.{block_at}, Views.{called_of, calling_of}}
 
 pub behind_in : (b : PlainBlock) (start count : ℕ) → hold_digits (b.called + b.calling) b.addresses ≡ true → 2 ≤ count → count ≤ 17
     → halves_at b.addresses (start + 2) (count - 2) ≡ digits_behind b start count
 behind_in b start count hold two few = rw (hold, le-leb _ _ two, le-leb _ _ few) refl
 
--- half octets that aren't there
-pub none_there : (start count : ℕ) (octets : List ℕ) → 2 * length octets ≤ start → halves_at octets start count ≡ []
-none_there start count octets end =
-    ap (take count) (drop_all start (halves_of octets) (rw length-halves_of (omega (arith, end)))) ∙ take_none count
-  where
-    take_none : (n : ℕ) → (let none : List ℕ = [] in take n none ≡ none)
-    take_none zero = refl
-    take_none (suc n) = refl
-
--- those that are there, where fewer are than are asked for
-pub all_there : (start count left : ℕ) (octets : List ℕ) → 2 * length octets ≤ start + left → left ≤ count
-    → halves_at octets start left ≡ halves_at octets start count
-all_there start count left octets end few =
-    let size : length (drop start (halves_of octets)) ≤ left = rw (length-drop, length-halves_of) (omega (arith, end)) in
-    take_all left (drop start (halves_of octets)) size ∙ sym (take_all count (drop start (halves_of octets)) (omega (arith, size, few)))
+-- half octets as far as they are there
+pub as_far : (octets : List ℕ) (start count : ℕ) → (let first = min start (2 * length octets) in
+    halves_at octets first (min count (2 * length octets - first)) ≡ halves_at octets start count)
+as_far octets start count =
+    let halves = halves_of octets in
+    let first = min start (2 * length octets) in
+    let size : length (drop start halves) ≡ 2 * length octets - first = rw (length-drop, length-halves_of) (omega arith) in
+    let behind : drop first halves ≡ drop start halves = ap (λ n. drop (min start n) halves) (sym (length-halves_of octets)) ∙ drop_min start halves in
+    ap (take (min count (2 * length octets - first))) behind ∙ ap (λ n. take (min count n) (drop start halves)) (sym size)
+    ∙ take_min count (drop start halves)
 
 -- half octets behind the first of some
 pub halves_behind : (start count n : ℕ) (octets : List ℕ) → count ≤ n → halves_at octets (start + count) (n - count) ≡ drop count (halves_at octets start n)

@@ -1,3 +1,4 @@
+pub mod Names
 pub mod DigitLemmas
 pub mod FacilityLaws
 pub mod AddressLaws

@@ -1,32 +1,17 @@
 -- What a station writes is read alike in both forms.
-use Rattle.std.proofs.Common.{ℕ, ◌+◌, ◌*◌, ◌/◌, ◌%◌, ◌<◌, ◌≤◌, ◌≡◌, ◌≢◌, ◌∙◌, Bool, true, false, List, [], ◌∷◌, ◌++◌, length, drop, refl, ap, sym, subst, arith}
-use Rattle.std.proofs.Common.{nat_eq, Option, Some, None, Result, Ok, Err}
-use Rattle.std.proofs.lemmas.Bool.{and_parts, eqb-true}
-use Rattle.x25_bits.specs.Bits.{bit}
-use Rattle.x25_packet.specs.declared.error.PacketError.{PacketError}
-use Rattle.x25_packet.specs.declared.marks.Marks.{Marks}
-use Rattle.x25_packet.specs.declared.form.Forms.{Forms}
-use Rattle.x25_packet.specs.declared.form.Forms.TheVariants.{Written, Any}
-use Rattle.x25_packet.specs.Digits.{IsAddress, halves_at, halves_of, hold_digits, packed}
+use Rattle.x25_packet.proofs.Names.{ℕ, ◌+◌, ◌*◌, ◌/◌, ◌%◌, ◌<◌, ◌≤◌, ◌≡◌, ◌≢◌, ◌∙◌, Bool, true, false, List, [], ◌∷◌, ◌++◌, length, drop, refl, ap, sym, subst}
+use Rattle.x25_packet.proofs.Names.{arith, nat_eq, Option, Some, None, Result, Ok, Err, and_parts, eqb-true, bit, PacketError, Forms, Written, Any, IsAddress}
+use Rattle.x25_packet.proofs.Names.{halves_at, halves_of, hold_digits, packed, packet_of, PlainBlock, PlainFields, IsBlock, narrow_of, narrowed, taken_of}
+use Rattle.x25_packet.proofs.Names.{PlainKind, PlainForm, call, accept, clear, extended_clear, clear_conf, user_data, rr, rnr, rej, interrupt, interrupt_conf}
+use Rattle.x25_packet.proofs.Names.{reset, reset_conf, restart, restart_conf, diagnostic, registration, registration_conf, spelling_of, type_of, may_have}
+use Rattle.x25_packet.proofs.Names.{HasFacilities, HasPlace, IsAnswer, IsKind, IsPacket, Spells, Gives, read_of, form_in, Reads}
+use Rattle.x25_packet.proofs.AddressLaws.{drop_first, address_at, block_packed, block_when, called_again, calling_again, length-halves_at, length-pairs}
+use Rattle.x25_packet.proofs.{AddressLaws.{packed_holds}, AgainLaws.{read_again}, FacilityLaws.{ok_err, ok_same}, FieldLaws.{no_field, says_itself}}
+use Rattle.x25_packet.proofs.FoundLaws.{AreSmall, empty_of, found_spells}
+use Rattle.x25_packet.{proofs.WiderLaws.{no_d, taken_wider}, specs.declared.marks.Marks.{Marks}, specs.declared.packet.Packet.{Packet}}
 use Rattle.x25_packet.specs.Facilities as strict_field
 use Rattle.x25_packet.specs.Packet as strict
-use Rattle.x25_packet.specs.Reading.{packet_of}
 use Rattle.x25_packet.specs.Spelling as strict_spelling
-use Rattle.x25_packet.specs.Block.{PlainBlock, PlainFields, IsBlock}
-use Rattle.x25_packet.specs.Narrowing.{narrow_of, narrowed, taken_of}
-use Rattle.x25_packet.specs.Form.{PlainKind, PlainForm, call, accept, clear, extended_clear, clear_conf, user_data, rr, rnr, rej, interrupt, interrupt_conf}
-use Rattle.x25_packet.specs.Form.{reset, reset_conf, restart, restart_conf, diagnostic, registration, registration_conf}
-use Rattle.x25_packet.specs.Form.Spelling.{spelling_of, type_of, may_have, HasFacilities, HasPlace, IsAnswer, IsKind, IsPacket, Spells}
-use Rattle.x25_packet.specs.Grammar.{Gives, read_of, form_in}
-use Rattle.x25_packet.specs.Made.{Reads}
-use Rattle.x25_packet.specs.declared.packet.Packet.{Packet}
-use Rattle.x25_packet.proofs.AddressLaws.{drop_first, address_at, block_packed, block_when, called_again, calling_again, length-halves_at, length-pairs}
-use Rattle.x25_packet.proofs.AddressLaws.{packed_holds}
-use Rattle.x25_packet.proofs.AgainLaws.{read_again}
-use Rattle.x25_packet.proofs.FacilityLaws.{ok_err, ok_same}
-use Rattle.x25_packet.proofs.FieldLaws.{no_field, says_itself}
-use Rattle.x25_packet.proofs.FoundLaws.{AreSmall, empty_of, found_spells}
-use Rattle.x25_packet.proofs.WiderLaws.{no_d, taken_wider}
 
 -- ---- a packet that a station writes is spelled in its form
 

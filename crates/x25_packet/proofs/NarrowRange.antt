@@ -1,25 +1,14 @@
 -- What a packet is taken for is in its ranges.
-use Rattle.std.proofs.Common.{ℕ, ◌+◌, ◌-◌, ◌<◌, ◌≤◌, ◌≡◌, Bool, true, false, List, [], length, refl, sym, subst, inl, inr, arith, Option, Some, None, Result}
-use Rattle.std.proofs.Common.{Ok, Err}
-use Rattle.std.specs.Prelude.{max, nat_le, ◌&&◌, if◌then◌else◌}
-use Rattle.std.proofs.lemmas.Bool.{and_parts, leb-true}
-use Rattle.x25_packet.proofs.AddressLaws.{address_at, block_when}
-use Rattle.x25_packet.specs.Digits.{IsAddress, halves_at, hold_digits}
+use Rattle.x25_packet.proofs.Names.{ℕ, ◌+◌, ◌-◌, ◌<◌, ◌≤◌, ◌≡◌, Bool, true, false, List, [], length, refl, sym, subst, inl, inr, arith, Option, Some, None}
+use Rattle.x25_packet.proofs.Names.{Result, Ok, Err, max, nat_le, ◌&&◌, and_parts, leb-true, IsAddress, halves_at, hold_digits, PacketError, Directions}
+use Rattle.x25_packet.proofs.Names.{MayBeFields, PlainBlock, PlainFields, none_own, own_in, field_in, field_said, digits_behind, with_field, PlainKind, call}
+use Rattle.x25_packet.proofs.Names.{accept, user_data, rr, rnr, rej, interrupt, restart, restart_conf, diagnostic, registration, registration_conf, HasPlace}
+use Rattle.std.specs.Prelude.{if◌then◌else◌}
+use Rattle.x25_packet.proofs.{AddressLaws.{address_at, block_when}, FacilityLaws.{chosen, ok_err, ok_same}, FieldLaws.{no_field}, Names.{IsKind, Own, Any}}
+use Rattle.x25_packet.specs.{Block.{AreAddresses}, Narrowing.{are_within, field_taken, user_taken, called_taken, calling_taken}}
 use Rattle.x25_packet.specs.Facilities as strict_field
 use Rattle.x25_packet.specs.Packet as strict
 use Rattle.x25_packet.specs.Spelling as strict_spelling
-use Rattle.x25_packet.specs.declared.error.PacketError.{PacketError}
-use Rattle.x25_packet.specs.declared.facilities.Directions.{Directions}
-use Rattle.x25_packet.specs.Block.{AreAddresses, MayBeFields, PlainBlock, PlainFields}
-use Rattle.x25_packet.specs.Classes.{none_own, own_in}
-use Rattle.x25_packet.specs.Narrowing.{are_within, field_in, field_said, field_taken, user_taken, called_taken, calling_taken, digits_behind, with_field}
-use Rattle.x25_packet.specs.Form.{PlainKind, call, accept, user_data, rr, rnr, rej, interrupt, restart, restart_conf, diagnostic, registration}
-use Rattle.x25_packet.specs.Form.{registration_conf}
-use Rattle.x25_packet.specs.Form.Spelling.{HasPlace, IsKind}
-use Rattle.x25_packet.specs.declared.classes.Own.{Own}
-use Rattle.x25_packet.specs.declared.form.Forms.TheVariants.{Any}
-use Rattle.x25_packet.proofs.FacilityLaws.{chosen, ok_err, ok_same}
-use Rattle.x25_packet.proofs.FieldLaws.{no_field}
 
 -- ---- the facility field
 

@@ -1,24 +1,14 @@
 -- What a station takes octets for: its channel, its user data, and the ranges of its fields.
-use Rattle.std.proofs.Common.{ℕ, zero, suc, lit≤, ◌+◌, ◌*◌, ◌/◌, ◌%◌, ◌<◌, ◌≤◌, ◌≡◌, ◌∙◌, Bool, true, false, List, [], ◌∷◌, ◌++◌, length, take, refl, ap, sym}
-use Rattle.std.proofs.Common.{subst, arith, All, Some, Result, Ok, Err}
-use Rattle.x25_bits.specs.Bits.{bit}
-use Rattle.x25_packet.specs.declared.form.Forms.TheVariants.{Any}
-use Rattle.x25_packet.specs.Packet as strict
-use Rattle.x25_packet.specs.Reading.{channel_in}
-use Rattle.x25_packet.specs.Spelling as strict_spelling
-use Rattle.x25_packet.specs.Spelling.{HasChannel, channel_of}
-use Rattle.x25_packet.specs.declared.error.PacketError.{PacketError}
-use Rattle.x25_packet.specs.Narrowing.{field_in, narrow_of, narrowed, taken_of, with_field}
-use Rattle.x25_packet.specs.Form.{PlainKind, PlainForm, user_data, rej, restart, restart_conf, diagnostic, registration, registration_conf}
-use Rattle.x25_packet.specs.Form.Spelling.{spelling_of, body_of, Spells}
-use Rattle.x25_packet.specs.Grammar.{form_in}
-use Rattle.x25_packet.specs.Taking.{read_in}
+use Rattle.x25_packet.proofs.Names.{ℕ, zero, suc, ◌+◌, ◌*◌, ◌/◌, ◌%◌, ◌<◌, ◌≤◌, ◌≡◌, ◌∙◌, Bool, true, false, List, [], ◌∷◌, ◌++◌, length, take, refl, ap, sym}
+use Rattle.x25_packet.proofs.Names.{subst, arith, Some, Result, Ok, Err, bit, Any, channel_of, PacketError, field_in, narrow_of, narrowed, taken_of, with_field}
+use Rattle.x25_packet.proofs.Names.{PlainKind, PlainForm, user_data, rej, restart, restart_conf, diagnostic, registration, registration_conf, spelling_of}
+use Rattle.std.proofs.Common.{lit≤, All}
+use Rattle.x25_packet.proofs.{FacilityLaws.{ok_err, ok_same}, FoundLaws.{AreSmall, found_spells}, Names.{body_of, Spells, form_in}, NarrowLaws.{spelled_taken}}
+use Rattle.x25_packet.{proofs.NarrowRange.{InRange, in_range, field_fits}, proofs.WiderLaws.{taken_wider}, specs.Reading.{channel_in}}
+use Rattle.x25_packet.specs.{Spelling.{HasChannel}, Taking.{read_in}}
 use Rattle.x25_packet.specs.laws.TakingLaw.{TakesWhatIsWritten, TakesWhatIsSpelled, TakesOnItsChannel, TakesItsUserData, TakesAllBehindThree, TakesInRange}
-use Rattle.x25_packet.proofs.NarrowLaws.{spelled_taken}
-use Rattle.x25_packet.proofs.WiderLaws.{taken_wider}
-use Rattle.x25_packet.proofs.NarrowRange.{InRange, in_range, field_fits}
-use Rattle.x25_packet.proofs.FacilityLaws.{ok_err, ok_same}
-use Rattle.x25_packet.proofs.FoundLaws.{AreSmall, found_spells}
+use Rattle.x25_packet.specs.Packet as strict
+use Rattle.x25_packet.specs.Spelling as strict_spelling
 
 pub takes_what_is_written : TakesWhatIsWritten
 takes_what_is_written false most v octets e = e

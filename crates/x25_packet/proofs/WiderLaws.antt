@@ -1,23 +1,11 @@
 -- What is read in the form that a station writes is read so in any form.
-use Rattle.std.proofs.Common.{ℕ, ◌+◌, ◌*◌, ◌/◌, ◌%◌, ◌≤◌, ◌≡◌, ◌∙◌, Bool, true, false, not, List, [], ◌∷◌, length, take, drop, refl, ap, subst, arith, nat_eq}
-use Rattle.std.proofs.Common.{nat_lt, Option, Some, Result, Ok, Err}
-use Rattle.std.specs.Prelude.{◌||◌, cond, max}
-use Rattle.std.proofs.lemmas.Bool.{and_parts, and_from, le-leb, le-ltb, ltb-false}
-use Rattle.std.proofs.lemmas.List.{length-take-le}
-use Rattle.x25_packet.specs.declared.error.PacketError.{PacketError}
-use Rattle.x25_packet.specs.declared.form.Forms.TheVariants.{Written, Any}
-use Rattle.x25_packet.specs.Block.{PlainFields, PlainBlock, hold_addresses}
-use Rattle.x25_packet.specs.Packet.{PlainPacket}
-use Rattle.x25_packet.specs.Reading.{packet_of}
-use Rattle.x25_packet.specs.Narrowing.{taken_of}
-use Rattle.x25_packet.specs.Form.{PlainKind, PlainForm, call, accept, reset, restart}
-use Rattle.x25_packet.specs.Form.Spelling.{may_have}
-use Rattle.x25_packet.specs.Grammar.{mapped, is_over, field_read, fields_of, with_addresses, addressed, block_of, optional_block, is_short, called, call_of}
-use Rattle.x25_packet.specs.Grammar.{written_answer, accept_of, reason_of, caused, clear_of, clear_conf_of, rej_of, others, unchannelled, named, channelled}
-use Rattle.x25_packet.specs.Grammar.{kind_of, has_format, with_head, read_of, form_in}
-use Rattle.x25_packet.proofs.FacilityLaws.{ok_err, ok_same}
-use Rattle.x25_packet.proofs.FacilityLemmas.{field_again}
-use Rattle.x25_packet.proofs.FieldLaws.{says_itself}
+use Rattle.x25_packet.proofs.Names.{ℕ, ◌+◌, ◌*◌, ◌/◌, ◌%◌, ◌≤◌, ◌≡◌, ◌∙◌, Bool, true, false, not, List, [], ◌∷◌, length, take, drop, refl, ap, subst, arith}
+use Rattle.x25_packet.proofs.Names.{nat_eq, nat_lt, Option, Some, Result, Ok, Err, ◌||◌, cond, max, and_parts, and_from, le-leb, le-ltb, ltb-false}
+use Rattle.x25_packet.proofs.Names.{length-take-le, PacketError, Written, Any, PlainFields, PlainBlock, hold_addresses, PlainPacket, packet_of, taken_of}
+use Rattle.x25_packet.proofs.Names.{PlainKind, PlainForm, call, accept, reset, restart, may_have, mapped, is_over, field_read, fields_of, with_addresses}
+use Rattle.x25_packet.proofs.Names.{addressed, block_of, optional_block, is_short, called, call_of, written_answer, accept_of, reason_of, caused, clear_of}
+use Rattle.x25_packet.proofs.Names.{clear_conf_of, rej_of, others, unchannelled, named, channelled, kind_of, has_format, with_head, read_of, form_in}
+use Rattle.x25_packet.proofs.{FacilityLaws.{ok_err, ok_same}, FacilityLemmas.{field_again}, FieldLaws.{says_itself}}
 use Rattle.x25_packet.proofs.FoundLaws.{passed, kept, mapped_found, when_found, field_read_found, with_addresses_found}
 
 -- what the first gives, the second gives too

@@ -1,9 +1,9 @@
 //! Addresses, facilities and user data, as CALL, ACCEPT, CLEAR and CLEAR CONFIRMATION have them.
-ghost use Rattle.std.specs.Prelude.{◌≡◌, ◌≤◌, ◌/◌, ◌+◌, None, drop, length, take};
-ghost use Rattle.x25_packet.specs.Block.{block_at, block_behind, called_in, calling_in, fields_at, hold_addresses};
-ghost use Rattle.x25_packet.specs.Block.{optional_at, plain_block, plain_fields};
+ghost use Rattle.std.specs.Prelude.{◌≡◌, ◌≤◌, ◌/◌, ◌+◌, drop, length, take};
+ghost use Rattle.x25_packet.specs.Block.{block_at, called_in, calling_in, fields_at, hold_addresses};
+ghost use Rattle.x25_packet.specs.Block.{optional_at, plain_block};
 ghost use Rattle.x25_packet.specs.Narrowing.{digits_behind, taken_at};
-ghost use Rattle.x25_packet.specs.Grammar.{Gives, addressed, block_of, field_read, fields_of, is_over, no_fields};
+ghost use Rattle.x25_packet.specs.Grammar.{Gives, block_of, fields_of};
 ghost use Rattle.x25_packet.specs.Grammar.{optional_block};
 
 use crate::classes::are_facilities;
@@ -36,60 +36,35 @@ pub struct Block<'a> {
     pub fields: Option<Fields<'a>>,
 }
 
-fn no_fields(forms: Forms) -> Result<(), PacketError>
-    ensures { Gives (λ _. None) result (no_fields forms) }
-{
-    match forms {
-        Forms::Written => Err(PacketError::TooShort),
-        Forms::Any => Ok(()),
-    }
-}
-
-/// Whether a facility field is longer than any.
-fn is_over(forms: Forms, size: usize) -> bool
-    ensures { result ≡ is_over forms size }
-{
-    match forms {
-        Forms::Written => false,
-        Forms::Any => size > FIELD_OCTETS,
-    }
-}
-
-/// Whether octets are a facility field, or why they are none.
-fn check_field(forms: Forms, field: &[u8]) -> Result<(), PacketError>
-    ensures { result ≡ field_read forms field.now }
-{
-    match forms {
-        Forms::Written => {
-            Facilities::of(field)?;
-            Ok(())
-        }
-        Forms::Any => {
-            if are_facilities(field) {
-                Ok(())
-            } else {
-                Err(PacketError::BadParameter)
-            }
-        }
-    }
-}
-
+/// Whether octets are a facility field and user data, or why they aren't.
 #[inline(always)]
 fn check_fields(forms: Forms, most: usize, octets: &[u8]) -> Result<(), PacketError>
     ensures { Gives (λ _. fields_at octets.now) result (fields_of forms most octets.now) }
 {
     let [size, rest @ ..] = octets else {
-        return no_fields(forms);
+        return match forms {
+            Forms::Written => Err(PacketError::TooShort),
+            Forms::Any => Ok(()),
+        };
     };
     let size = usize::from(*size);
-    if is_over(forms, size) {
+    if matches!(forms, Forms::Any) && size > FIELD_OCTETS {
         return Err(PacketError::TooLong);
     }
     if rest.len() < size {
         return Err(PacketError::TooShort);
     }
     let (facilities, user) = rest.split_at(size);
-    check_field(forms, facilities)?;
+    match forms {
+        Forms::Written => {
+            Facilities::of(facilities)?;
+        }
+        Forms::Any => {
+            if !are_facilities(facilities) {
+                return Err(PacketError::BadParameter);
+            }
+        }
+    }
     if user.len() > most {
         return Err(PacketError::TooLong);
     }
@@ -104,36 +79,7 @@ fn hold_addresses(a: bool, count: usize, octets: &[u8]) -> bool
     if !a {
         return hold_digits(count, octets);
     }
-    if count % 2 == 0 {
-        return true;
-    }
-    octets[count / 2] % 16 == 0
-}
-
-/// Whether what stands behind the lengths of the addresses is so, or why it isn't.
-#[inline(always)]
-fn check_addresses(
-    forms: Forms,
-    a: bool,
-    most: usize,
-    called: u8,
-    calling: u8,
-    octets: &[u8],
-) -> Result<(), PacketError>
-    ensures { Gives (λ _. block_behind called calling octets.now) result
-        (addressed forms a most called calling octets.now) }
-{
-    let count = usize::from(called) + usize::from(calling);
-    let size = (count + 1) / 2;
-    if octets.len() < size {
-        return Err(PacketError::TooShort);
-    }
-    let (addresses, rest) = octets.split_at(size);
-    if !hold_addresses(a, count, addresses) {
-        return Err(PacketError::BadDigit);
-    }
-    check_fields(forms, most, rest)?;
-    Ok(())
+    octets.get(count / 2).copied().unwrap_or(0) % 16 == 0
 }
 
 /// Whether octets are a block with at most `most` octets of user data, in the format that the A bit says, or why they
@@ -147,16 +93,28 @@ pub(crate) fn check_block(
 ) -> Result<(), PacketError>
     ensures { Gives (λ _. block_at a octets.now) result (block_of forms a most octets.now) }
 {
-    if a {
+    let (called, calling, octets) = if a {
         let [called, calling, octets @ ..] = octets else {
             return Err(PacketError::TooShort);
         };
-        return check_addresses(forms, true, most, *called, *calling, octets);
-    }
-    let [lengths, octets @ ..] = octets else {
-        return Err(PacketError::TooShort);
+        (*called, *calling, octets)
+    } else {
+        let [lengths, octets @ ..] = octets else {
+            return Err(PacketError::TooShort);
+        };
+        (*lengths % 16, *lengths / 16, octets)
     };
-    check_addresses(forms, false, most, *lengths % 16, *lengths / 16, octets)
+    let count = usize::from(called) + usize::from(calling);
+    let size = (count + 1) / 2;
+    if octets.len() < size {
+        return Err(PacketError::TooShort);
+    }
+    let (addresses, rest) = octets.split_at(size);
+    if !hold_addresses(a, count, addresses) {
+        return Err(PacketError::BadDigit);
+    }
+    check_fields(forms, most, rest)?;
+    Ok(())
 }
 
 /// The same where there are octets.
@@ -179,16 +137,25 @@ pub(crate) fn check_optional_block(
 fn front<'a>(count: usize, octets: &'a [u8]) -> (&'a [u8], &'a [u8])
     ensures { (result.0.now ≡ take count octets.now) × (result.1.now ≡ drop count octets.now) }
 {
-    if octets.len() < count {
-        return (octets, &[]);
-    }
-    octets.split_at(count)
+    octets.split_at(count.min(octets.len()))
 }
 
 impl<'a> Block<'a> {
-    fn behind(called: u8, calling: u8, octets: &'a [u8]) -> Block<'a>
-        ensures { plain_block result ≡ block_behind called calling octets.now }
+    /// The block that octets are, in the format that the A bit says. What they lack isn't there.
+    pub fn of(a: bool, octets: &'a [u8]) -> Block<'a>
+        ensures { plain_block result ≡ block_at a octets.now }
     {
+        let (called, calling, octets) = if a {
+            match octets {
+                [called, calling, octets @ ..] => (*called, *calling, octets),
+                _ => (0, 0, &octets[..0]),
+            }
+        } else {
+            match octets {
+                [lengths, octets @ ..] => (*lengths % 16, *lengths / 16, octets),
+                [] => (0, 0, octets),
+            }
+        };
         let size = (usize::from(called) + usize::from(calling) + 1) / 2;
         let (addresses, rest) = front(size, octets);
         let fields = match rest {
@@ -204,22 +171,6 @@ impl<'a> Block<'a> {
             addresses,
             fields,
         }
-    }
-
-    /// The block that octets are, in the format that the A bit says. What they lack isn't there.
-    pub fn of(a: bool, octets: &'a [u8]) -> Block<'a>
-        ensures { plain_block result ≡ block_at a octets.now }
-    {
-        if a {
-            let [called, calling, rest @ ..] = octets else {
-                return Block::behind(0, 0, &[]);
-            };
-            return Block::behind(*called, *calling, rest);
-        }
-        let [lengths, rest @ ..] = octets else {
-            return Block::behind(0, 0, &[]);
-        };
-        Block::behind(*lengths % 16, *lengths / 16, rest)
     }
 
     /// The half octets of the called address.

@@ -1,7 +1,7 @@
 //! The digits of an address, ITU-T X.25 (10/96), section 5.2.1.
 ghost use Rattle.std.specs.Prelude.{◌≡◌, ◌==◌, ◌<◌, ◌≤◌, ◌+◌, ◌/◌, length, IfSome, IsSome, ◌↔◌, slice_index, true};
 ghost use Rattle.std.specs.List.{list_all};
-ghost use Rattle.x25_packet.specs.Digits.{IsAddress, digits_of_text, hold_digits, is_figure, is_pair};
+ghost use Rattle.x25_packet.specs.Digits.{IsAddress, digits_of_text, hold_digits, is_figure};
 
 use crate::halves::Halves;
 use std::marker::Model;
@@ -16,29 +16,18 @@ fn are_figures(text: &[u8]) -> bool
         .all(|character| 48 <= *character && *character <= 57)
 }
 
-fn are_digit_pairs(octets: &[u8]) -> bool
-    ensures { result ≡ list_all is_pair octets.now }
-{
-    octets
-        .iter()
-        .all(|octet| *octet / 16 <= 9 && *octet % 16 <= 9)
-}
-
 /// Whether each half octet is a digit, and those behind the first `count` are 0.
 pub fn hold_digits(count: usize, octets: &[u8]) -> bool
     requires { length octets.now ≤ (count + 1) / 2 }
     ensures { result ≡ hold_digits count octets.now }
 {
-    if !are_digit_pairs(octets) {
+    let are_digits = octets
+        .iter()
+        .all(|octet| *octet / 16 <= 9 && *octet % 16 <= 9);
+    if !are_digits {
         return false;
     }
-    if count % 2 == 0 {
-        return true;
-    }
-    if octets.len() <= count / 2 {
-        return true;
-    }
-    octets[count / 2] % 16 == 0
+    octets.get(count / 2).copied().unwrap_or(0) % 16 == 0
 }
 
 /// The digits of an address, at most 15: figures of a text, or half octets. Contracts see the list of them.

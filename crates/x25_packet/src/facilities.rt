@@ -1,15 +1,15 @@
 //! The facility field of a CALL or ACCEPT packet, ITU-T X.25 (10/96), sections 7.1 and 7.2.2.1.
 ghost use Rattle.std.specs.Prelude.{◌≡◌, ◌≤◌, [], length, IfOk, IfErr, Ok};
-ghost use Rattle.x25_packet.specs.Facilities.{AreAllowed, facilities_of, field_of, is_within, windows_of};
+ghost use Rattle.x25_packet.specs.Facilities.{AreAllowed, facilities_of, field_of, is_within};
 ghost use Rattle.x25_packet.specs.Reading.FirstError.{FieldError};
 ghost use Rattle.x25_packet.specs.declared.facilities.Facilities.{Facilities};
 
 use crate::error::PacketError;
 use std::marker::Model;
 
-const PACKET_SIZE: u8 = 0x42;
+pub(crate) const PACKET_SIZE: u8 = 0x42;
 
-const WINDOW_SIZE: u8 = 0x43;
+pub(crate) const WINDOW_SIZE: u8 = 0x43;
 
 /// A value for each direction of data: from the called end and from the calling end.
 #[derive(Clone, Copy, Debug, PartialEq, Eq)]
@@ -26,30 +26,10 @@ pub struct Facilities {
     pub window_size: Option<Directions>,
 }
 
-fn is_within(least: u8, most: u8, value: u8) -> bool
+pub(crate) fn is_within(least: u8, most: u8, value: u8) -> bool
     ensures { result ≡ is_within least most value }
 {
     least <= value && value <= most
-}
-
-fn windows(field: &[u8]) -> Result<Option<Directions>, PacketError>
-    ensures { result ≡ windows_of field.now }
-{
-    match field {
-        [] => Ok(None),
-        [WINDOW_SIZE, called, calling, rest @ ..] => {
-            let (called, calling) = (*called, *calling);
-            if !is_within(1, 7, called) || !is_within(1, 7, calling) {
-                return Err(PacketError::BadParameter);
-            }
-            if !rest.is_empty() {
-                return Err(PacketError::BadFacility);
-            }
-            Ok(Some(Directions { called, calling }))
-        }
-        [WINDOW_SIZE, ..] => Err(PacketError::BadParameter),
-        _ => Err(PacketError::BadFacility),
-    }
 }
 
 impl Facilities {
@@ -73,27 +53,32 @@ impl Facilities {
 fn read(field: &[u8]) -> Result<Facilities, PacketError>
     ensures { result ≡ facilities_of field.now }
 {
-    match field {
-        [PACKET_SIZE, called, calling, rest @ ..] => {
+    let (packet_size, rest) = match field {
+        [PACKET_SIZE, called, calling, rest @ ..]
+            if is_within(4, 12, *called) && is_within(4, 12, *calling) => {
             let (called, calling) = (*called, *calling);
-            if !is_within(4, 12, called) || !is_within(4, 12, calling) {
-                return Err(PacketError::BadParameter);
+            (Some(Directions { called, calling }), rest)
+        }
+        [PACKET_SIZE, ..] => return Err(PacketError::BadParameter),
+        _ => (None, field),
+    };
+    let window_size = match rest {
+        [] => None,
+        [WINDOW_SIZE, called, calling, behind @ ..]
+            if is_within(1, 7, *called) && is_within(1, 7, *calling) => {
+            if !behind.is_empty() {
+                return Err(PacketError::BadFacility);
             }
-            let window_size = windows(rest)?;
-            Ok(Facilities {
-                packet_size: Some(Directions { called, calling }),
-                window_size,
-            })
+            let (called, calling) = (*called, *calling);
+            Some(Directions { called, calling })
         }
-        [PACKET_SIZE, ..] => Err(PacketError::BadParameter),
-        _ => {
-            let window_size = windows(field)?;
-            Ok(Facilities {
-                packet_size: None,
-                window_size,
-            })
-        }
-    }
+        [WINDOW_SIZE, ..] => return Err(PacketError::BadParameter),
+        _ => return Err(PacketError::BadFacility),
+    };
+    Ok(Facilities {
+        packet_size,
+        window_size,
+    })
 }
 
 /// The facility field of a packet. Contracts see its octets.

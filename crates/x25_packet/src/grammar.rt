@@ -1,17 +1,14 @@
 //! Packets read from their octets.
 ghost use Rattle.std.specs.Prelude.{◌≡◌, IfOk, IsOkAnd};
-ghost use Rattle.x25_packet.specs.Block.{plain_fields};
 ghost use Rattle.x25_packet.specs.Made.{Makes, Reads};
 ghost use Rattle.x25_packet.specs.Form.{PlainForm, plain, plain_kind};
 ghost use Rattle.x25_packet.specs.Form.Spelling.{Spells};
-ghost use Rattle.x25_packet.specs.Grammar.{Gives, accept_of, answer_most, answer_read, bare, call_of, cause_alone};
-ghost use Rattle.x25_packet.specs.Grammar.{clear_conf_of, clear_of, data_of, diagnostic_of};
-ghost use Rattle.x25_packet.specs.Grammar.{extended_of, has_format, interrupt_of, is_short};
-ghost use Rattle.x25_packet.specs.Grammar.{read_of, reason_of, registered, rej_of, unchannelled, unwritten};
-ghost use Rattle.x25_packet.specs.Grammar.{form_in, without_data};
+ghost use Rattle.x25_packet.specs.Grammar.{Gives, accept_of, bare, call_of, clear_conf_of, clear_of};
+ghost use Rattle.x25_packet.specs.Grammar.{data_of, diagnostic_of, extended_of, form_in, has_format, interrupt_of};
+ghost use Rattle.x25_packet.specs.Grammar.{read_of, reason_of, unchannelled, unwritten, without_data};
 ghost use Rattle.x25_packet.specs.declared.form.Forms.TheVariants.{Any};
 
-use crate::block::{Block, Fields, check_block, check_optional_block};
+use crate::block::{Block, check_block, check_optional_block};
 use crate::classes::asked;
 use crate::codes;
 use crate::error::PacketError;
@@ -48,15 +45,6 @@ fn bare<'a, M: Made<'a>>(head: Head, kind: Kind<'a>, body: &[u8]) -> Result<M, P
     }
 }
 
-fn is_short(most: usize, fields: Option<Fields>) -> bool
-    ensures { result ≡ is_short most (plain_fields fields.entry) }
-{
-    match fields {
-        None => true,
-        Some(fields) => fields.user.len() <= most || asked(fields.facilities).fast_select,
-    }
-}
-
 fn call<'a, M: Made<'a>>(
     head: Head,
     forms: Forms,
@@ -72,62 +60,41 @@ fn call<'a, M: Made<'a>>(
         }
         Forms::Any => {
             check_block(forms, head.bit_8, most.max(FAST_SELECT_OCTETS), body)?;
-            if !is_short(most, Block::of(head.bit_8, body).fields) {
-                return Err(PacketError::TooLong);
+            if let Some(fields) = Block::of(head.bit_8, body).fields {
+                if fields.user.len() > most && !asked(fields.facilities).fast_select {
+                    return Err(PacketError::TooLong);
+                }
             }
             M::made(head, Kind::Call { body })
         }
     }
 }
 
-/// What stands first in an ACCEPT: in the form that a station writes address lengths of 0, and facilities.
-fn read_answer(forms: Forms, body: &[u8]) -> Result<(), PacketError>
-    ensures { result ≡ answer_read forms body.now }
-{
-    match forms {
-        Forms::Any => Ok(()),
-        Forms::Written => match body {
-            [0, 0, ..] => Err(PacketError::BadParameter),
-            [] | [0, ..] => Ok(()),
-            _ => Err(PacketError::BadDigit),
-        },
-    }
-}
-
-/// The most octets of user data in an ACCEPT.
-fn answer_most(forms: Forms) -> usize
-    ensures { result ≡ answer_most forms }
-{
-    match forms {
-        Forms::Written => 0,
-        Forms::Any => FAST_SELECT_OCTETS,
-    }
-}
-
+/// An ACCEPT: in the form that a station writes address lengths of 0, and facilities.
 fn accept<'a, M: Made<'a>>(head: Head, forms: Forms, body: &'a [u8]) -> Result<M, PacketError>
     ensures { Makes M.gives head result (accept_of forms head.bit_8 body.now) }
 {
-    read_answer(forms, body)?;
-    check_optional_block(forms, head.bit_8, answer_most(forms), body)?;
+    let most = match forms {
+        Forms::Any => FAST_SELECT_OCTETS,
+        Forms::Written => match body {
+            [0, 0, ..] => return Err(PacketError::BadParameter),
+            [] | [0, ..] => 0,
+            _ => return Err(PacketError::BadDigit),
+        },
+    };
+    check_optional_block(forms, head.bit_8, most, body)?;
     M::made(head, Kind::Accept { body })
 }
 
-/// A cause alone, which a station doesn't write.
-fn cause_alone(forms: Forms, cause: u8) -> Result<(u8, Option<u8>), PacketError>
-    ensures { result ≡ cause_alone forms cause }
-{
-    match forms {
-        Forms::Written => Err(PacketError::TooShort),
-        Forms::Any => Ok((cause, None)),
-    }
-}
-
-/// The cause that ends a packet, and the diagnostic that may follow it.
+/// The cause that ends a packet, and the diagnostic that may follow it: a station writes both.
 fn reason(forms: Forms, body: &[u8]) -> Result<(u8, Option<u8>), PacketError>
     ensures { result ≡ reason_of forms body.now }
 {
     match body {
-        [cause] => cause_alone(forms, *cause),
+        [cause] => match forms {
+            Forms::Written => Err(PacketError::TooShort),
+            Forms::Any => Ok((*cause, None)),
+        },
         [cause, diagnostic] => Ok((*cause, Some(*diagnostic))),
         [] => Err(PacketError::TooShort),
         _ => Err(PacketError::TooLong),
@@ -164,19 +131,13 @@ fn clear<'a, M: Made<'a>>(head: Head, forms: Forms, body: &'a [u8]) -> Result<M,
     ensures { Makes M.gives head result (clear_of forms head.bit_8 body.now) }
 {
     match body {
-        [] => Err(PacketError::TooShort),
-        [cause] => {
-            let (cause, diagnostic) = cause_alone(forms, *cause)?;
+        [cause, diagnostic, rest @ ..] if !rest.is_empty() => {
+            extended(head, forms, *cause, *diagnostic, rest)
+        }
+        _ => {
+            let (cause, diagnostic) = reason(forms, body)?;
             M::made(head, Kind::Clear { cause, diagnostic })
         }
-        [cause, diagnostic] => M::made(
-            head,
-            Kind::Clear {
-                cause: *cause,
-                diagnostic: Some(*diagnostic),
-            },
-        ),
-        [cause, diagnostic, rest @ ..] => extended(head, forms, *cause, *diagnostic, rest),
     }
 }
 
@@ -239,30 +200,15 @@ fn diagnostic<'a, M: Made<'a>>(head: Head, body: &'a [u8]) -> Result<M, PacketEr
     )
 }
 
-/// What REGISTRATION and its confirmation have.
-fn registered<'a>(body: &'a [u8]) -> Result<&'a [u8], PacketError>
-    ensures { Gives (λ octets. octets.now) result (registered body.now) }
-{
-    if body.len() > DATA_OCTETS {
-        return Err(PacketError::TooLong);
-    }
-    Ok(body)
-}
-
 /// A packet of no channel that a station doesn't write.
 fn unwritten<'a, M: Made<'a>>(head: Head, kind: u8, body: &'a [u8]) -> Result<M, PacketError>
     ensures { Makes M.gives head result (unwritten kind body.now) }
 {
     match kind {
         codes::DIAGNOSTIC => diagnostic(head, body),
-        REGISTRATION => {
-            let octets = registered(body)?;
-            M::made(head, Kind::Registration { octets })
-        }
-        REGISTRATION_CONF => {
-            let octets = registered(body)?;
-            M::made(head, Kind::RegistrationConf { octets })
-        }
+        REGISTRATION | REGISTRATION_CONF if body.len() > DATA_OCTETS => Err(PacketError::TooLong),
+        REGISTRATION => M::made(head, Kind::Registration { octets: body }),
+        REGISTRATION_CONF => M::made(head, Kind::RegistrationConf { octets: body }),
         _ => Err(PacketError::Unidentified),
     }
 }
@@ -289,15 +235,6 @@ fn unchannelled<'a, M: Made<'a>>(
     }
 }
 
-fn rej<'a, M: Made<'a>>(head: Head, forms: Forms, pr: Seq, body: &[u8]) -> Result<M, PacketError>
-    ensures { Makes M.gives head result (rej_of forms pr.number body.now) }
-{
-    match forms {
-        Forms::Written => Err(PacketError::Unidentified),
-        Forms::Any => bare(head, Kind::Rej { pr }, body),
-    }
-}
-
 /// A packet of a channel, but for data.
 fn channelled<'a, M: Made<'a>>(
     head: Head,
@@ -312,7 +249,7 @@ fn channelled<'a, M: Made<'a>>(
     match kind % 32 {
         codes::RR => return bare(head, Kind::Rr { pr }, body),
         codes::RNR => return bare(head, Kind::Rnr { pr }, body),
-        REJ => return rej(head, forms, pr, body),
+        REJ if matches!(forms, Forms::Any) => return bare(head, Kind::Rej { pr }, body),
         _ => {}
     }
     match kind {

@@ -1,32 +1,15 @@
 //! The half octets of an address with its type and plan.
-ghost use Rattle.std.specs.Prelude.{◌≡◌, ◌≤◌, ◌<◌, ◌+◌, ◌*◌, drop, length, slice_index};
-ghost use Rattle.x25_packet.specs.Digits.{halves_at, halves_of};
+ghost use Rattle.std.specs.Prelude.{◌≡◌, ◌≤◌, ◌<◌, drop, length, slice_index};
+ghost use Rattle.x25_packet.specs.Digits.{halves_at};
 
 use std::marker::Model;
-
-/// So many octets have all half octets that may be asked for: 255 from the half octet 257 on at most.
-const MOST: usize = 256;
-
-/// The half octet at a place, the high half of an octet first.
-fn half(octets: &[u8], place: usize) -> u8
-    requires { place < 2 * length octets.now }
-    ensures value { result ≡ slice_index (halves_of octets.now) place }
-    ensures small { result < 16 }
-{
-    let octet = octets[place / 2];
-    if place % 2 == 0 {
-        octet / 16
-    } else {
-        octet % 16
-    }
-}
 
 /// The half octets of an address, at most 255. Contracts see the list of them.
 #[derive(Debug, Drop)]
 pub struct Halves<'a> {
     octets: &'a [u8],
     start: usize,
-    count: u8,
+    count: usize,
 }
 
 impl<'a> Model for Halves<'a> {
@@ -37,34 +20,20 @@ impl<'a> Model for Halves<'a> {
 
     ghost view = { λ h. halves_at h.octets.now h.start h.count };
 
-    ghost invariant = { λ h. (h.start + h.count ≤ 512) × (h.start + h.count ≤ 2 * length h.octets.now) };
+    ghost invariant = { λ h. (h.count ≤ 255) × (h.start + h.count ≤ 2 * length h.octets.now) };
 }
 
 impl<'a> Halves<'a> {
     /// The `count` half octets from the half octet `start` on, as far as they are there.
     pub(crate) fn of(octets: &'a [u8], start: usize, count: u8) -> Halves<'a>
-        requires { start ≤ 257 }
         ensures { result ≡ halves_at octets.now start count }
     {
-        let end = 2 * octets.len().min(MOST);
-        if end <= start {
-            return Halves {
-                octets: &[],
-                start: 0,
-                count: 0,
-            };
-        }
-        if end - start < usize::from(count) {
-            return Halves {
-                octets,
-                start,
-                count: (end - start) as u8,
-            };
-        }
+        let end = 2 * octets.len();
+        let start = start.min(end);
         Halves {
             octets,
             start,
-            count,
+            count: usize::from(count).min(end - start),
         }
     }
 
@@ -73,7 +42,7 @@ impl<'a> Halves<'a> {
         ensures number { result ≡ length self.now }
         ensures few { result ≤ 255 }
     {
-        usize::from(self.count)
+        self.count
     }
 
     /// The half octets behind the first `count`.
@@ -84,7 +53,7 @@ impl<'a> Halves<'a> {
         Halves {
             octets: self.octets,
             start: self.start + usize::from(count),
-            count: self.count - count,
+            count: self.count - usize::from(count),
         }
     }
 
@@ -94,6 +63,12 @@ impl<'a> Halves<'a> {
         ensures value { result ≡ slice_index self.now place }
         ensures small { result < 16 }
     {
-        half(self.octets, self.start + place)
+        let place = self.start + place;
+        let octet = self.octets[place / 2];
+        if place % 2 == 0 {
+            octet / 16
+        } else {
+            octet % 16
+        }
     }
 }

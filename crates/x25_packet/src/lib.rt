@@ -37,6 +37,6 @@ pub use marks::Marks;
 pub use packet::Packet;
 pub use reading::{CALL_OCTETS, LONG_CALL_OCTETS, channel, decode_within, longest_user};
 pub use spelling::{encode, encode_accept, encode_call};
-pub use taking::{read, take};
-pub use views::{CallViews, call_views, called_digits, calling_digits, facility_field, user_data};
+pub use taking::read;
+pub use views::{CallViews, call_views};
 pub use x25_bits::{NoMemory, Seq};

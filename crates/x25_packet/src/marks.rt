@@ -5,15 +5,3 @@ pub struct Marks {
     pub q: bool,
     pub d: bool,
 }
-
-impl Marks {
-    ghost use Rattle.std.specs.Prelude.{◌≡◌};
-    ghost use Rattle.x25_packet.specs.Marks.{with_q};
-
-    /// Without D.
-    pub fn with_q(q: bool) -> Marks
-        ensures { result ≡ with_q q }
-    {
-        Marks { q, d: false }
-    }
-}

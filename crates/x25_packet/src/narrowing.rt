@@ -1,31 +1,17 @@
 //! What a station takes a packet for: one of those that it writes itself.
-ghost use Rattle.std.specs.Prelude.{◌≡◌};
 ghost use Rattle.x25_packet.specs.Packet.{plain as plain_written};
 ghost use Rattle.x25_packet.specs.Block.{plain_fields};
-ghost use Rattle.x25_packet.specs.Narrowing.{are_within, field_shown, field_taken, narrow_of};
+ghost use Rattle.x25_packet.specs.Narrowing.{field_shown, field_taken, narrow_of};
 ghost use Rattle.x25_packet.specs.Grammar.{Gives};
 
 use crate::block::{Block, Fields};
 use crate::classes::asked;
 use crate::error::PacketError;
-use crate::facilities::{Directions, Facilities, FacilityField};
+use crate::facilities::is_within;
 use crate::form::Kind;
 use crate::made::{Head, Made};
 use crate::marks::Marks;
 use crate::packet::Packet;
-
-fn are_within(least: u8, most: u8, values: Option<Directions>) -> bool
-    ensures { result ≡ are_within least most values }
-{
-    match values {
-        None => true,
-        Some(values) => {
-            let called = least <= values.called && values.called <= most;
-            let calling = least <= values.calling && values.calling <= most;
-            called && calling
-        }
-    }
-}
 
 /// Whether what is asked for is in its range.
 fn check_fields(fields: Option<Fields>) -> Result<(), PacketError>
@@ -35,24 +21,17 @@ fn check_fields(fields: Option<Fields>) -> Result<(), PacketError>
         return Ok(());
     };
     let own = asked(fields.facilities);
-    if !are_within(4, 12, own.packet_size) || !are_within(1, 7, own.window_size) {
-        return Err(PacketError::BadParameter);
+    if let Some(sizes) = own.packet_size {
+        if !is_within(4, 12, sizes.called) || !is_within(4, 12, sizes.calling) {
+            return Err(PacketError::BadParameter);
+        }
+    }
+    if let Some(windows) = own.window_size {
+        if !is_within(1, 7, windows.called) || !is_within(1, 7, windows.calling) {
+            return Err(PacketError::BadParameter);
+        }
     }
     Ok(())
-}
-
-/// The field that says what facilities ask for of those that a station knows.
-pub(crate) fn field_shown(fields: Option<Fields>) -> FacilityField
-    ensures { result ≡ field_shown (plain_fields fields.entry) }
-{
-    let Some(fields) = fields else {
-        return FacilityField::none();
-    };
-    let own = asked(fields.facilities);
-    FacilityField::of(Facilities {
-        packet_size: own.packet_size,
-        window_size: own.window_size,
-    })
 }
 
 impl<'a> Made<'a> for Packet<'a> {

@@ -6,8 +6,8 @@ use x25_bits::Seq;
 /// A packet, ITU-T X.25 (10/96), sections 5.2 to 5.5. Its octets are borrowed.
 ///
 /// `channel` is the logical channel, group and number together: 1 to 4,095. `a` is the A bit and `body` what stands
-/// behind the type, of a CALL or an ACCEPT in any form: `called_digits`, `calling_digits`, `facility_field` and
-/// `user_data` read it. `ps` is P(S), `pr` is P(R), and `m` the more data mark.
+/// behind the type, of a CALL or an ACCEPT in any form: `call_views` reads it. `ps` is P(S), `pr` is P(R), and `m` the
+/// more data mark.
 #[derive(Clone, Copy, Debug)]
 pub enum Packet<'a> {
     Call {

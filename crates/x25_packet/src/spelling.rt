@@ -2,10 +2,9 @@
 ghost use Rattle.std.specs.Prelude.{ℕ, ◌≡◌, ◌+◌, ◌*◌, ◌≤◌, ◌++◌, Ok, OnOk, OnErr, IsOk, drop, length, max, slice_index};
 ghost use Rattle.std.specs.Prelude.{vec_len, vec_capacity};
 ghost use Rattle.std.specs.Vec.{VecUnchanged};
-ghost use Rattle.x25_packet.specs.Digits.{IsAddress, packed};
+ghost use Rattle.x25_packet.specs.Digits.{packed};
 ghost use Rattle.x25_packet.specs.Packet.{accept, call, plain};
 ghost use Rattle.x25_packet.specs.Reading.{packet_of};
-ghost use Rattle.x25_bits.specs.Bits.{bit};
 ghost use Rattle.x25_packet.specs.Spelling.{IsInRange, IsWithoutD, accept_body, body_of, call_body, channel_of};
 ghost use Rattle.x25_packet.specs.Spelling.{IsChannel, format_of, spelling_of, type_of};
 
@@ -13,7 +12,7 @@ use crate::codes;
 use crate::digits::Digits;
 use crate::facilities::FacilityField;
 use crate::packet::Packet;
-use crate::views::{called_digits, calling_digits, facility_field, user_data};
+use crate::views::call_views;
 use x25_bits::{NoMemory, append_octets};
 
 fn format(packet: &Packet) -> u8
@@ -21,20 +20,9 @@ fn format(packet: &Packet) -> u8
     ensures half { result ≤ 13 }
 {
     match packet {
-        Packet::Data { marks, .. } => {
-            let confirmation = if marks.d { 4 } else { 0 };
-            let qualifier = if marks.q { 8 } else { 0 };
-            1 + confirmation + qualifier
-        }
+        Packet::Data { marks, .. } => 1 + 4 * u8::from(marks.d) + 8 * u8::from(marks.q),
         _ => 1,
     }
-}
-
-/// The more data mark, in its place in the type.
-fn mark(m: bool) -> u8
-    ensures { result ≡ 16 * bit m }
-{
-    if m { 16 } else { 0 }
 }
 
 /// The channel, 0 where there is none, and the type.
@@ -54,7 +42,7 @@ fn named(packet: &Packet) -> (u16, u8)
             pr,
             channel,
             ..
-        } => { (*channel, 2 * ps.get() + mark(*m) + 32 * pr.get()) }
+        } => { (*channel, 2 * ps.get() + 16 * u8::from(*m) + 32 * pr.get()) }
         Packet::Rr { channel, pr } => (*channel, codes::RR + 32 * pr.get()),
         Packet::Rnr { channel, pr } => (*channel, codes::RNR + 32 * pr.get()),
         Packet::Interrupt { channel, .. } => (*channel, codes::INTERRUPT),
@@ -97,13 +85,12 @@ fn body_len(packet: &Packet) -> usize
 {
     match packet {
         Packet::Call { a, body, .. } => {
-            let called = Digits::in_halves(called_digits(*a, body));
-            let calling = Digits::in_halves(calling_digits(*a, body));
-            let facilities = facility_field(*a, body);
-            let user = user_data(*a, body);
-            call_len(&called, &calling, facilities.as_slice(), user)
+            let views = call_views(*a, body);
+            let called = Digits::in_halves(views.called);
+            let calling = Digits::in_halves(views.calling);
+            call_len(&called, &calling, views.facilities.as_slice(), views.user)
         }
-        Packet::Accept { a, body, .. } => accept_len(facility_field(*a, body).as_slice()),
+        Packet::Accept { a, body, .. } => accept_len(call_views(*a, body).facilities.as_slice()),
         Packet::Data { user, .. } | Packet::Interrupt { user, .. } => user.len(),
         Packet::Clear { .. } | Packet::Reset { .. } | Packet::Restart { .. } => 2,
         _ => 0,
@@ -185,14 +172,19 @@ fn append_body(packet: &Packet, octets: &mut Vec<u8>)
 {
     match packet {
         Packet::Call { a, body, .. } => {
-            let called = Digits::in_halves(called_digits(*a, body));
-            let calling = Digits::in_halves(calling_digits(*a, body));
-            let facilities = facility_field(*a, body);
-            let user = user_data(*a, body);
-            append_call(&called, &calling, facilities.as_slice(), user, octets);
+            let views = call_views(*a, body);
+            let called = Digits::in_halves(views.called);
+            let calling = Digits::in_halves(views.calling);
+            append_call(
+                &called,
+                &calling,
+                views.facilities.as_slice(),
+                views.user,
+                octets,
+            );
         }
         Packet::Accept { a, body, .. } => {
-            append_accept(facility_field(*a, body).as_slice(), octets);
+            append_accept(call_views(*a, body).facilities.as_slice(), octets);
         }
         Packet::Data { user, .. } | Packet::Interrupt { user, .. } => append_octets(octets, user),
         Packet::Clear {

@@ -1,31 +1,20 @@
 //! What a station takes octets for: what the packet that they are, in any form, is taken for.
-ghost use Rattle.std.specs.Prelude.{◌≤◌, IfOk, is_some};
+ghost use Rattle.std.specs.Prelude.{is_some};
 ghost use Rattle.x25_packet.specs.Grammar.{Gives};
 ghost use Rattle.x25_packet.specs.Packet.{plain};
-ghost use Rattle.x25_packet.specs.Spelling.{IsInRange};
-ghost use Rattle.x25_packet.specs.Taking.{IsFormOf, read_in, taken_in};
+ghost use Rattle.x25_packet.specs.Taking.{IsFormOf, read_in};
 
 use crate::error::PacketError;
 use crate::form::{Form, Forms};
 use crate::made::{Head, Made};
 use crate::packet::Packet;
 
-/// The packet that a station takes octets for, which borrows these. A CALL has at most `most` octets of user data
-/// without fast select.
-///
-/// The errors of `decode`; 22 for REJ, DIAGNOSTIC and REGISTRATION, and 26 for a packet size or window size out of its
-/// range.
-pub fn take<'a>(most: usize, octets: &'a [u8]) -> Result<Packet<'a>, PacketError>
-    ensures exact { Gives plain result (taken_in most octets.now) }
-    // Its fields are in their ranges, so that it can be spelled.
-    ensures range { most ≤ 128 → IfOk result (λ p. IsInRange 128 (plain p)) }
-{
-    crate::grammar::read(Forms::Any, most, octets)
-}
-
 /// The packet that a station reads octets as. Where it reads packets in all their forms `form` is what `decode` reads
 /// them to, with `most` octets of user data; else they are read in the form that it writes itself alone, as
-/// `decode_within` does. Errors 20 to 26.
+/// `decode_within` does. It borrows the octets.
+///
+/// The errors of these; of a form 22 too for REJ, DIAGNOSTIC and REGISTRATION, and 26 for a packet size or window size
+/// out of its range.
 pub fn read<'a>(
     form: &Option<Result<Form<'a>, PacketError>>,
     most: usize,

@@ -13,7 +13,7 @@ use std::alloc::{AllocError, Global};
 use x25_bits::Role;
 use x25_decode::Reading;
 use x25_frame::Frame;
-use x25_packet::{Kind, Packet, PacketError, channel, decode, longest_user, take};
+use x25_packet::{Kind, Packet, PacketError, channel, decode, longest_user, read};
 use x25_possible::Packet as Item;
 
 /// Which packets of both ends are followed, and what is known of the ends of the channels.
@@ -223,7 +223,7 @@ impl Book {
         ensures book { self.new ≡ (definition.reads_any from channel most octets.now self.old).book }
         ensures verdict { result ≡ (definition.reads_any from channel most octets.now self.old).verdict }
     {
-        match take(most, octets) {
+        match read(&Some(decode(most, octets)), most, octets) {
             Ok(taken) => self.takes(from, channel, &taken),
             Err(_) => self.leaves(channel, most, octets),
         }

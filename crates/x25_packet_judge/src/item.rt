@@ -3,7 +3,7 @@ ghost use Rattle.std.specs.Prelude.{◌≡◌, length};
 ghost use Rattle.x25_packet.specs.Packet.{plain};
 ghost use Rattle.x25_packet_judge.specs.Item as definition;
 
-use x25_packet::{Directions, Facilities, Packet, facility_field};
+use x25_packet::{Directions, Facilities, Packet, call_views};
 use x25_possible::{Packet as Item, Said, Sizes, Terms, Windows};
 
 /// The octets that a packet size stands for, 0 where it stands for none.
@@ -89,9 +89,11 @@ pub(crate) fn item_of(packet: &Packet) -> Item
 {
     match packet {
         Packet::Call { a, body, .. } => {
-            Item::Call(proposed(said(facility_field(*a, body).as_slice())))
+            Item::Call(proposed(said(call_views(*a, body).facilities.as_slice())))
         }
-        Packet::Accept { a, body, .. } => Item::Accept(said(facility_field(*a, body).as_slice())),
+        Packet::Accept { a, body, .. } => {
+            Item::Accept(said(call_views(*a, body).facilities.as_slice()))
+        }
         Packet::Clear { .. } => Item::Clear,
         Packet::ClearConf { .. } => Item::ClearConf,
         Packet::Data {

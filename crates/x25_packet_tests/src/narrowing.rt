@@ -1,9 +1,6 @@
 use crate::views::are_figures;
 use std::alloc::Global;
-use x25_packet::{
-    Packet, PacketError, called_digits, calling_digits, decode, facility_field, read, take,
-    taking_keeps_octets,
-};
+use x25_packet::{Packet, PacketError, call_views, decode, read, taking_keeps_octets};
 
 /// What is taken of a packet: a cause, a diagnostic, and the facility field.
 type Taken = (u8, u8, &'static [u8]);
@@ -56,7 +53,7 @@ static ROWS: [(&str, u8, Taken); 20] = [
 fn tells(packet: &Packet<'_>, wanted: &Taken) -> bool {
     match packet {
         Packet::Call { a, body, .. } | Packet::Accept { a, body, .. } => {
-            facility_field(*a, body).as_slice() == wanted.2
+            call_views(*a, body).facilities.as_slice() == wanted.2
         }
         Packet::Clear {
             cause,
@@ -81,30 +78,20 @@ fn number_of(taken: &Result<Packet, PacketError>, wanted: &Taken) -> u8 {
     }
 }
 
-/// Of octets that a station takes.
-fn taken(octets: &[u8], wanted: &Taken) -> u8 {
-    number_of(&take(16, octets), wanted)
-}
-
 /// Of octets that a station reads that reads all forms.
-fn read_in_all(octets: &[u8], wanted: &Taken) -> u8 {
-    number_of(&read(&Some(decode(16, octets)), 16, octets), wanted)
+fn read_in_all<'a>(octets: &'a [u8]) -> Result<Packet<'a>, PacketError> {
+    read(&Some(decode(16, octets)), 16, octets)
 }
 
-fn numbers(octets: &[u8], wanted: &Taken) -> (u8, u8) {
-    (taken(octets, wanted), read_in_all(octets, wanted))
-}
-
-fn numbers_of(alloc: Global, text: &str, wanted: &Taken) -> Option<(u8, u8)> {
+fn taken(alloc: Global, text: &str, wanted: &Taken) -> Option<u8> {
     let octets = hex::decode(alloc, text).ok()?;
-    Some(numbers(octets.as_slice(), wanted))
+    Some(number_of(&read_in_all(octets.as_slice()), wanted))
 }
 
 #[test]
 fn taken_for_packets(rt: HostRuntime) {
     for &(text, number, wanted) in &ROWS {
-        let found = numbers_of(rt.alloc(), text, &wanted);
-        assert_eq!(rt; found, Some((number, number)), "{text}");
+        assert_eq!(rt; taken(rt.alloc(), text, &wanted), Some(number), "{text}");
     }
 }
 
@@ -143,10 +130,10 @@ static TYPED: [(&str, &str, &str); 7] = [
 
 // Whether these addresses are taken of a CALL.
 fn are_taken(octets: &[u8], wanted_called: &str, wanted_calling: &str) -> bool {
-    match take(16, octets) {
+    match read_in_all(octets) {
         Ok(Packet::Call { a, body, .. }) => {
-            are_figures(&called_digits(a, body), wanted_called)
-                && are_figures(&calling_digits(a, body), wanted_calling)
+            let views = call_views(a, body);
+            are_figures(&views.called, wanted_called) && are_figures(&views.calling, wanted_calling)
         }
         _ => false,
     }

@@ -1,8 +1,8 @@
 use std::alloc::Global;
 use x25_packet::{
     CALL_OCTETS, Digits, Directions, Facilities, FacilityField, LONG_CALL_OCTETS, NoMemory, Packet,
-    PacketError, channel, decode_within, encode, encode_accept, encode_call, longest_user,
-    user_data,
+    PacketError, call_views, channel, decode_within, encode, encode_accept, encode_call,
+    longest_user,
 };
 
 /// Octets in hexadecimal, and the number of their error, 0 where they spell a packet.
@@ -140,7 +140,7 @@ fn errors_of_call(octets: &[u8], count: usize) -> (u8, u8, u8, u8, bool) {
 fn has_user_data(octets: &[u8]) -> bool {
     match decode_within(LONG_CALL_OCTETS, octets) {
         Ok(Packet::Call { a, body, .. }) => {
-            octets.len() >= 5 && user_data(a, body) == &octets[5..]
+            octets.len() >= 5 && call_views(a, body).user == &octets[5..]
         }
         _ => true,
     }

@@ -1,12 +1,12 @@
 -- What a station answers to a command, by what its layer answers.
 use Rattle.x25_station.proofs.Names.{◌≡◌, ℕ, List, [], Option, Some, None, Result, Ok, Err, Bool, true, false, ◌==◌, if◌then◌else◌, refl, ap, sym, subst, ◌∙◌}
-use Rattle.x25_station.proofs.Names.{Proposal, PlainPacket, restart, LinkSettings, LinkStation, Side, alone, ShownLink, LinkState, FitsWhole, FitsLink}
-use Rattle.x25_station.proofs.Names.{may_restart_for, Circuit, LayerError, LayerSettings, Layer, is_channel, restarting_from, LayerRequest, Asks, Dials}
-use Rattle.x25_station.proofs.Names.{Restarts, PullsAll, LayerOutcome, Accepted, Declined, layer_outcome, outcome_in, outcome_ready, outcome_on, where_room}
-use Rattle.x25_station.proofs.Names.{if_at_once, puts_at_once, dialled, restarted_for, free_channel, LinkView, Putting, Answered, Went, Refuses, went, calls}
-use Rattle.x25_station.proofs.Names.{refusal_of, after_all, LayerGives, LinkGives, FitsLayer, Manner, StationError, of_layer, Settings, link_settings}
-use Rattle.x25_station.proofs.Names.{layer_settings, manner_of, StationEntry, Station, all_put, view_of, waiting_after, may_ask, Outcome, did, requests}
-use Rattle.x25_station.proofs.{LinkLemmas.{put_by_put, same_view}, Names.{requests_of, where_asked, entries_of_outcome, KeptBy, FitsParts, kept_of}}
+use Rattle.x25_station.proofs.Names.{may_restart_for, Circuit, Proposal, LayerRequest, Asks, Dials, Restarts, PullsAll, LayerOutcome, Accepted, Declined}
+use Rattle.x25_station.proofs.Names.{layer_outcome, outcome_in, outcome_ready, outcome_on, where_room, if_at_once, puts_at_once, dialled, restarted_for}
+use Rattle.x25_station.proofs.Names.{free_channel, LayerSettings, Layer, is_channel, restarting_from, FitsLayer, LayerError, LinkView, Putting, Answered, Went}
+use Rattle.x25_station.proofs.Names.{Refuses, went, calls, refusal_of, alone, LinkSettings, LinkStation, Side, ShownLink, LinkState, FitsWhole, FitsLink}
+use Rattle.x25_station.proofs.Names.{PlainPacket, restart, may_ask, Settings, link_settings, layer_settings, manner_of, StationEntry, of_layer, kept_of}
+use Rattle.x25_station.proofs.Names.{Station, all_put, view_of, waiting_after, Outcome, did, requests, requests_of, where_asked, entries_of_outcome, FitsParts}
+use Rattle.x25_station.proofs.{LinkLemmas.{put_by_put, same_view}, Names.{after_all, LayerGives, LinkGives, Manner, StationError, KeptBy}}
 use Rattle.x25_station.proofs.ResultLemmas.{ok_err, err_is}
 use Rattle.x25_circuit.specs.declared.error.CircuitError.TheVariants as circuit_error
 use Rattle.x25_circuit.specs.Calling as circuit

@@ -1,15 +1,14 @@
 -- The entry of an accepted command stands under the name that the layer has after the whole call.
 use Rattle.x25_station.proofs.Names.{◌≡◌, ℕ, zero, suc, ◌≤◌, nat_le, ◌&&◌, List, [], ◌∷◌, Option, Some, None, Bool, true, false, ◌==◌, if◌then◌else◌, refl, ap}
-use Rattle.x25_station.proofs.Names.{sym, subst, ◌∙◌, arith, none-some, same_Some, Proposal, in_brief, Role, Dte, Dce, PlainPacket, Circuit, LayerError}
-use Rattle.x25_station.proofs.Names.{LayerSettings, Layer, is_channel, LayerRequest, Asks, Dials, Restarts, PullsAll, LayerOutcome, Accepted, Declined}
-use Rattle.x25_station.proofs.Names.{layer_outcome, outcome_in, outcome_on, if_at_once, puts_at_once, free_channel, LinkView, Putting, begin, rounds, Answered}
-use Rattle.x25_station.proofs.Names.{Went, Refuses, went, calls, Asked, name_of, shown, StationEntry, of_channel, restart_asked, station_asked}
-use Rattle.std.proofs.lemmas.Bool.{le-leb}
+use Rattle.x25_station.proofs.Names.{sym, subst, ◌∙◌, arith, le-leb, none-some, same_Some, Role, Dte, Dce, Circuit, Proposal, in_brief, LayerRequest, Asks}
+use Rattle.x25_station.proofs.Names.{Dials, Restarts, PullsAll, LayerOutcome, Accepted, Declined, layer_outcome, outcome_in, outcome_on, if_at_once}
+use Rattle.x25_station.proofs.Names.{puts_at_once, free_channel, first_of, lowest_free, highest_free, first_free, where_callable, LayerSettings, Layer}
+use Rattle.x25_station.proofs.Names.{is_channel, LayerError, Ranges, LinkView, Putting, begin, rounds, Answered, Went, Refuses, went, calls, Asked, name_of}
+use Rattle.x25_station.proofs.Names.{shown, entry_of_dial, PlainPacket, StationEntry, of_channel, restart_asked, station_asked, of_channels, entries_of_outcome}
 use Rattle.x25_circuit.specs.Circuit.{is_free}
-use Rattle.x25_layer.specs.{Calls.{first_of, lowest_free, highest_free, first_free, where_callable}, Ranges.{may_call}, declared.ranges.Ranges.{Ranges}}
-use Rattle.x25_layer.specs.laws.TwoLayers.{entry_of_dial}
-use Rattle.x25_station.proofs.{NameLemmas.{rounds_name, rounds_params}, Names.{entries_of_outcome}, ShownLemmas.{same_shown}}
-use Rattle.x25_station.specs.Entry.{of_channels}
+use Rattle.x25_layer.specs.Ranges.{may_call}
+use Rattle.x25_station.proofs.NameLemmas.{rounds_name, rounds_params}
+use Rattle.x25_station.proofs.ShownLemmas.{same_shown}
 use Rattle.x25_circuit.specs.Calling as circuit
 use Rattle.x25_layer.specs.declared.error.LayerError.TheVariants as layer_error
 

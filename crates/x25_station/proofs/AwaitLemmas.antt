@@ -1,24 +1,21 @@
 -- What a step makes of an answer that is awaited on a channel: it is awaited still, or fewer steps are left, and that is
 -- told.
 use Rattle.x25_station.proofs.Names.{◌≡◌, ℕ, zero, suc, ◌<◌, ◌≤◌, ◌==◌, ◌⊎◌, inl, inr, List, [], ◌∷◌, map, Bool, true, false, ◌&&◌, ◌||◌, if◌then◌else◌, nat_lt}
-use Rattle.x25_station.proofs.Names.{Option, Some, None, Result, Ok, Err, refl, sym, ap, subst, ◌∙◌, arith, true≢false, eqb-true, eq-eqb, Role, Dte, Dce}
-use Rattle.x25_station.proofs.Names.{PacketError, PlainPacket, call, accept, clear, clear_conf, reset, reset_conf, restart, restart_conf, channel_in, Up, Marks}
-use Rattle.x25_station.proofs.Names.{Params, State, Free, Calling, Collision, Open, Resetting, Clearing, may_clear_for, may_restart_for, CircuitSettings}
-use Rattle.x25_station.proofs.Names.{Circuit, Done, Request, Calls, Accepts, Clears, Sends, Interrupts, call_in, accept_in, clear_in, send_in, interrupt_in}
-use Rattle.x25_station.proofs.Names.{outcome, Pulled, pull_in, pull_open, pulled, Piece, CallRequest, PlainNotice, connected, Proposal, may_answer, said_in}
-use Rattle.x25_station.proofs.Names.{Answer, answers, undecoded, Name, LayerSettings, Layer, LayerAnswer, is_channel, is_ready, put_at, notices_on, answers_on}
-use Rattle.x25_station.proofs.Names.{drops, restarting_from, answers_ready, answers_restarting, answers_in, undecoded_in, Asked, Told, name_of, shown}
+use Rattle.x25_station.proofs.Names.{Option, Some, None, Result, Ok, Err, refl, sym, ap, subst, ◌∙◌, arith, true≢false, eqb-true, eq-eqb, list_any, Role, Dte}
+use Rattle.x25_station.proofs.Names.{Dce, awaited_in, reset_in, ready_in, may_clear_for, may_restart_for, CircuitSettings, Circuit, Done, Request, Calls}
+use Rattle.x25_station.proofs.Names.{Accepts, Clears, Sends, Interrupts, call_in, accept_in, clear_in, send_in, interrupt_in, outcome, Pulled, pull_in}
+use Rattle.x25_station.proofs.Names.{pull_open, pulled, Resets, SaysReady, SaysNotReady, Answer, answers, undecoded, Piece, CallRequest, PlainNotice, connected}
+use Rattle.x25_station.proofs.Names.{Proposal, may_answer, said_in, Awaits, Params, State, Free, Calling, Collision, Open, Resetting, Clearing, Name}
 use Rattle.x25_station.proofs.Names.{LayerRequest, Asks, Dials, Restarts, PullsAll, LayerOutcome, Accepted, Declined, where_room, if_at_once, puts_at_once}
-use Rattle.x25_station.proofs.Names.{outcome_on, dialled, restarted_for, outcome_ready, outcome_in, layer_outcome, free_channel, layer_pulled, undecoded_at}
-use Rattle.x25_station.proofs.Names.{answer_to, LinkView, Putting, with_pulled, pull_one, round, rounds_of, rounds, backlog, StationEntry, of_channel}
-use Rattle.x25_station.proofs.Names.{restart_asked, was_restarted, restart_confirmed, at_fault, station_told, station_asked}
-use Rattle.std.specs.List.{list_any}
-use Rattle.x25_circuit.specs.Awaits.{awaited_in}
-use Rattle.x25_circuit.specs.Calling.{Outcome as CircuitOutcome, Refused as CircuitRefused, Resets, SaysReady, SaysNotReady, reset_in, ready_in}
-use Rattle.x25_circuit.specs.declared.awaits.{Awaits.{Awaits}, Awaits.TheVariants.{Nothing}}
+use Rattle.x25_station.proofs.Names.{outcome_on, dialled, restarted_for, outcome_ready, outcome_in, layer_outcome, free_channel, layer_pulled, LayerSettings}
+use Rattle.x25_station.proofs.Names.{Layer, LayerAnswer, is_channel, is_ready, put_at, notices_on, answers_on, drops, restarting_from, answers_ready}
+use Rattle.x25_station.proofs.Names.{answers_restarting, answers_in, undecoded_in, undecoded_at, answer_to, LinkView, Putting, with_pulled, pull_one, round}
+use Rattle.x25_station.proofs.Names.{rounds_of, rounds, backlog, Asked, Told, name_of, shown, Up, PlainPacket, call, accept, clear, clear_conf, reset}
+use Rattle.x25_station.proofs.Names.{reset_conf, restart, restart_conf, channel_in, channel_of, PacketError, Marks, StationEntry, of_channel, restart_asked}
+use Rattle.x25_station.proofs.Names.{was_restarted, restart_confirmed, at_fault, station_told, station_asked, is_answered_on, is_left_on, rank_in, rank_of}
+use Rattle.x25_circuit.specs.{Calling.{Outcome as CircuitOutcome, Refused as CircuitRefused}, declared.awaits.Awaits.TheVariants.{Nothing}}
 use Rattle.x25_layer.specs.laws.Transcript.{Said}
-use Rattle.x25_packet.specs.Spelling.{channel_of}
-use Rattle.x25_station.specs.laws.{EndLaw.{is_answer, is_answer_in, clears_in, is_answered_on, is_left_on}, WayOutLaw.{rank_in, rank_of}}
+use Rattle.x25_station.specs.laws.EndLaw.{is_answer, is_answer_in, clears_in}
 use Rattle.x25_circuit.specs.declared.error.CircuitError.TheVariants as circuit_error
 use Rattle.x25_circuit.specs.Hearing as table
 use Rattle.x25_layer.specs.declared.error.LayerError.TheVariants as error

@@ -1,10 +1,8 @@
 -- A packet in which a CALL has less user data than it may have is read so where it may have more.
-use Rattle.x25_station.proofs.Names.{ℕ, ◌<◌, ◌≤◌, ◌≡◌, subst, Bool, List, arith, Option, Some, None, Result, Ok, inl, inr, PacketError}
-use Rattle.std.{proofs.Common.{All}, specs.Prelude.{max}}
-use Rattle.x25_packet.specs.{Block.{IsBlock, PlainFields}, Form.{PlainKind, PlainForm, call, plain}, Form.Spelling.{IsKind, IsShort, Spells}}
-use Rattle.x25_packet.specs.{Grammar.{Gives, form_in}, declared.form.Form.{Form}, declared.form.Forms.TheVariants.{Any}}
-use Rattle.x25_packet.specs.laws.ReadingLaw.{ReadsFormsThatAreSpelled}
-use Rattle.x25_station.specs.Beside.{IsReadShorter}
+use Rattle.x25_station.proofs.Names.{ℕ, ◌<◌, ◌≤◌, ◌≡◌, subst, Bool, List, arith, Option, Some, None, Result, Ok, inl, inr, All, PlainForm, plain, Spells}
+use Rattle.x25_station.proofs.Names.{form_in, PacketError, Form, Any, ReadsFormsThatAreSpelled, IsReadShorter}
+use Rattle.std.specs.Prelude.{max}
+use Rattle.x25_packet.specs.{Block.{IsBlock, PlainFields}, Form.{PlainKind, call}, Form.Spelling.{IsKind, IsShort}, Grammar.{Gives}}
 
 short_longer : (most : ℕ) (f : Option PlainFields) → most ≤ 128 → IsShort most f → IsShort 128 f
 short_longer most None few is = tt

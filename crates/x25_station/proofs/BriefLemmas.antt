@@ -1,13 +1,13 @@
 -- Of what a circuit accepts, the memory of a step has room for a copy.
 use Rattle.x25_station.proofs.Names.{◌≡◌, ℕ, ◌≤◌, nat_le, nat_lt, List, [], length, Bool, true, false, ◌&&◌, ◌==◌, Option, Some, None, if◌then◌else◌, refl}
-use Rattle.x25_station.proofs.Names.{subst, arith, list_all, and_parts, leb-true, longest_user, Marks, State, Free, Open, Proposal, CircuitSettings, Circuit}
-use Rattle.x25_station.proofs.Names.{Request, Calls, Sends, Interrupts, Done, outcome, call_in, send_in, interrupt_in, LayerSettings, Layer, is_channel, Asks}
-use Rattle.x25_station.proofs.Names.{Dials, LayerOutcome, Accepted, Declined, outcome_in, outcome_on, where_room, if_at_once, puts_at_once, dialled}
-use Rattle.x25_circuit.specs.{Calling.{Outcome, Refused, may_call, is_address_text}, Circuit.{waits}, declared.error.CircuitError.{CircuitError}}
+use Rattle.x25_station.proofs.Names.{subst, arith, and_parts, leb-true, list_all, Request, Calls, Sends, Interrupts, Done, outcome, call_in, send_in}
+use Rattle.x25_station.proofs.Names.{interrupt_in, may_call, is_address_text, CircuitSettings, Circuit, Proposal, CircuitError, State, Free, Open, Asks, Dials}
+use Rattle.x25_station.proofs.Names.{LayerOutcome, Accepted, Declined, outcome_in, outcome_on, where_room, if_at_once, puts_at_once, dialled, free_channel}
+use Rattle.x25_station.proofs.Names.{LayerSettings, Layer, is_channel, LinkView, Putting, Went, calls, is_figure, longest_user, Marks, IsBrief}
+use Rattle.x25_circuit.specs.{Calling.{Outcome, Refused}, Circuit.{waits}}
 use Rattle.x25_circuit.specs.declared.error.CircuitError.TheVariants.{BadParameter, Full, TooLong, InterruptOutstanding}
 use Rattle.x25_layer.specs.declared.error.LayerError.TheVariants.{NoSuchChannel}
-use Rattle.x25_packet.specs.Digits.{is_figure}
-use Rattle.x25_station.proofs.{AskedEntryLemmas.{accepted}, Names.{free_channel, LinkView, Putting, Went, calls, IsBrief}}
+use Rattle.x25_station.proofs.AskedEntryLemmas.{accepted}
 use Rattle.x25_circuit.specs.Calling as circuit
 
 -- ---- of a circuit

@@ -1,21 +1,20 @@
 -- What a circuit gives fits, and what waits in it is cut into packets that fit.
 use Rattle.x25_station.proofs.Names.{◌≡◌, ℕ, zero, suc, ◌+◌, ◌-◌, ◌%◌, ◌<◌, ◌≤◌, List, [], ◌∷◌, ◌++◌, length, take, drop, Option, Some, None, Bool, true, false}
-use Rattle.x25_station.proofs.Names.{nat_lt, nat_le, ◌==◌, if◌then◌else◌, refl, sym, subst, arith, list_all, and_parts, leb-true, Role, Dte, Dce, is_digit}
-use Rattle.x25_station.proofs.Names.{PlainPacket, call, accept, clear, clear_conf, user_data, rr, rnr, interrupt, interrupt_conf, reset, reset_conf, restart}
-use Rattle.x25_station.proofs.Names.{restart_conf, longest_user, Marks, State, Free, Calling, Arriving, Collision, Open, Resetting, Clearing, Piece, no_part}
-use Rattle.x25_station.proofs.Names.{joining, piece_of, IsFacilityField, Params, Proposal, default_params, may_answer, said_in, CircuitSettings, Talk, Circuit}
-use Rattle.x25_station.proofs.Names.{outgoing, CallRequest, connected, may_clear_for, Done, Request, Calls, Accepts, Clears, Sends, Interrupts, call_in}
-use Rattle.x25_station.proofs.Names.{accept_in, clear_in, send_in, interrupt_in, outcome, Pulled, pull_open, pull_in, pulled, Asks, may_ask, may_mark}
-use Rattle.std.proofs.{Common.{length-drop}, lemmas.Bool.{and_from, le-leb, leb-false}, lemmas.List.{length-take, length-map}}
-use Rattle.std.{proofs.lemmas.List.Elements.{All-take, All-drop}, specs.Prelude.{◌&&◌}}
-use Rattle.x25_circuit.specs.Calling.{Outcome, Refused, Resets, SaysReady, SaysNotReady, does, is_address_text, call_sent, may_call, accept_with, clear_with}
-use Rattle.x25_circuit.specs.{Calling.{reset_in, ready_in, pulls_nothing, data_packet}, Cause.{may_reset_for}, Circuit.{talking, incoming, waits}}
-use Rattle.x25_circuit.specs.Message.{More, Last, Partial, may_have_q, ground_of, piece_ground, q_of, user_of, cut_from, cut}
-use Rattle.x25_circuit.specs.Params.{may_propose, field_for, called_terms, calling_terms}
+use Rattle.x25_station.proofs.Names.{nat_lt, nat_le, ◌==◌, if◌then◌else◌, refl, sym, subst, arith, and_parts, leb-true, le-leb, length-map, list_all, Role, Dte}
+use Rattle.x25_station.proofs.Names.{Dce, Done, Request, Calls, Accepts, Clears, Sends, Interrupts, call_in, accept_in, clear_in, send_in, interrupt_in}
+use Rattle.x25_station.proofs.Names.{outcome, Pulled, pull_open, pull_in, pulled, Resets, SaysReady, SaysNotReady, does, is_address_text, may_call, reset_in}
+use Rattle.x25_station.proofs.Names.{ready_in, pulls_nothing, data_packet, may_clear_for, CircuitSettings, Talk, Circuit, outgoing, talking, incoming, Piece}
+use Rattle.x25_station.proofs.Names.{no_part, joining, piece_of, More, Last, Partial, cut_from, cut, CallRequest, connected, Proposal, default_params}
+use Rattle.x25_station.proofs.Names.{may_answer, said_in, field_for, Params, State, Free, Calling, Arriving, Collision, Open, Resetting, Clearing, Asks}
+use Rattle.x25_station.proofs.Names.{is_digit, is_figure, IsAddress, IsFacilityField, with_q, restart_conf, PlainPacket, call, accept, clear, clear_conf}
+use Rattle.x25_station.proofs.Names.{user_data, rr, rnr, interrupt, interrupt_conf, reset, reset_conf, restart, longest_user, HasChannel, Marks, may_ask}
+use Rattle.std.proofs.{Common.{length-drop}, lemmas.Bool.{and_from, leb-false}, lemmas.List.{length-take}, lemmas.List.Elements.{All-take, All-drop}}
+use Rattle.std.specs.Prelude.{◌&&◌}
+use Rattle.x25_circuit.specs.{Calling.{Outcome, Refused, call_sent, accept_with, clear_with}, Cause.{may_reset_for}, Circuit.{waits}}
+use Rattle.x25_circuit.specs.{Message.{may_have_q, ground_of, piece_ground, q_of, user_of}, Params.{may_propose, called_terms, calling_terms}}
 use Rattle.x25_circuit.specs.laws.ParamsLaws.{FieldIsAllowed, SaidIsAllowed, AnswerIsAllowed, TermsAreAllowed, AreTerms}
-use Rattle.x25_packet.specs.{Digits.{is_figure, digits_of_text, IsAddress}, Marks.{with_q}, Spelling.{HasChannel}}
-use Rattle.x25_station.{proofs.FieldLemmas.{Fits}, proofs.Names.{AreOctets}, specs.laws.ReadLaw.{AsksOctets}}
-use Rattle.x25_window.specs.code.Modulo.{resolved}
+use Rattle.x25_packet.specs.Digits.{digits_of_text}
+use Rattle.x25_station.{proofs.FieldLemmas.{Fits}, proofs.Names.{may_mark, AreOctets, resolved}, specs.laws.ReadLaw.{AsksOctets}}
 use Rattle.x25_circuit.specs.declared.error.CircuitError.TheVariants as error
 use Rattle.x25_circuit.specs.Hearing as table
 

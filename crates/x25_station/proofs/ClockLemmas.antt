@@ -1,10 +1,10 @@
 -- What timer T1 does behind a step.
 use Rattle.x25_station.proofs.Names.{◌≡◌, ◌⊎◌, inl, inr, ◌∙◌, ◌+◌, ◌<◌, ◌≤◌, ℕ, Bool, true, false, List, [], length, drop, map, Result, Ok, Err, OnErr, ap, sym}
-use Rattle.x25_station.proofs.Names.{refl, arith, le-ltb, LinkStation, Reason, Lent, plain_entry, Station, Step, Outcome, Did, Refused, Settings, FitsStation}
-use Rattle.std.{proofs.Common.{get_or, OnOk}, proofs.lemmas.List.{at_drop_more, drop_all}, specs.Prelude.{not, ◌||◌}, specs.Result.{is_ok}}
-use Rattle.x25_station.proofs.{Names.{Does, Enters, StationError, Timer, is_acknowledged, tells_link, runs, StationEntry}, TimerLemmas.{HearsNone}}
-use Rattle.x25_station.specs.{Timer.{is_anew, is_of_link, standing, timer_of, timer_at, pulled_timer}, code.Clock.{IsTimer}, code.FitsStation.{Leaves, Refuses}}
-use Rattle.x25_station.specs.declared.{entry.Entry.{Entry}, timer.Timer.TheVariants.{GoesOn}}
+use Rattle.x25_station.proofs.Names.{refl, arith, OnOk, le-ltb, is_ok, LinkStation, Reason, Settings, StationEntry, Station, Step, Outcome, Did, Refused}
+use Rattle.x25_station.proofs.Names.{is_acknowledged, tells_link, runs, is_anew, is_of_link, timer_of, pulled_timer, FitsStation, Does, Enters, Leaves}
+use Rattle.std.{proofs.Common.{get_or}, proofs.lemmas.List.{at_drop_more, drop_all}, specs.Prelude.{not, ◌||◌}}
+use Rattle.x25_station.{proofs.Names.{plain_entry, Entry, StationError, Lent, Timer}, proofs.TimerLemmas.{HearsNone}, specs.Timer.{standing, timer_at}}
+use Rattle.x25_station.specs.{code.Clock.{IsTimer}, code.FitsStation.{Refuses}, declared.timer.Timer.TheVariants.{GoesOn}}
 use Rattle.x25_station.specs.declared.entry.Entry.TheVariants as code_entry
 use Rattle.x25_station.specs.declared.station.Station as code
 use Rattle.x25_station.specs.declared.step.Step as code_step

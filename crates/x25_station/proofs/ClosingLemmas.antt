@@ -1,9 +1,9 @@
 -- A call, an acceptance and a clearing confirm nothing: no stretch is open before such a packet and behind it.
-use Rattle.x25_station.proofs.Names.{◌≡◌, ◌≢◌, ℕ, ◌-◌, ◌==◌, List, Bool, true, false, ◌&&◌, if◌then◌else◌, refl, ap, ◌∙◌, arith, eqb-true, PlainPacket, call}
-use Rattle.x25_station.proofs.Names.{accept, clear, spelling_of, State, Free, CircuitSettings, Circuit, is_open, is_open_in, unconfirmed, Answer, answers}
-use Rattle.x25_station.proofs.Names.{row_call, row_accept, row_clear, CallRequest, LayerSettings, Layer, LayerAnswer, is_channel, answers_on, answers_in, drops}
-use Rattle.x25_circuit.specs.Hearing.{request_in}
-use Rattle.x25_station.proofs.{ConfirmLemmas.{closed_before, closed_behind}, Names.{layer_answers, PlainGiven, written, confirmed, goes_on, confirmed_by}}
+use Rattle.x25_station.proofs.Names.{◌≡◌, ◌≢◌, ℕ, ◌-◌, ◌==◌, List, Bool, true, false, ◌&&◌, if◌then◌else◌, refl, ap, ◌∙◌, arith, eqb-true, CircuitSettings}
+use Rattle.x25_station.proofs.Names.{Circuit, is_open, is_open_in, unconfirmed, Answer, answers, row_call, row_accept, row_clear, request_in, CallRequest}
+use Rattle.x25_station.proofs.Names.{State, Free, PlainGiven, written, LayerSettings, Layer, LayerAnswer, is_channel, answers_on, answers_in, drops}
+use Rattle.x25_station.proofs.Names.{layer_answers, PlainPacket, call, accept, clear, spelling_of, confirmed, goes_on, confirmed_by}
+use Rattle.x25_station.proofs.ConfirmLemmas.{closed_before, closed_behind}
 
 -- ---- of a circuit
 

@@ -1,13 +1,13 @@
 -- What is confirmed from one layer to another, by what these tell.
 use Rattle.x25_station.proofs.Names.{◌≡◌, ℕ, zero, suc, ◌-◌, List, [], ◌∷◌, ◌++◌, Some, None, Bool, true, false, ◌&&◌, ◌==◌, not, if◌then◌else◌, refl, ap, sym}
-use Rattle.x25_station.proofs.Names.{◌∙◌, arith, Option, subst, eqb-true, none-some, same_Some, is_open, unconfirmed, Name, LayerSettings, Layer, LayerAnswer}
-use Rattle.x25_station.proofs.Names.{is_channel, named_by, LinkView, Putting, begin, rounds, is_open_at, name_of, confirmed, goes_on, plain_name, StationEntry}
-use Rattle.x25_station.proofs.Names.{bringing, entries_beside, entries_behind, was_confirmed, beside_in, layer_answer, entries_of_answer, entries_of_packet}
+use Rattle.x25_station.proofs.Names.{◌∙◌, arith, Option, subst, eqb-true, none-some, same_Some, is_open, unconfirmed, Name, same_name, LayerSettings, Layer}
+use Rattle.x25_station.proofs.Names.{LayerAnswer, is_channel, is_open_at, LinkView, Putting, begin, rounds, name_of, beside_in, named_by, confirmed, goes_on}
+use Rattle.x25_station.proofs.Names.{StationEntry, bringing, entries_beside, entries_behind, was_confirmed, layer_answer, entries_of_answer, entries_of_packet}
 use Rattle.std.proofs.Common.{eq-eqb}
-use Rattle.x25_handshakes.specs.laws.Names.{both, same_name}
+use Rattle.x25_handshakes.specs.laws.Names.{both}
 use Rattle.x25_layer.specs.{Layer.Confirmed.{unconfirmed_at}, code.FitsLayer.{name_at}}
-use Rattle.x25_station.proofs.NameLemmas.{rounds_name, rounds_open, rounds_unconfirmed}
-use Rattle.x25_station.specs.{code.Confirming.{Stands, StandsFor}, declared.confirming.Unconfirmed.{Unconfirmed}}
+use Rattle.x25_station.{proofs.NameLemmas.{rounds_name, rounds_open, rounds_unconfirmed}, proofs.Names.{Stands, plain_name}, specs.code.Confirming.{StandsFor}}
+use Rattle.x25_station.specs.declared.confirming.Unconfirmed.{Unconfirmed}
 
 true_false : true ≡ false → ⊥
 true_false is = cc

@@ -1,13 +1,13 @@
 -- A call does what the definition says of it, by what the calls of its link or of its layer did.
 use Rattle.x25_station.proofs.Names.{◌≡◌, ◌≤◌, List, [], length, Bool, true, false, Some, None, Result, Ok, Err, OnErr, refl, ap, sym, ◌∙◌, subst, arith}
-use Rattle.x25_station.proofs.Names.{LinkStation, Side, alone, ShownLink, LinkState, FitsWhole, WindowIsSmall, FewStand, LayerSettings, Layer, LayerRequest}
-use Rattle.x25_station.proofs.Names.{LayerError, Answered, Went, refusal_of, LinkGives, FitsLayer, Manner, StationError, Timer, of_layer, Settings}
-use Rattle.x25_station.proofs.Names.{link_settings, layer_settings, Station, all_put, view_of, kept_of, FitsParts, AreMeant, may_ask, StationEntry, not_taken}
-use Rattle.x25_station.proofs.Names.{Outcome, Did, Refused, did, requests, where_asked, RequestKeeps, FitsStation, Does, IsEmpty, Enters}
+use Rattle.x25_station.proofs.Names.{LayerRequest, LayerSettings, Layer, FitsLayer, LayerError, Answered, Went, refusal_of, alone, LinkStation, Side}
+use Rattle.x25_station.proofs.Names.{WindowIsSmall, FewStand, ShownLink, LinkState, FitsWhole, may_ask, Settings, link_settings, layer_settings, StationEntry}
+use Rattle.x25_station.proofs.Names.{of_layer, not_taken, kept_of, Station, all_put, view_of, Outcome, Did, Refused, did, requests, where_asked, FitsParts}
+use Rattle.x25_station.proofs.Names.{AreMeant, FitsStation, Does, IsEmpty, Enters, Leaves, LinkGives, Manner, StationError, Timer, RequestKeeps}
 use Rattle.x25_layer.specs.laws.Rounds.{Refuses as LayerRefuses}
 use Rattle.x25_station.proofs.AskLemmas.{Layers, Links, Judges, Answers, IsNamed, answers, answered_by, requested, calls_named, judged_by, link_gives}
 use Rattle.x25_station.proofs.{AskLemmas.{after_puts, refuses, still_fits}, FrameLemmas.{few_put}}
-use Rattle.x25_station.{proofs.ResultLemmas.{ok_err}, proofs.TakeLemmas.{least_by_meaning, few_made}, specs.code.FitsStation.{Leaves, Sends, Refuses}}
+use Rattle.x25_station.{proofs.ResultLemmas.{ok_err}, proofs.TakeLemmas.{least_by_meaning, few_made}, specs.code.FitsStation.{Sends, Refuses}}
 use Rattle.x25_layer.specs.declared.layer.Layer as layer_code
 use Rattle.x25_station.specs.declared.error.StationError.TheVariants as error
 use Rattle.x25_station.specs.declared.station.Station as code

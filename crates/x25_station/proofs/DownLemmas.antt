@@ -1,10 +1,11 @@
 -- A step of the link that hands nothing up, and notes nothing but that it went down.
 use Rattle.x25_station.proofs.Names.{◌≡◌, ℕ, ◌+◌, List, [], ◌++◌, map, Option, Some, None, Ok, Bool, true, false, if◌then◌else◌, nat_lt, refl, sym, ap, subst}
-use Rattle.x25_station.proofs.Names.{◌∙◌, LinkError, Reason, LinkSettings, LinkStation, Side, with_near, LinkStep, quiet, leaves, alone, asks_again, timer_step}
-use Rattle.x25_station.proofs.Names.{disconnect_step, relink_step, Retries, ShownLink, FitsLink, Layer, FitsLayer, Manner, Settings, link_settings}
-use Rattle.x25_station.proofs.Names.{layer_settings, manner_of, StationEntry, entries_down, Station, Step, follows, unless, IsKept, KeptBy, FitsParts}
+use Rattle.x25_station.proofs.Names.{◌∙◌, Layer, FitsLayer, LinkStep, quiet, leaves, alone, asks_again, timer_step, disconnect_step, relink_step, connect_step}
+use Rattle.x25_station.proofs.Names.{LinkSettings, LinkStation, Side, with_near, ShownLink, FitsLink, LinkError, Reason, Retries, Settings, link_settings}
+use Rattle.x25_station.proofs.Names.{layer_settings, manner_of, StationEntry, entries_down, Station, Step, follows, unless, layer_down, FitsParts, LeavesParts}
 use Rattle.x25_frame.specs.Spelling.{spelling_of}
-use Rattle.x25_station.{proofs.KeepLemmas.{timer_none}, proofs.Names.{LeavesParts}, proofs.OutcomeLemmas.{leaves_unless}, specs.Step.{layer_down}}
+use Rattle.x25_station.proofs.{KeepLemmas.{timer_none}, Names.{step_of_call, Manner, LinkCall, Connect, Disconnect, Relink, IsKept, KeptBy}}
+use Rattle.x25_station.proofs.OutcomeLemmas.{leaves_unless}
 use Rattle.x25_layer.specs.declared.layer.Layer as layer_code
 
 -- the layer rests where it went down, and nothing is put
@@ -22,7 +23,7 @@ follows_down c l k none not_up =
     ∙ ap (λ (b : Bool). follows c l (record { side = k.side; packet = None; notes = record { down = k.notes.down; up = b } })) not_up
     ∙ noted_down c l k.side k.notes.down
 
--- ---- timer T1, disconnect, and relink
+-- ---- calls that the link alone answers
 
 pub timer_stays : (c : LinkSettings) (s : LinkStation) → (timer_step c s).notes.up ≡ false
 timer_stays c s = test (nat_lt s.tries c.retries)
@@ -43,6 +44,13 @@ disconnect_down c l s = follows_down c l (disconnect_step (link_settings c) s) r
 pub relink_down : (c : Settings) (l : Layer) (s : LinkStation)
     → (let k : LinkStep = relink_step (link_settings c) s in follows c l k ≡ downs l k.side k.notes.down)
 relink_down c l s = follows_down c l (relink_step (link_settings c) s) refl refl
+
+pub call_down : (call : LinkCall) (c : Settings) (l : Layer) (s : LinkStation)
+    → (let k : LinkStep = step_of_call call (link_settings c) s in follows c l k ≡ downs l k.side k.notes.down)
+call_down Connect c l s = follows_down c l (connect_step (link_settings c) s) refl refl
+call_down Disconnect c l s = disconnect_down c l s
+call_down Relink c l s = relink_down c l s
+call_down call c l s = timer_down c l s
 
 -- ---- the station after it
 

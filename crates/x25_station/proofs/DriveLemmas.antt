@@ -1,14 +1,13 @@
 -- A call of the layer over the link: what it has to put is put, and then what waits is pulled.
 use Rattle.x25_station.proofs.Names.{◌≡◌, ◌≢◌, ◌⊎◌, inl, inr, ℕ, zero, suc, ◌<◌, List, [], ◌∷◌, length, nat_lt, Option, Some, None, Result, Ok, Err, OnErr}
-use Rattle.x25_station.proofs.Names.{option_to_list, Bool, true, false, ◌==◌, if◌then◌else◌, refl, sym, ap, subst, ◌∙◌, arith, eqb-true, PlainPacket}
-use Rattle.x25_station.proofs.Names.{spelling_of, ShownLink, LinkState, FitsWhole, after_put_to, waiting_of, waits_of, link_waits, LayerError, LayerSettings}
-use Rattle.x25_station.proofs.Names.{Layer, LayerRequest, LayerOutcome, Accepted, Declined, PullsAll, layer_outcome, outcome_in, layer_pulled, LinkView}
-use Rattle.x25_station.proofs.Names.{Putting, Answered, Went, Refuses, begin, with_pulled, pull_one, round, rounds_of, backlog, rounds, went, calls, refusal_of}
-use Rattle.std.proofs.Common.{IsErrAnd}
-use Rattle.x25_layer.specs.{Calls.{asked_where, declined_for}, code.Answering.{Gives, Answers}}
-use Rattle.x25_link.specs.{code.FitsLink.{up_of, up_at}, laws.LinkLaws.{link_up}}
-use Rattle.x25_station.proofs.{Names.{FitsLayer, spelled, after_all, LayerGives, LinkGives}, RoundLemmas.{all_spelled, octets_put, spelled_some, not_empty}}
-use Rattle.x25_station.specs.code.OverLink.{seen_at, Drives}
+use Rattle.x25_station.proofs.Names.{option_to_list, Bool, true, false, ◌==◌, if◌then◌else◌, refl, sym, ap, subst, ◌∙◌, arith, IsErrAnd, eqb-true, LayerRequest}
+use Rattle.x25_station.proofs.Names.{LayerOutcome, Accepted, Declined, PullsAll, layer_outcome, outcome_in, layer_pulled, asked_where, LayerSettings, Layer}
+use Rattle.x25_station.proofs.Names.{Gives, Answers, spelled, FitsLayer, LayerError, calls, refusal_of, LinkView, Putting, Answered, Went, Refuses, begin}
+use Rattle.x25_station.proofs.Names.{with_pulled, pull_one, round, rounds_of, backlog, rounds, went, ShownLink, LinkState, FitsWhole, after_put_to, waiting_of}
+use Rattle.x25_station.proofs.Names.{waits_of, up_of, up_at, link_waits, PlainPacket, spelling_of, after_all, LayerGives, LinkGives, seen_at}
+use Rattle.x25_layer.specs.Calls.{declined_for}
+use Rattle.x25_link.specs.laws.LinkLaws.{link_up}
+use Rattle.x25_station.{proofs.RoundLemmas.{all_spelled, octets_put, spelled_some, not_empty}, specs.code.OverLink.{Drives}}
 use Rattle.x25_layer.specs.declared.error.LayerError.TheVariants as error
 use Rattle.x25_layer.specs.declared.layer.Layer as layer_code
 use Rattle.x25_layer.specs.declared.link_state.LinkState as code

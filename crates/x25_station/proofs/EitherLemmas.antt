@@ -1,14 +1,12 @@
 -- A command with or without something given beside its packet, by what the calls of its layer did.
-use Rattle.x25_station.proofs.Names.{◌≡◌, ℕ, List, [], ◌∷◌, Option, Some, None, Result, Ok, Err, Bool, true, false, ◌&&◌, refl, ap, sym, ◌∙◌, ShownLink}
-use Rattle.x25_station.proofs.Names.{WindowIsSmall, FewStand, Proposal, in_brief, LayerError, Layer, is_channel, LayerRequest, Asks, Dials, free_channel}
-use Rattle.x25_station.proofs.Names.{FitsLayer, Asked, name_of, shown, PlainGiven, may_give, Manner, StationError, of_layer, may_ask, said_by, Settings}
-use Rattle.x25_station.proofs.Names.{layer_settings, manner_of, of_channel, suits, not_taken, Station, requests, RequestKeeps, GivenKeeps, FitsParts, AreMeant}
-use Rattle.std.{proofs.Common.{IsErrOf}, specs.Prelude.{IfSome}}
-use Rattle.x25_layer.specs.Calls.{asks_memory}
+use Rattle.x25_station.proofs.Names.{◌≡◌, ℕ, List, [], ◌∷◌, Option, Some, None, Result, Ok, Err, Bool, true, false, ◌&&◌, refl, ap, sym, ◌∙◌, IsErrOf, IfSome}
+use Rattle.x25_station.proofs.Names.{Proposal, in_brief, PlainGiven, may_give, LayerRequest, Asks, Dials, free_channel, asks_memory, Layer, is_channel}
+use Rattle.x25_station.proofs.Names.{FitsLayer, LayerError, Asked, name_of, shown, WindowIsSmall, FewStand, ShownLink, may_ask, said_by, Settings}
+use Rattle.x25_station.proofs.Names.{layer_settings, manner_of, of_channel, of_layer, suits, not_taken, Station, requests, asks, commands, IsBrief, FitsParts}
+use Rattle.x25_station.proofs.Names.{AreMeant, FitsStation, Does, IsEmpty, Enters, RefusesOnly, DrivesAsked, Manner, StationError, RequestKeeps, GivenKeeps}
 use Rattle.x25_station.proofs.{AskLemmas.{Judges, answers, still_fits}, EnteredLemmas.{asked_enters, dialled_enters}, MayLemmas.{memory_unasked}}
-use Rattle.x25_station.proofs.{Names.{FitsStation, Does, IsEmpty, Enters, RefusesOnly, IsBrief}, OutcomeLemmas.{leaves_some, still_meant}}
-use Rattle.x25_station.{proofs.PullLemmas.{never_lacks}, proofs.SaidLemmas.{nowhere_alike}, specs.Command.{requesting}, specs.Giving.{may_ask_with}}
-use Rattle.x25_station.specs.{Step.{asks, commands}, code.OverLink.{DrivesAsked}}
+use Rattle.x25_station.proofs.{OutcomeLemmas.{leaves_some, still_meant}, PullLemmas.{never_lacks}, SaidLemmas.{nowhere_alike}}
+use Rattle.x25_station.specs.{Command.{requesting}, Giving.{may_ask_with}}
 use Rattle.x25_circuit.specs.declared.error.CircuitError.TheVariants as circuit_error
 use Rattle.x25_circuit.specs.Calling as circuit
 use Rattle.x25_layer.specs.declared.layer.Layer as layer_code

@@ -1,11 +1,11 @@
 -- The entries of an accepted command are those of the definition.
-use Rattle.x25_station.proofs.Names.{◌≡◌, ℕ, List, [], ◌∷◌, ◌==◌, Some, Ok, true, sym, subst, ◌∙◌, Proposal, in_brief, ShownLink, LayerSettings, Layer}
-use Rattle.x25_station.proofs.Names.{is_channel, LayerRequest, Asks, Dials, Restarts, PullsAll, layer_outcome, free_channel, LinkView, Putting, Answered, Went}
-use Rattle.x25_station.proofs.Names.{LayerGives, FitsLayer, Asked, name_of, shown, Manner, Settings, link_settings, layer_settings, StationEntry, of_channel}
-use Rattle.x25_station.proofs.Names.{restart_asked, Station, view_of, waiting_after, may_ask, requests, entries_of_outcome, FitsParts, Enters, IsBrief}
+use Rattle.x25_station.proofs.Names.{◌≡◌, ℕ, List, [], ◌∷◌, ◌==◌, Some, Ok, true, sym, subst, ◌∙◌, Proposal, in_brief, LayerRequest, Asks, Dials, Restarts}
+use Rattle.x25_station.proofs.Names.{PullsAll, layer_outcome, free_channel, LayerSettings, Layer, is_channel, FitsLayer, LinkView, Putting, Answered, Went}
+use Rattle.x25_station.proofs.Names.{Asked, name_of, shown, ShownLink, may_ask, Settings, link_settings, layer_settings, StationEntry, of_channel}
+use Rattle.x25_station.proofs.Names.{restart_asked, Station, view_of, waiting_after, requests, entries_of_outcome, IsBrief, FitsParts, Enters, LayerGives}
 use Rattle.x25_station.proofs.AskLemmas.{Layers, answered_by, requested, layer_gives, enters_did}
 use Rattle.x25_station.proofs.AskedEntryLemmas.{asked_entry, dialled_entry, restart_entry, pull_entry, asked_channel, free_is_channel}
-use Rattle.x25_station.proofs.{BriefLemmas.{asked_brief, dialled_brief}, MayLemmas.{where_holds}}
+use Rattle.x25_station.proofs.{BriefLemmas.{asked_brief, dialled_brief}, MayLemmas.{where_holds}, Names.{Manner}}
 use Rattle.x25_circuit.specs.Calling as circuit
 use Rattle.x25_layer.specs.declared.layer.Layer as layer_code
 use Rattle.x25_station.specs.declared.step.Step as code_step

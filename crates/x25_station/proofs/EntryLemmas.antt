@@ -1,9 +1,9 @@
 -- The entries of a step have those of the layer's own transcript.
-use Rattle.x25_station.proofs.Names.{◌≡◌, ℕ, zero, suc, List, [], ◌∷◌, ◌++◌, Option, Some, None, refl, ap, Calls, LayerSettings, Layer, LayerNotice, on_channel}
-use Rattle.x25_station.proofs.Names.{restarted, restart_done, layer_fault, LayerRequest, Asks, Dials, Restarts, PullsAll, free_channel, Entry, Told, name_of}
-use Rattle.x25_station.proofs.Names.{PlainBeside, StationEntry, station_told, entries_beside, entries_behind, station_asked}
-use Rattle.x25_layer.specs.laws.TwoLayers.{entries_told, entries_asked, entry_of_dial}
-use Rattle.x25_station.specs.{Beside.{nothing, fields, diagnosed}, Entry.{of_channels, layer_entries, layer_notices}}
+use Rattle.x25_station.proofs.Names.{◌≡◌, ℕ, zero, suc, List, [], ◌∷◌, ◌++◌, Option, Some, None, refl, ap, Calls, LayerRequest, Asks, Dials, Restarts, PullsAll}
+use Rattle.x25_station.proofs.Names.{free_channel, LayerSettings, Layer, LayerNotice, on_channel, restarted, restart_done, layer_fault, Told, name_of}
+use Rattle.x25_station.proofs.Names.{entry_of_dial, PlainBeside, nothing, fields, diagnosed, StationEntry, station_told, entries_beside, entries_behind}
+use Rattle.x25_station.proofs.Names.{station_asked, of_channels, layer_entries, layer_notices}
+use Rattle.x25_layer.specs.laws.{Transcript.{Entry}, TwoLayers.{entries_told, entries_asked}}
 
 beside_entries : (b : PlainBeside) (o : Option ℕ) → layer_entries (entries_beside b o) ≡ []
 beside_entries nothing o = refl

@@ -1,15 +1,12 @@
 -- A packet whose fields fit is read again from its octets.
 use Rattle.x25_station.proofs.Names.{◌≡◌, ℕ, ◌+◌, ◌*◌, ◌%◌, ◌<◌, ◌≤◌, List, [], ◌∷◌, ◌++◌, length, Option, Some, None, Ok, Bool, true, false, not, ◌||◌, refl}
-use Rattle.x25_station.proofs.Names.{sym, ap, subst, ◌∙◌, arith, length-append, list_all, and_parts, leb-true, is_digit, PlainPacket, call, accept, clear}
-use Rattle.x25_station.proofs.Names.{clear_conf, user_data, rr, rnr, interrupt, interrupt_conf, reset, reset_conf, restart, restart_conf, spelling_of}
-use Rattle.x25_station.proofs.Names.{IsInRange, longest_user, IsFacilityField, ReadsWhatIsSpelled, read_in, TakesWhatIsSpelled, may_mark, AreOctets}
-use Rattle.std.proofs.{Common.{◌/◌}, lemmas.List.Elements.{All-nil, All-cons, All-append}, lemmas.List.Folds.{list_all-append}}
-use Rattle.std.specs.Prelude.{◌&&◌}
-use Rattle.x25_bits.specs.Bits.{bit}
-use Rattle.x25_packet.specs.{Digits.{packed, IsAddress}, Facilities.{facility, field_of, AreWithin, IfGiven}}
-use Rattle.x25_packet.specs.Spelling.{channel_of, HasChannel, moved_to, format_of, type_of, call_body, accept_body, body_of, header_of, IsWithoutD}
+use Rattle.x25_station.proofs.Names.{sym, ap, subst, ◌∙◌, arith, length-append, ◌/◌, and_parts, leb-true, All-append, list_all-append, list_all, bit, is_digit}
+use Rattle.x25_station.proofs.Names.{packed, IsAddress, IsFacilityField, restart_conf, PlainPacket, call, accept, clear, clear_conf, user_data, rr, rnr}
+use Rattle.x25_station.proofs.Names.{interrupt, interrupt_conf, reset, reset_conf, restart, spelling_of, IsInRange, longest_user, channel_of, HasChannel}
+use Rattle.x25_station.proofs.Names.{body_of, header_of, IsWithoutD, read_in, ReadsWhatIsSpelled, TakesWhatIsSpelled, may_mark, AreOctets, IsReadable}
+use Rattle.std.{proofs.lemmas.List.Elements.{All-nil, All-cons}, specs.Prelude.{◌&&◌}}
+use Rattle.x25_packet.specs.{Facilities.{facility, field_of, AreWithin, IfGiven}, Spelling.{moved_to, format_of, type_of, call_body, accept_body}}
 use Rattle.x25_packet.specs.declared.facilities.Directions.{Directions}
-use Rattle.x25_station.specs.laws.ReadLaw.{IsReadable}
 
 abbrev pub IsOctet : ℕ → Type 0
 IsOctet octet = octet < 256

@@ -1,9 +1,9 @@
 -- What the layer does at a step of the link, by what the step noted and handed up.
-use Rattle.x25_station.proofs.Names.{◌≡◌, ℕ, List, ◌++◌, Option, Some, None, Bool, true, false, refl, ap, sym, subst, ◌∙◌, append-nil, Notes, Reason}
-use Rattle.x25_station.proofs.Names.{LayerSettings, Layer, LinkView, Putting, StationEntry, entries_noted, layer_at, layer_answer, entries_of_answer}
+use Rattle.x25_station.proofs.Names.{◌≡◌, ℕ, List, ◌++◌, Option, Some, None, Bool, true, false, refl, ap, sym, subst, ◌∙◌, append-nil, LayerSettings, Layer}
+use Rattle.x25_station.proofs.Names.{LinkView, Putting, hears, Notes, Reason, StationEntry, entries_noted, layer_at, layer_answer, entries_of_answer}
 use Rattle.std.specs.Option.{is_some}
-use Rattle.x25_layer.specs.laws.Rounds.{hears, comes_up}
-use Rattle.x25_station.{proofs.Names.{entries_of_packet, entries_heard}, specs.Step.{rests, layer_down}}
+use Rattle.x25_layer.specs.laws.Rounds.{comes_up}
+use Rattle.x25_station.{proofs.Names.{entries_of_packet, entries_heard, layer_down}, specs.Step.{rests}}
 
 true_false : true ≡ false → ⊥
 true_false is = cc

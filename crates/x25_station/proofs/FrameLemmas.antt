@@ -1,13 +1,13 @@
 -- A step is answered by few frames, whatever is handed down in it: one answers what came, each I frame takes a place in
 -- the window, and one RR at most ends an RNR.
 use Rattle.x25_station.proofs.Names.{◌≡◌, ℕ, zero, suc, ◌+◌, ◌-◌, ◌<◌, ◌≤◌, List, [], ◌∷◌, ◌++◌, Bool, true, false, not, ◌&&◌, if◌then◌else◌, nat_lt, length}
-use Rattle.x25_station.proofs.Names.{refl, ap, sym, ◌∙◌, arith, le_trans, and_parts, ltb-true, PlainPacket, PlainFrame, frame_of, added, LinkSettings}
-use Rattle.x25_station.proofs.Names.{LinkStation, Side, is_up, is_busy, with_near, sends, ready, send_next, may_send, pumped, owes_ready, ended, quiet, other}
+use Rattle.x25_station.proofs.Names.{refl, ap, sym, ◌∙◌, arith, le_trans, and_parts, ltb-true, PlainFrame, frame_of, quiet, other, alone, take_step, put_step}
+use Rattle.x25_station.proofs.Names.{added, LinkSettings, LinkStation, Side, is_up, is_busy, with_near, sends, ready, send_next, may_send, pumped, owes_ready}
+use Rattle.x25_station.proofs.Names.{ended, PlainPacket, put_on, all_put, behind}
 use Rattle.std.proofs.lemmas.List.{length-append}
 use Rattle.x25_frame.specs.Frame.{rr, rnr}
 use Rattle.x25_link.proofs.FrameCount.{Few, hears_few}
 use Rattle.x25_link.specs.{Link.{hears}, Outgoing.{is_open}, Station.{wanted, next_frame, finished}}
-use Rattle.x25_station.{proofs.Names.{alone, take_step, put_step, put_on, all_put}, specs.Station.{behind}}
 use Rattle.x25_packet.specs.Spelling as packet
 
 -- the places left in the window, and one where RNR was said

@@ -1,12 +1,12 @@
 -- A step with something given is a step of its link joined with moves of its layer.
 use Rattle.x25_station.proofs.Names.{◌≡◌, ℕ, List, ◌∷◌, ◌++◌, Option, Some, None, Bool, true, false, ◌==◌, if◌then◌else◌, option_to_list, refl, sym, ap, subst}
-use Rattle.x25_station.proofs.Names.{◌∙◌, append-nil, PlainPacket, waits, LinkSettings, is_up, alone, PutTells, LayerSettings, Layer, LayerNotice, LayerOutcome}
-use Rattle.x25_station.proofs.Names.{Accepted, Declined, layer_outcome, LinkView, Putting, begin, rounds, backlog, Went, Refuses, went, calls, Entry, TwoLayers}
-use Rattle.x25_station.proofs.Names.{Move, requested, moves_in, moves, StationError, link_settings, layer_settings, station_asked, is_taken, view_given}
-use Rattle.x25_layer.specs.laws.{RoundLaw.{moves_all, pulls_of, AreChannels, CallsRun}, TwoLayers.{Requests}}
+use Rattle.x25_station.proofs.Names.{◌∙◌, append-nil, LayerOutcome, Accepted, Declined, layer_outcome, LayerSettings, Layer, LayerNotice, moves_all, pulls_of}
+use Rattle.x25_station.proofs.Names.{AreChannels, CallsRun, LinkView, Putting, begin, rounds, backlog, Went, Refuses, went, calls, TwoLayers, Move, requested}
+use Rattle.x25_station.proofs.Names.{moves_in, moves, alone, waits, LinkSettings, is_up, PutTells, PlainPacket, link_settings, layer_settings, station_asked}
+use Rattle.x25_station.proofs.Names.{is_taken, view_given, not_taken, Step, Did, Refused, entries_of_outcome, with_given, gave, StationError, AreTaken}
+use Rattle.x25_layer.specs.laws.{Transcript.{Entry}, TwoLayers.{Requests}}
 use Rattle.x25_station.proofs.{EntryLemmas.{asked_entries, asked_notices}, GivingLemmas.{rounds_given}, KeepLemmas.{below}}
-use Rattle.x25_station.proofs.{Names.{not_taken, Step, Did, Refused, entries_of_outcome, with_given, gave}, PutLemmas.{accepts}, RequestLemmas.{has_room}}
-use Rattle.x25_station.specs.laws.GivenLaw.{AreTaken, GivenIsJoined, IsGivenJoined}
+use Rattle.x25_station.{proofs.PutLemmas.{accepts}, proofs.RequestLemmas.{has_room}, specs.laws.GivenLaw.{GivenIsJoined, IsGivenJoined}}
 use Rattle.x25_layer.specs.declared.error.LayerError.TheVariants as layer_error
 use Rattle.x25_station.specs.declared.error.StationError.TheVariants as error
 

@@ -1,9 +1,9 @@
 -- What is given beside a packet the user of the other end is told, where that end reads the packet.
-use Rattle.x25_station.proofs.Names.{ℕ, ◌≡◌, ◌≢◌, ◌∙◌, List, ◌++◌, Some, Result, Ok, Err, Bool, true, false, inl, refl, sym, ap, arith, PlainPacket, IsInRange}
-use Rattle.x25_station.proofs.Names.{spelling_of, Marks, PacketError, ReadsWhatIsSpelled, TakesWhatIsSpelled, PlainGiven, may_give, write, written, beside_in}
-use Rattle.x25_given.specs.{Writing.{bare_block, call_block, fields, form_of, headed, written_read}, laws.ReadingLaw.{MayGo, WrittenIsInForm, WrittenIsRead}}
-use Rattle.x25_packet.specs.{Form.{PlainForm}, Grammar.{form_in}, Reading.{packet_of}, Spelling.{IsWithoutD}, laws.TakingLaw.{TakesWhatIsWritten}}
-use Rattle.x25_station.{proofs.Names.{AreOctets}, specs.Beside.{beside_kind, beside_or_none, unless_written}, specs.laws.GivenLaw.{GivenIsTold, GivenIsWritten}}
+use Rattle.x25_station.proofs.Names.{ℕ, ◌≡◌, ◌≢◌, ◌∙◌, List, ◌++◌, Some, Result, Ok, Err, Bool, true, false, inl, refl, sym, ap, arith, PlainGiven, may_give}
+use Rattle.x25_station.proofs.Names.{write, written, WrittenIsInForm, WrittenIsRead, PlainForm, form_in, PlainPacket, packet_of, IsInRange, spelling_of}
+use Rattle.x25_station.proofs.Names.{IsWithoutD, PacketError, Marks, ReadsWhatIsSpelled, TakesWhatIsSpelled, TakesWhatIsWritten, beside_in, beside_kind}
+use Rattle.x25_given.specs.{Writing.{bare_block, call_block, fields, form_of, headed, written_read}, laws.ReadingLaw.{MayGo}}
+use Rattle.x25_station.{proofs.Names.{beside_or_none, unless_written, AreOctets}, specs.laws.GivenLaw.{GivenIsTold, GivenIsWritten}}
 use Rattle.x25_packet.specs.Packet as packet
 use Rattle.x25_packet.specs.Form as wide
 

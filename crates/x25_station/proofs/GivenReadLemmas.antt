@@ -1,19 +1,16 @@
 -- A packet that is read is read as it with what is given beside it too.
 use Rattle.x25_station.proofs.Names.{◌≡◌, ℕ, ◌+◌, ◌*◌, ◌%◌, ◌<◌, ◌≤◌, List, [], ◌∷◌, ◌++◌, length, Bool, true, false, nat_le, not, inl, sym, ap, ap₂, subst}
-use Rattle.x25_station.proofs.Names.{◌∙◌, arith, length-append, list_all, and_parts, leb-true, is_digit, IsFacilityField, PlainPacket, call, accept, clear}
-use Rattle.x25_station.proofs.Names.{IsInRange, longest_user, spelling_of, ReadsWhatIsSpelled, read_in, TakesWhatIsSpelled, PlainGiven, may_give, write}
-use Rattle.x25_station.proofs.Names.{written, LayerSettings, LayerAnswer, layer_answers, named_by, answer_to, PlainBeside, beside_in, layer_settings}
-use Rattle.x25_station.proofs.Names.{StationEntry, bringing, entries_beside, layer_answer, entries_of_answer, confirmed_by, AreOctets}
-use Rattle.std.proofs.{Common.{◌/◌}, lemmas.List.Elements.{All-append, All-head, All-tail}, lemmas.List.Folds.{list_all-append}}
-use Rattle.std.specs.Prelude.{◌&&◌, is_some}
-use Rattle.x25_bits.specs.Bits.{bit}
-use Rattle.x25_given.specs.laws.ReadingLaw.{WrittenIsInForm, WrittenIsRead}
-use Rattle.x25_packet.specs.{Classes.{are_facilities, none_own, own_in}, Digits.{packed}, Spelling.{addresses, body_of, header_of}}
-use Rattle.x25_packet.specs.laws.TakingLaw.{TakesWhatIsWritten}
+use Rattle.x25_station.proofs.Names.{◌∙◌, arith, length-append, ◌/◌, and_parts, leb-true, All-append, list_all-append, list_all, bit, PlainGiven, may_give}
+use Rattle.x25_station.proofs.Names.{write, written, WrittenIsInForm, WrittenIsRead, LayerSettings, LayerAnswer, layer_answers, answer_to, is_digit, packed}
+use Rattle.x25_station.proofs.Names.{IsFacilityField, PlainPacket, call, accept, clear, IsInRange, longest_user, spelling_of, body_of, header_of, read_in}
+use Rattle.x25_station.proofs.Names.{ReadsWhatIsSpelled, TakesWhatIsSpelled, TakesWhatIsWritten, PlainBeside, beside_in, layer_settings, named_by, StationEntry}
+use Rattle.x25_station.proofs.Names.{bringing, entries_beside, layer_answer, entries_of_answer, confirmed_by, AreOctets, IsReadable}
+use Rattle.std.{proofs.lemmas.List.Elements.{All-head, All-tail}, specs.Prelude.{◌&&◌, is_some}}
+use Rattle.x25_packet.specs.{Classes.{are_facilities, none_own, own_in}, Spelling.{addresses}}
 use Rattle.x25_station.proofs.{ClosingLemmas.{given_confirms_none}, ConfirmLemmas.{nothing_behind}}
 use Rattle.x25_station.proofs.FieldLemmas.{IsOctet, bit_low, field_octets, field_short, length_packed, octets_more, packed_octets, user_short}
 use Rattle.x25_station.proofs.GivenLemmas.{given_told, given_written}
-use Rattle.x25_station.specs.laws.{GivenLaw.{GivesOctets, GivenIsHeard, GivenIsRead, IsReadInAll, told}, ReadLaw.{IsReadable}}
+use Rattle.x25_station.specs.laws.GivenLaw.{GivesOctets, GivenIsHeard, GivenIsRead, IsReadInAll, told}
 
 -- with more user data of a CALL at most
 wider : (most : ℕ) → most ≤ 128 → (v : PlainPacket) → IsInRange most v → IsInRange 128 v

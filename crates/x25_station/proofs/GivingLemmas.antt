@@ -1,22 +1,21 @@
 -- A call, an acceptance or a clearing with something given beside its packet.
 use Rattle.x25_station.proofs.Names.{◌≡◌, ℕ, zero, suc, ◌<◌, ◌≤◌, List, [], ◌∷◌, ◌++◌, length, map, Option, Some, None, Result, Ok, Err, Bool, true, false}
 use Rattle.x25_station.proofs.Names.{nat_lt, ◌==◌, ◌&&◌, if◌then◌else◌, option_to_list, refl, ap, sym, subst, ◌∙◌, arith, le_trans, fun_ext, ltb-true}
-use Rattle.x25_station.proofs.Names.{map-append, PlainPacket, waits, LinkSettings, LinkStation, Side, is_up, alone, put_refusal, put_step, ShownLink, LinkState}
-use Rattle.x25_station.proofs.Names.{FitsWhole, waits_of, WindowIsSmall, FewStand, PutTells, Proposal, in_brief, LayerError, LayerSettings, Layer, is_channel}
-use Rattle.x25_station.proofs.Names.{LayerRequest, Asks, Dials, LayerOutcome, Accepted, Declined, layer_outcome, layer_pulled, free_channel, outcome_in}
-use Rattle.x25_station.proofs.Names.{outcome_on, if_at_once, puts_at_once, LinkView, Putting, Answered, Went, Refuses, begin, with_pulled, pull_one, round}
-use Rattle.x25_station.proofs.Names.{rounds_of, rounds, backlog, went, calls, refusal_of, LayerGives, FitsLayer, Asked, name_of, shown, PlainGiven, may_give}
-use Rattle.x25_station.proofs.Names.{write, Manner, StationError, of_layer, Settings, link_settings, layer_settings, manner_of, StationEntry, of_channel, suits}
-use Rattle.x25_station.proofs.Names.{is_taken, all_given, view_given, not_taken, kept_of, Station, view_of, Step, Outcome, Did, Refused, entries_of_outcome}
-use Rattle.x25_station.proofs.Names.{with_given, gave, IsKept, KeptBy, GivenKeeps, FitsParts, AreMeant, FitsStation, Does, IsEmpty, IsBrief}
+use Rattle.x25_station.proofs.Names.{map-append, Proposal, in_brief, PlainGiven, may_give, write, LayerRequest, Asks, Dials, LayerOutcome, Accepted, Declined}
+use Rattle.x25_station.proofs.Names.{layer_outcome, layer_pulled, free_channel, outcome_in, outcome_on, if_at_once, puts_at_once, LayerSettings, Layer}
+use Rattle.x25_station.proofs.Names.{is_channel, FitsLayer, LayerError, calls, refusal_of, Asked, name_of, shown, LinkView, Putting, Answered, Went, Refuses}
+use Rattle.x25_station.proofs.Names.{begin, with_pulled, pull_one, round, rounds_of, rounds, backlog, went, alone, put_refusal, put_step, waits, LinkSettings}
+use Rattle.x25_station.proofs.Names.{LinkStation, Side, is_up, WindowIsSmall, FewStand, ShownLink, LinkState, FitsWhole, waits_of, PutTells, PlainPacket}
+use Rattle.x25_station.proofs.Names.{Settings, link_settings, layer_settings, manner_of, StationEntry, of_channel, of_layer, suits, is_taken, all_given}
+use Rattle.x25_station.proofs.Names.{view_given, not_taken, kept_of, Station, view_of, behind, Step, Outcome, Did, Refused, entries_of_outcome, with_given}
+use Rattle.x25_station.proofs.Names.{gave, gives, IsBrief, FitsParts, AreMeant, FitsStation, Does, IsEmpty, LayerGives, all_with, seen_with, GoesWith, Manner}
 use Rattle.x25_frame.specs.Spelling.{spelling_of}
 use Rattle.x25_station.proofs.AskLemmas.{taken_link, IsNamed, calls_named, still_fits, Judges}
 use Rattle.x25_station.proofs.{AskedEntryLemmas.{asked_entry, dialled_entry, asked_channel, free_is_channel}, BriefLemmas.{asked_brief, dialled_brief}}
 use Rattle.x25_station.proofs.{DoesLemmas.{declines}, FrameLemmas.{count_of, put_lower, all_lower, said_few}, KeepLemmas.{put_few, room_of, all_few, below}}
-use Rattle.x25_station.proofs.LinkLemmas.{put_by_put, same_view}
+use Rattle.x25_station.proofs.{LinkLemmas.{put_by_put, same_view}, Names.{StationError, AreTaken, IsKept, KeptBy, GivenKeeps}}
 use Rattle.x25_station.proofs.{OutcomeLemmas.{leaves_some, still_meant}, PutLemmas.{accepted_append, all_up, accepts}, RequestLemmas.{has_room}}
-use Rattle.x25_station.{proofs.ResultLemmas.{ok_err, err_is}, proofs.TakeLemmas.{least_by_meaning, few_made}, specs.Station.{behind}}
-use Rattle.x25_station.specs.{Step.{gives_of, gives}, code.OverLink.{all_with, seen_with, GoesWith}, laws.GivenLaw.{AreTaken}}
+use Rattle.x25_station.{proofs.ResultLemmas.{ok_err, err_is}, proofs.TakeLemmas.{least_by_meaning, few_made}, specs.Step.{gives_of}}
 use Rattle.x25_packet.specs.Spelling as packet
 use Rattle.x25_circuit.specs.Calling as circuit
 use Rattle.x25_layer.specs.declared.layer.Layer as layer_code

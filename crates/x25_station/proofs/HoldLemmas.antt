@@ -1,11 +1,10 @@
 -- What a station holds at most: as many messages wait in a circuit as its queue has.
 use Rattle.x25_station.proofs.Names.{◌≡◌, ℕ, zero, suc, ◌+◌, ◌<◌, ◌≤◌, nat_le, List, [], ◌∷◌, ◌++◌, length, take, drop, Some, Bool, true, false, if◌then◌else◌}
-use Rattle.x25_station.proofs.Names.{refl, subst, ap, arith, and_parts, leb-true, Marks, Piece, no_part, joining, WindowIsSmall, is_channel, FitsStation}
-use Rattle.x25_station.proofs.Names.{Station, Settings, link_settings, layer_settings}
+use Rattle.x25_station.proofs.Names.{refl, subst, ap, arith, and_parts, leb-true, Piece, no_part, joining, Message, More, Last, cut_from, Partial, is_channel}
+use Rattle.x25_station.proofs.Names.{WindowIsSmall, with_q, Marks, Settings, link_settings, layer_settings, Station, FitsStation}
 use Rattle.std.{proofs.lemmas.List.{length-append}, specs.List.{slice_get}}
-use Rattle.x25_circuit.specs.{Message.{Message, More, Last, cut_from, cut_all, wholes, Partial}, code.FitsCircuit.{FitsCircuit}}
+use Rattle.x25_circuit.specs.{Message.{cut_all, wholes}, code.FitsCircuit.{FitsCircuit}}
 use Rattle.x25_link.specs.code.Bounds.{FewStand as LinkStands}
-use Rattle.x25_packet.specs.Marks.{with_q}
 use Rattle.x25_circuit.specs.declared.circuit.Circuit as circuit_code
 use Rattle.x25_circuit.specs.Circuit as circuit
 use Rattle.x25_station.specs.declared.station.Station as code

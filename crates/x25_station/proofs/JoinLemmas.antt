@@ -1,18 +1,16 @@
 -- Each step of a station is a step of its link joined with moves of its layer.
 use Rattle.x25_station.proofs.Names.{◌≡◌, ℕ, ◌<◌, ◌≤◌, List, [], ◌∷◌, ◌++◌, Option, Some, None, Result, Ok, Bool, true, false, ◌==◌, if◌then◌else◌}
-use Rattle.x25_station.proofs.Names.{option_to_list, refl, sym, ap, subst, ◌∙◌, arith, eq-eqb, append-nil, PacketError, PlainPacket, read_in, Notes, waits}
-use Rattle.x25_station.proofs.Names.{LinkStation, Side, is_up, LinkStep, alone, take_step, abandon_step, PutTells, TakeTells, TakeHandsUp, LayerSettings, Layer}
-use Rattle.x25_station.proofs.Names.{LayerAnswer, LayerNotice, goes_up, layer_answers, LayerOutcome, Accepted, Declined, layer_outcome, named_by, answer_to}
-use Rattle.x25_station.proofs.Names.{LinkView, Putting, begin, rounds, Went, Refuses, went, calls, longest_user, Entry, TwoLayers, Move, requested, moves_in}
-use Rattle.x25_station.proofs.Names.{moves, StationError, may_ask, Settings, link_settings, layer_settings, beside_in, StationEntry, bringing, entries_noted}
-use Rattle.x25_station.proofs.Names.{station_asked, view_of, Step, Outcome, Did, Refused, with_puts, layer_at, entries_heard, entries_of_packet}
-use Rattle.x25_station.proofs.Names.{entries_of_outcome, layer_answer, confirmed_by, follows, did, requests_of, AreAccepted}
-use Rattle.x25_layer.specs.laws.{RoundLaw.{moves_all, pulls_of, AreChannels, IsRun, CallsRun, HearsRun, ComesUpAlone}, Rounds.{hears}}
-use Rattle.x25_layer.specs.laws.TwoLayers.{Requests, HandsUp, answered, handed_up}
-use Rattle.x25_link.specs.laws.NoteLaw.{IsQuiet}
+use Rattle.x25_station.proofs.Names.{option_to_list, refl, sym, ap, subst, ◌∙◌, arith, eq-eqb, append-nil, LayerOutcome, Accepted, Declined, layer_outcome}
+use Rattle.x25_station.proofs.Names.{LayerSettings, Layer, LayerAnswer, LayerNotice, goes_up, layer_answers, answer_to, moves_all, pulls_of, AreChannels}
+use Rattle.x25_station.proofs.Names.{CallsRun, LinkView, Putting, begin, rounds, Went, Refuses, went, calls, hears, TwoLayers, Move, requested, moves_in, moves}
+use Rattle.x25_station.proofs.Names.{HandsUp, handed_up, LinkStep, alone, take_step, abandon_step, waits, LinkStation, Side, is_up, Notes, PutTells, TakeTells}
+use Rattle.x25_station.proofs.Names.{TakeHandsUp, IsQuiet, PlainPacket, longest_user, read_in, PacketError, beside_in, may_ask, Settings, link_settings}
+use Rattle.x25_station.proofs.Names.{layer_settings, named_by, StationEntry, bringing, entries_noted, station_asked, layer_entries, layer_notices, view_of}
+use Rattle.x25_station.proofs.Names.{Step, Outcome, Did, Refused, with_puts, layer_at, entries_heard, entries_of_packet, entries_of_outcome, layer_answer}
+use Rattle.x25_layer.specs.laws.{RoundLaw.{IsRun, HearsRun, ComesUpAlone}, Transcript.{Entry}, TwoLayers.{Requests, answered}}
 use Rattle.x25_station.proofs.{EntryLemmas.{told_entries, told_notices, behind_entries, behind_notices, asked_entries, asked_notices}, MayLemmas.{asked_did}}
-use Rattle.x25_station.proofs.{PutLemmas.{accepts, rounds_accepted, begin_accepted}, RequestLemmas.{has_room}}
-use Rattle.x25_station.specs.Entry.{layer_entries, layer_notices}
+use Rattle.x25_station.proofs.{Names.{confirmed_by, follows, did, requests_of, StationError, AreAccepted}, PutLemmas.{accepts, rounds_accepted, begin_accepted}}
+use Rattle.x25_station.proofs.RequestLemmas.{has_room}
 use Rattle.x25_station.specs.laws.JoinLaw.{IsJoined, RequestIsJoined, ReceiveIsJoined, QuietIsJoined, DownIsJoined, ComesUp, UpIsJoined}
 use Rattle.x25_layer.specs.declared.error.LayerError.TheVariants as layer_error
 use Rattle.x25_station.specs.declared.error.StationError.TheVariants as error

@@ -1,20 +1,20 @@
 -- Every step of a station leaves at most 256 packets waiting, and the layer at rest where the link isn't up.
 use Rattle.x25_station.proofs.Names.{◌≡◌, ℕ, zero, suc, ◌+◌, ◌<◌, ◌≤◌, List, [], ◌∷◌, ◌++◌, length, Option, Some, None, Bool, true, false, not, nat_lt, ◌==◌}
-use Rattle.x25_station.proofs.Names.{if◌then◌else◌, option_to_list, refl, sym, ap, subst, ◌∙◌, arith, length-append, eq-eqb, le_trans, PlainPacket, spelling_of}
-use Rattle.x25_station.proofs.Names.{LinkError, Phase, Down, Waiting, Up, Closed, Reason, Retries, waits, added, LinkSettings, LinkStation, Side, is_up}
-use Rattle.x25_station.proofs.Names.{with_nothing, with_near, is_busy, ready, may_send, send_next, pumped, owes_ready, ended, LinkStep, quiet, leaves, alone}
-use Rattle.x25_station.proofs.Names.{put_refusal, put_step, take_step, timer_refusal, asks_again, timer_step, connect_refusal, connect_step, disconnect_refusal}
-use Rattle.x25_station.proofs.Names.{disconnect_step, abandon_step, probe_refusal, relink_refusal, relink_step, Tells, TakeTells, TakeHandsUp, PutTells}
-use Rattle.x25_station.proofs.Names.{LayerSettings, Layer, goes_up, LayerOutcome, Accepted, Declined, layer_outcome, LinkView, Putting, begin, rounds, Refuses}
-use Rattle.x25_station.proofs.Names.{went, Settings, link_settings, layer_settings, Requests, RequestsWith, Connects, Disconnects, Probes, Relinks, said_by}
-use Rattle.x25_station.proofs.Names.{may_ask, StationEntry, connect_asked, disconnect_asked, relink_asked, Station, put_on, all_put, view_of, Step, with_puts}
-use Rattle.x25_station.proofs.Names.{layer_at, layer_answer, follows, led_by, unless, abandons, entries_of_outcome, did, requests_of, AreAccepted, IsKept}
-use Rattle.std.proofs.Common.{max}
-use Rattle.x25_link.specs.{Link.{connects as link_connects, disconnects as link_disconnects, relinks as link_relinks}, Outgoing.{Outgoing, moved_on}}
-use Rattle.x25_link.specs.Station.{Lists, fresh}
-use Rattle.x25_link.specs.laws.NoteLaw.{IsQuiet, HandsUp, TakeContinues, TimerTells, TimerContinues, ConnectTells, DisconnectTells, AbandonTells, RelinkTells}
-use Rattle.x25_station.proofs.{MayLemmas.{where_holds}, Names.{KeptBy, RequestKeeps, GivenKeeps}, PutLemmas.{all_up, rounds_accepted, begin_accepted}}
-use Rattle.x25_station.{proofs.RequestLemmas.{has_room}, specs.laws.KeepLaw.{ConnectKeeps, TimerKeeps, CommandKeeps, ReceiveKeeps}}
+use Rattle.x25_station.proofs.Names.{if◌then◌else◌, option_to_list, refl, sym, ap, subst, ◌∙◌, arith, length-append, max, le_trans, eq-eqb, LayerOutcome}
+use Rattle.x25_station.proofs.Names.{Accepted, Declined, layer_outcome, LayerSettings, Layer, goes_up, LinkView, Putting, begin, rounds, Refuses, went}
+use Rattle.x25_station.proofs.Names.{LinkStep, quiet, leaves, alone, put_refusal, put_step, take_step, timer_refusal, asks_again, timer_step, connect_refusal}
+use Rattle.x25_station.proofs.Names.{connect_step, disconnect_refusal, disconnect_step, abandon_step, probe_refusal, relink_refusal, relink_step, waits, added}
+use Rattle.x25_station.proofs.Names.{Outgoing, ended, Lists, fresh, LinkError, LinkSettings, LinkStation, Side, is_up, with_nothing, with_near, is_busy, ready}
+use Rattle.x25_station.proofs.Names.{may_send, send_next, pumped, owes_ready, Phase, Down, Waiting, Up, Closed, Reason, Retries, Tells, TakeTells, TakeHandsUp}
+use Rattle.x25_station.proofs.Names.{PutTells, IsQuiet, TimerTells, AbandonTells, PlainPacket, spelling_of, Requests, RequestsWith, Connects, Disconnects}
+use Rattle.x25_station.proofs.Names.{Probes, Relinks, said_by, may_ask, Settings, link_settings, layer_settings, StationEntry, connect_asked, disconnect_asked}
+use Rattle.x25_station.proofs.Names.{relink_asked, Station, put_on, all_put, view_of, Step, with_puts, layer_at, layer_answer, follows, led_by, unless}
+use Rattle.x25_station.proofs.Names.{abandons, entries_of_outcome, did, requests_of, calls_link, LinkCall, Connect, Disconnect, Fire, Probe, Relink}
+use Rattle.x25_link.specs.{Link.{disconnects as link_disconnects, relinks as link_relinks, connects as link_connects}, Outgoing.{moved_on}}
+use Rattle.x25_link.specs.laws.NoteLaw.{HandsUp, TakeContinues, TimerContinues, ConnectTells, DisconnectTells, RelinkTells}
+use Rattle.x25_station.proofs.{MayLemmas.{where_holds}, Names.{AreAccepted, IsKept, KeptBy, RequestKeeps, GivenKeeps}}
+use Rattle.x25_station.proofs.{PutLemmas.{all_up, rounds_accepted, begin_accepted}, RequestLemmas.{has_room}}
+use Rattle.x25_station.specs.laws.KeepLaw.{ConnectKeeps, TimerKeeps, CommandKeeps, ReceiveKeeps}
 use Rattle.x25_link.specs.declared.error.LinkError.TheVariants as link_error
 use Rattle.x25_layer.specs.declared.error.LayerError.TheVariants as layer_error
 
@@ -278,3 +278,10 @@ command_kept laws gives c s Probes kept = unless_kept (probe_refusal s.link.phas
 command_kept laws gives c s Relinks kept = unless_kept (relink_refusal s.link.phase)
     (led_by (relink_asked ∷ []) (follows c s.layer (relink_step (link_settings c) s.link)))
     (λ none. follows_kept laws.put c s (relink_step (link_settings c) s.link) kept (relink_keeps laws (link_settings c) s.link))
+
+pub call_kept : TimerKeeps → CommandKeeps → (call : LinkCall) (c : Settings) (s : Station) → IsKept s → KeptBy (calls_link call c s)
+call_kept timer command Connect c s kept = command c s Connects kept
+call_kept timer command Disconnect c s kept = command c s Disconnects kept
+call_kept timer command Fire c s kept = timer c s kept
+call_kept timer command Probe c s kept = command c s Probes kept
+call_kept timer command Relink c s kept = command c s Relinks kept

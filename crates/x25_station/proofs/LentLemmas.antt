@@ -1,8 +1,7 @@
 -- Entries, with what their step lends.
-use Rattle.x25_station.proofs.Names.{◌≡◌, ℕ, List, [], ◌∷◌, map, ap, ap₂, arith, refl, sym, ◌∙◌, Request, PlainNotice, Lent, StationEntry, of_channel}
-use Rattle.std.{proofs.lemmas.List.Sums.{sum_by-cons}, specs.List.{sum_by}}
-use Rattle.x25_station.{proofs.Names.{plain_entry, plain_name}, specs.code.Entries.{comes_beside}, specs.code.PlainEntry.{plain_asked, plain_told}}
-use Rattle.x25_station.specs.declared.entry.{Asked.{Asked}, Entry.{Entry}, Told.{Told}}
+use Rattle.x25_station.proofs.Names.{◌≡◌, ℕ, List, [], ◌∷◌, map, ap, ap₂, arith, refl, sym, ◌∙◌, sum_by-cons, sum_by, Request, PlainNotice, StationEntry}
+use Rattle.x25_station.{proofs.Names.{of_channel, comes_beside, plain_entry, plain_name, plain_told, Entry, Lent}, specs.code.PlainEntry.{plain_asked}}
+use Rattle.x25_station.specs.declared.entry.{Asked.{Asked}, Told.{Told}}
 use Rattle.x25_layer.specs.laws.Transcript as said
 use Rattle.x25_station.specs.declared.entry.Entry.TheVariants as code
 use Rattle.x25_station.specs.declared.entry.Asked.TheVariants as asked

@@ -1,7 +1,6 @@
 -- The link after packets were put one by one, as the packet layer sees it, is the link of the station's step.
-use Rattle.x25_station.proofs.Names.{Result, Ok, subst, ◌≡◌, ℕ, List, [], ◌∷◌, refl, sym, ap, ◌∙◌, fun_ext, map-append, PlainPacket, waits, LinkSettings}
-use Rattle.x25_station.proofs.Names.{LinkStation, Side, is_up, alone, put_step, waits_of, LinkView, kept_of, put_on, all_put, view_of}
-use Rattle.std.proofs.Common.{OnOk}
+use Rattle.x25_station.proofs.Names.{Result, Ok, subst, ◌≡◌, ℕ, List, [], ◌∷◌, refl, sym, ap, ◌∙◌, OnOk, fun_ext, map-append, LinkView, alone, put_step, waits}
+use Rattle.x25_station.proofs.Names.{LinkSettings, LinkStation, Side, is_up, waits_of, PlainPacket, kept_of, put_on, all_put, view_of}
 use Rattle.x25_frame.specs.Spelling.{spelling_of}
 use Rattle.x25_packet.specs.Spelling as packet
 use Rattle.x25_station.specs.code.OverLink as over

@@ -1,7 +1,6 @@
 -- What holds of a request that may be asked, and of its refusals, holds of each request.
-use Rattle.x25_station.proofs.Names.{◌≡◌, ℕ, Bool, true, false, refl, subst, Request, Calls, Accepts, Sends, Asks, StationError, may_ask, not_taken, Step}
-use Rattle.x25_station.proofs.Names.{Outcome, Did, Refused, where_asked}
-use Rattle.x25_layer.specs.Calls.{asks_memory}
+use Rattle.x25_station.proofs.Names.{◌≡◌, ℕ, Bool, true, false, refl, subst, Request, Calls, Accepts, Sends, Asks, asks_memory, may_ask, not_taken, Step}
+use Rattle.x25_station.proofs.Names.{Outcome, Did, Refused, where_asked, StationError}
 
 refused_did : (e : StationError) (step : Step) → Refused e ≡ Did step → ⊥
 refused_did e step is = subst (λ (o : Outcome). elim o as (λ _. Type 0) [ Did x ↦ ⊥ | Refused y ↦ Unit {0} ]) is tt

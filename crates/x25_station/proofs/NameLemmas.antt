@@ -1,11 +1,10 @@
 -- Pulls of data packets keep the names of all stretches, the packet sizes and windows of all calls, and how many messages
 -- are unconfirmed.
 use Rattle.x25_station.proofs.Names.{◌≡◌, ℕ, zero, suc, List, [], ◌∷◌, ◌++◌, ◌%◌, Option, Some, None, Bool, true, false, ◌&&◌, ◌+◌, nat_lt, length, ◌==◌}
-use Rattle.x25_station.proofs.Names.{if◌then◌else◌, drop, refl, ap, sym, ◌∙◌, eqb-true, append_assoc, PlainPacket, State, Open, Params, CircuitSettings}
-use Rattle.x25_station.proofs.Names.{Circuit, Talk, outgoing, is_open_in, unconfirmed, Piece, Pulled, pulled, pull_in, pull_open, Name, LayerSettings, Layer}
-use Rattle.x25_station.proofs.Names.{is_channel, put_at, layer_pulled, is_open_at, name_of, LinkView, Putting, with_pulled, pull_one, round, rounds_of, rounds}
-use Rattle.x25_station.proofs.Names.{backlog}
-use Rattle.x25_circuit.specs.{Calling.{pulls_nothing, data_packet}, Circuit.{talking}, Message.{asked_in}}
+use Rattle.x25_station.proofs.Names.{if◌then◌else◌, drop, refl, ap, sym, ◌∙◌, eqb-true, append_assoc, Pulled, pulled, pull_in, pull_open, pulls_nothing}
+use Rattle.x25_station.proofs.Names.{data_packet, CircuitSettings, Circuit, Talk, outgoing, is_open_in, unconfirmed, talking, Piece, asked_in, Params, State}
+use Rattle.x25_station.proofs.Names.{Open, Name, layer_pulled, LayerSettings, Layer, is_channel, put_at, is_open_at, LinkView, Putting, with_pulled, pull_one}
+use Rattle.x25_station.proofs.Names.{round, rounds_of, rounds, backlog, name_of, PlainPacket}
 use Rattle.x25_layer.specs.Calls.{LayerPulled}
 
 -- what a pull leaves as it is

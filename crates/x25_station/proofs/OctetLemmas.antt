@@ -1,6 +1,6 @@
 -- How many octets a station holds at most: a sum of what its parts hold.
-use Rattle.x25_station.proofs.Names.{◌≡◌, ℕ, suc, ◌+◌, ◌*◌, ◌≤◌, List, [], ◌∷◌, length, Some, refl, sym, ap₂, subst, ◌∙◌, arith}
-use Rattle.std.{proofs.Common.{slice_get}, proofs.Math.Nat.{add-mul, add_comm, mul-suc, mul-zero}, proofs.lemmas.List.Sums.{sum_by-cons}, specs.List.{sum_by}}
+use Rattle.x25_station.proofs.Names.{◌≡◌, ℕ, suc, ◌+◌, ◌*◌, ◌≤◌, List, [], ◌∷◌, length, Some, refl, sym, ap₂, subst, ◌∙◌, arith, sum_by-cons, sum_by}
+use Rattle.std.proofs.{Common.{slice_get}, Math.Nat.{add-mul, add_comm, mul-suc, mul-zero}}
 use Rattle.x25_station.specs.laws.OctetLaw.{circuit_octets, part_octets, octets_held}
 use Rattle.x25_circuit.specs.declared.circuit.Circuit as circuit_code
 use Rattle.x25_station.specs.laws.OctetLaw as law

@@ -1,10 +1,10 @@
 -- What a call answers, by what its link's call answers.
-use Rattle.x25_station.proofs.Names.{◌≡◌, Bool, true, false, if◌then◌else◌, map, Option, Some, None, Result, Ok, Err, refl, ap, ◌∙◌, LinkError, Phase, Down, Up}
-use Rattle.x25_station.proofs.Names.{Closed, LinkStation, ShownLink, Manner, StationError, Settings, Station, Step, Outcome, Did, Refused, unless, IsKept}
+use Rattle.x25_station.proofs.Names.{◌≡◌, Bool, true, false, if◌then◌else◌, map, Option, Some, None, Result, Ok, Err, refl, ap, ◌∙◌, LinkStation, ShownLink}
+use Rattle.x25_station.proofs.Names.{LinkError, Phase, Down, Up, Closed, Settings, Station, Step, Outcome, Did, Refused, unless, FitsParts, AreMeant}
+use Rattle.x25_station.proofs.Names.{LeavesParts, Enters, RefusesOnly, link_refusal, Manner, StationError, LinkCall, Connect, Disconnect, Fire, Probe, Relink}
 use Rattle.std.proofs.Math.Logic.{∥∥₁_map}
 use Rattle.x25_frame.specs.Spelling.{spelling_of}
-use Rattle.x25_station.proofs.{Names.{KeptBy, FitsParts, AreMeant, LeavesParts, Enters, RefusesOnly}, ResultLemmas.{ok_err, err_is}}
-use Rattle.x25_station.specs.{Error.{of_link}, code.FitsStation.{Sends, Refuses}}
+use Rattle.x25_station.{proofs.Names.{IsKept, KeptBy}, proofs.ResultLemmas.{ok_err, err_is}, specs.Error.{of_link}, specs.code.FitsStation.{Sends, Refuses}}
 use Rattle.x25_link.specs.declared.error.LinkError.TheVariants as link_error
 use Rattle.x25_link.specs.Link as link
 use Rattle.x25_layer.specs.declared.layer.Layer as layer_code
@@ -69,25 +69,32 @@ pub refused : (T U : Type 0) (e : LinkError) (found : StationError) (o : Option 
 refused T U e found None step named is h = absurd (never_ok h)
 refused T U e found (Some x) step named is h = is ∙ ap of_link (err_is T LinkError e x h) ∙ named
 
-pub connect_named : (p : Phase) → IsNamed (link.connect_refusal p)
+connect_named : (p : Phase) → IsNamed (link.connect_refusal p)
 connect_named Down = tt
 connect_named p = refl
 
-pub timer_named : (s : LinkStation) → IsNamed (link.timer_refusal s)
+timer_named : (s : LinkStation) → IsNamed (link.timer_refusal s)
 timer_named s = test (link.timer_runs s.phase s)
   where
     test : (b : Bool) → IsNamed (if b then None else Some link_error.NotRunning)
     test true = tt
     test false = refl
 
-pub disconnect_named : (p : Phase) → IsNamed (link.disconnect_refusal p)
+disconnect_named : (p : Phase) → IsNamed (link.disconnect_refusal p)
 disconnect_named Closed = refl
 disconnect_named p = tt
 
-pub probe_named : (p : Phase) → IsNamed (link.probe_refusal p)
+probe_named : (p : Phase) → IsNamed (link.probe_refusal p)
 probe_named Up = tt
 probe_named p = refl
 
-pub relink_named : (p : Phase) → IsNamed (link.relink_refusal p)
+relink_named : (p : Phase) → IsNamed (link.relink_refusal p)
 relink_named Up = tt
 relink_named p = refl
+
+pub call_named : (call : LinkCall) (s : LinkStation) → IsNamed (link_refusal call s)
+call_named Connect s = connect_named s.phase
+call_named Disconnect s = disconnect_named s.phase
+call_named Fire s = timer_named s
+call_named Probe s = probe_named s.phase
+call_named Relink s = relink_named s.phase

@@ -1,19 +1,17 @@
 -- What a packet confirms is what its P(R) acknowledges.
 use Rattle.x25_station.proofs.Names.{◌≡◌, ◌⊎◌, inl, inr, ℕ, zero, suc, ◌+◌, ◌-◌, ◌≤◌, List, [], ◌∷◌, ◌++◌, length, take, drop, Option, Some, None, Result, Ok}
-use Rattle.x25_station.proofs.Names.{Err, Bool, true, false, ◌==◌, nat_le, if◌then◌else◌, refl, ap, ap₂, sym, subst, ◌∙◌, arith, eqb-true, PacketError}
-use Rattle.x25_station.proofs.Names.{PlainPacket, call, accept, clear, clear_conf, user_data, rr, rnr, interrupt, interrupt_conf, reset, reset_conf, restart}
-use Rattle.x25_station.proofs.Names.{restart_conf, channel_in, longest_user, read_in, State, Open, CircuitSettings, Circuit, Talk, is_open, is_open_in, Piece}
-use Rattle.x25_station.proofs.Names.{piece_of, Answer, answers, undecoded, row_call, row_accept, row_clear, LayerSettings, Layer, LayerAnswer, LayerNotice}
-use Rattle.x25_station.proofs.Names.{on_channel, restarted, restart_done, layer_fault, is_channel, put_at, answers_on, drops, answers_ready, answers_restarting}
-use Rattle.x25_station.proofs.Names.{answers_in, undecoded_in, named_by, answer_to, undecoded_at, is_open_at, name_of, Name, PlainBeside, beside_in, confirmed}
-use Rattle.x25_station.proofs.Names.{goes_on, StationEntry, station_told, bringing, entries_beside, entries_behind, layer_answer, confirmed_by}
-use Rattle.std.proofs.lemmas.Bool.Decides.{nat_tests}
-use Rattle.x25_circuit.specs.{Circuit.{incoming as terms_in}, Hearing.{hears_status, confirms}, Message.{asked_in}}
-use Rattle.x25_circuit.specs.Hearing.{row_clear_conf, row_reset, row_reset_conf, row_data, row_undecoded, request_in, unless, data_ground, number_ground, takes}
-use Rattle.x25_handshakes.specs.laws.Names.{same_name}
+use Rattle.x25_station.proofs.Names.{Err, Bool, true, false, ◌==◌, nat_le, if◌then◌else◌, refl, ap, ap₂, sym, subst, ◌∙◌, arith, eqb-true, nat_tests}
+use Rattle.x25_station.proofs.Names.{CircuitSettings, Circuit, Talk, is_open, is_open_in, Answer, answers, undecoded, row_call, row_accept, row_clear}
+use Rattle.x25_station.proofs.Names.{hears_status, confirms, row_clear_conf, row_reset, row_reset_conf, row_data, row_undecoded, request_in, data_ground}
+use Rattle.x25_station.proofs.Names.{number_ground, takes, Piece, piece_of, asked_in, State, Open, Name, same_name, LayerSettings, Layer, LayerAnswer}
+use Rattle.x25_station.proofs.Names.{LayerNotice, on_channel, restarted, restart_done, layer_fault, is_channel, put_at, answers_on, drops, answers_ready}
+use Rattle.x25_station.proofs.Names.{answers_restarting, answers_in, undecoded_in, answer_to, undecoded_at, is_open_at, name_of, PlainPacket, call, accept}
+use Rattle.x25_station.proofs.Names.{clear, clear_conf, user_data, rr, rnr, interrupt, interrupt_conf, reset, reset_conf, restart, restart_conf, channel_in}
+use Rattle.x25_station.proofs.Names.{longest_user, read_in, PacketError, PlainBeside, beside_in, nothing, fields, diagnosed, named_by, confirmed, goes_on}
+use Rattle.x25_station.proofs.Names.{StationEntry, station_told, bringing, entries_beside, entries_behind, layer_answer, confirmed_by, resolved}
+use Rattle.x25_circuit.specs.{Circuit.{incoming as terms_in}, Hearing.{unless}}
 use Rattle.x25_station.proofs.ConfirmLemmas.{and_both, same_name-is, ended, confirmed_are}
-use Rattle.x25_station.specs.{Beside.{nothing, fields, diagnosed}, laws.ConfirmLaw.{Passes, ConfirmedIsAcknowledged, IsConfirmed, AreTrueOf, ToldIsConfirmed}}
-use Rattle.x25_window.specs.code.Modulo.{resolved}
+use Rattle.x25_station.specs.laws.ConfirmLaw.{Passes, ConfirmedIsAcknowledged, IsConfirmed, AreTrueOf, ToldIsConfirmed}
 
 true_false : true ≡ false → ⊥
 true_false is = cc

@@ -1,15 +1,14 @@
 -- What a pull behind a step leaves, and what it sends.
-use Rattle.x25_station.proofs.Names.{true, false, ◌≡◌, List, [], ◌∷◌, ◌++◌, map, ◌==◌, Result, Ok, Err, OnErr, ℕ, refl, ap, sym, subst, ◌∙◌, fun_ext}
-use Rattle.x25_station.proofs.Names.{append-nil, append_assoc, PlainPacket, alone, put_step, ShownLink, LinkState, FitsWhole, waits_of, after_put_to, PullsAll}
-use Rattle.x25_station.proofs.Names.{layer_outcome, LinkView, Answered, Went, calls, after_all, LayerGives, LinkGives, FitsLayer, LayerError, Manner}
-use Rattle.x25_station.proofs.Names.{StationError, of_layer, Settings, link_settings, layer_settings, manner_of, StationEntry, Station, all_put, view_of}
-use Rattle.x25_station.proofs.Names.{waiting_after, Step, Outcome, Did, Refused, did, requests, entries_of_outcome, KeptBy, FitsParts, LeavesParts, RefusesOnly}
-use Rattle.std.{proofs.Common.{IsErrOf}, specs.Prelude.{◌≢◌}}
+use Rattle.x25_station.proofs.Names.{true, false, ◌≡◌, List, [], ◌∷◌, ◌++◌, map, ◌==◌, Result, Ok, Err, OnErr, ℕ, refl, ap, sym, subst, ◌∙◌, IsErrOf, fun_ext}
+use Rattle.x25_station.proofs.Names.{append-nil, append_assoc, PullsAll, layer_outcome, FitsLayer, LayerError, LinkView, Answered, Went, calls, alone, put_step}
+use Rattle.x25_station.proofs.Names.{ShownLink, LinkState, FitsWhole, waits_of, after_put_to, up_at, PlainPacket, Settings, link_settings, layer_settings}
+use Rattle.x25_station.proofs.Names.{manner_of, StationEntry, of_layer, pulled_of, kept_of, Station, all_put, view_of, waiting_after, Step, Outcome, Did}
+use Rattle.x25_station.proofs.Names.{Refused, did, requests, entries_of_outcome, FitsParts, LeavesParts, RefusesOnly, after_all, LayerGives, LinkGives, Manner}
+use Rattle.std.specs.Prelude.{◌≢◌}
 use Rattle.x25_frame.specs.Spelling.{spelling_of}
 use Rattle.x25_layer.specs.laws.Rounds.{Refuses as LayerRefuses}
-use Rattle.x25_link.specs.code.FitsLink.{up_at}
 use Rattle.x25_station.proofs.{AskLemmas.{Layers, Links, taken_link, answered_by, goes_did, refused_did, calls_named}, LinkLemmas.{put_by_put, same_view}}
-use Rattle.x25_station.{proofs.Names.{kept_of}, proofs.ResultLemmas.{ok_err}, specs.Pulling.{pulled_of, pulled}, specs.code.FitsStation.{Refuses}}
+use Rattle.x25_station.{proofs.Names.{StationError, KeptBy}, proofs.ResultLemmas.{ok_err}, specs.Pulling.{pulled}, specs.code.FitsStation.{Refuses}}
 use Rattle.x25_packet.specs.Spelling as packet
 use Rattle.x25_station.specs.code.OverLink as over
 use Rattle.x25_layer.specs.declared.layer.Layer as layer_code

@@ -1,8 +1,8 @@
 -- What the layer puts in a step the link accepts.
 use Rattle.x25_station.proofs.Names.{◌≡◌, ℕ, zero, suc, ◌<◌, List, [], ◌∷◌, ◌++◌, Option, Some, None, Bool, true, false, not, nat_lt, ◌==◌, if◌then◌else◌}
-use Rattle.x25_station.proofs.Names.{option_to_list, refl, sym, ap, subst, ◌∙◌, arith, eqb-true, ltb-true, PlainPacket, spelling_of, waits, LinkSettings}
-use Rattle.x25_station.proofs.Names.{LinkStation, Side, is_up, alone, put_refusal, PutTells, LayerSettings, layer_pulled, Putting, with_pulled, pull_one, round}
-use Rattle.x25_station.proofs.{LinkLemmas.{near_alone}, Names.{rounds_of, rounds, backlog, put_on, all_put, view_of, waiting_after, AreAccepted}}
+use Rattle.x25_station.proofs.Names.{option_to_list, refl, sym, ap, subst, ◌∙◌, arith, eqb-true, ltb-true, layer_pulled, LayerSettings, Putting, with_pulled}
+use Rattle.x25_station.proofs.Names.{pull_one, round, rounds_of, rounds, backlog, alone, put_refusal, waits, LinkSettings, LinkStation, Side, is_up, PutTells}
+use Rattle.x25_station.proofs.{LinkLemmas.{near_alone}, Names.{PlainPacket, spelling_of, put_on, all_put, view_of, waiting_after, AreAccepted}}
 use Rattle.x25_link.specs.declared.error.LinkError.TheVariants as error
 
 -- ---- put after put

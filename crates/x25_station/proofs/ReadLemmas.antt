@@ -1,17 +1,17 @@
 -- Whatever happens to two layers, what they put fits, and so is read again.
 use Rattle.x25_station.proofs.Names.{◌≡◌, ℕ, zero, suc, ◌<◌, ◌≤◌, List, [], ◌∷◌, ◌++◌, option_to_list, Option, Some, None, Bool, true, false, nat_le, ◌==◌}
-use Rattle.x25_station.proofs.Names.{if◌then◌else◌, refl, arith, and_parts, leb-true, Role, Dte, Dce, PlainPacket, call, accept, clear, clear_conf, user_data}
-use Rattle.x25_station.proofs.Names.{rr, rnr, interrupt, interrupt_conf, reset, reset_conf, restart, restart_conf, ReadsWhatIsSpelled, TakesWhatIsSpelled}
-use Rattle.x25_station.proofs.Names.{may_ask, may_restart_for, Circuit, answers, Done, Calls, outcome, pulled, LayerSettings, Layer, LayerAnswer, is_channel}
-use Rattle.x25_station.proofs.Names.{put_at, restarting_from, answers_on, drops, answers_ready, answers_restarting, answers_in, layer_answers, goes_up}
-use Rattle.x25_station.proofs.Names.{LayerRequest, Asks, Dials, Restarts, PullsAll, LayerOutcome, Accepted, Declined, free_channel, where_room, if_at_once}
-use Rattle.x25_station.proofs.Names.{puts_at_once, outcome_on, dialled, restarted_for, outcome_ready, outcome_in, layer_outcome, layer_pulled, TwoLayers, Move}
+use Rattle.x25_station.proofs.Names.{if◌then◌else◌, refl, arith, and_parts, leb-true, Role, Dte, Dce, Done, Calls, outcome, pulled, may_restart_for, Circuit}
+use Rattle.x25_station.proofs.Names.{answers, LayerRequest, Asks, Dials, Restarts, PullsAll, LayerOutcome, Accepted, Declined, free_channel, where_room}
+use Rattle.x25_station.proofs.Names.{if_at_once, puts_at_once, outcome_on, dialled, restarted_for, outcome_ready, outcome_in, layer_outcome, layer_pulled}
+use Rattle.x25_station.proofs.Names.{highest_free, lowest_free, first_of, first_free, where_callable, answers_in, layer_answers, goes_up, packet_on}
+use Rattle.x25_station.proofs.Names.{LayerSettings, Layer, LayerAnswer, is_channel, put_at, restarting_from, answers_on, drops, answers_ready}
+use Rattle.x25_station.proofs.Names.{answers_restarting, Ranges, TwoLayers, Move, HandsUp, handed_up, requested, moves_in, moves, PlainPacket, call, accept}
+use Rattle.x25_station.proofs.Names.{clear, clear_conf, user_data, rr, rnr, interrupt, interrupt_conf, reset, reset_conf, restart, restart_conf}
 use Rattle.x25_circuit.specs.{Calling.{Outcome, Refused}, Circuit.{begun}, Hearing.{cause_at}}
-use Rattle.x25_layer.specs.{Calls.{highest_free, lowest_free, first_of, first_free, where_callable}, Layer.{packet_on, restart_cause}, Ranges.{may_call}}
-use Rattle.x25_layer.specs.{declared.ranges.Ranges.{Ranges}, laws.PeerJoined.{PeerJoined, our_end, Happens, Ours, Theirs}, laws.TwoLayers.{start}}
-use Rattle.x25_layer.specs.laws.TwoLayers.{End, Requests, Pulls, HandsUp, GoesDown, EndMove, pulled_in, handed_up, turned, settings_of, happens, run, started}
+use Rattle.x25_layer.specs.{Layer.{restart_cause}, Ranges.{may_call}, laws.PeerJoined.{PeerJoined, our_end, Happens, Ours, Theirs}}
+use Rattle.x25_layer.specs.laws.TwoLayers.{start, End, Requests, Pulls, GoesDown, EndMove, pulled_in, turned, settings_of, happens, run, started}
 use Rattle.x25_station.proofs.CircuitLemmas.{Agreed, CircuitFits, MayGive, AnswerFits, answers_fit, OutcomeFits, outcome_fits, PulledFits, pulled_fits}
-use Rattle.x25_station.proofs.{FieldLemmas.{Fits, IsOn, moved_fits, moved_on, readable}, Names.{requested, moves_in, moves}}
+use Rattle.x25_station.proofs.{FieldLemmas.{Fits, IsOn, moved_fits, moved_on, readable}, Names.{ReadsWhatIsSpelled, TakesWhatIsSpelled, may_ask}}
 use Rattle.x25_station.specs.laws.ReadLaw.{BringsOctets, IsReachedByOctets, at_start, goes_on, PutsBesidePeersAreReadable, AreReadable, RequestsOctets}
 use Rattle.x25_station.specs.laws.ReadLaw.{MovesOctets, BringOctets, PutsAreReadable}
 use Rattle.x25_circuit.specs.declared.error.CircuitError.TheVariants as circuit_error

@@ -1,10 +1,10 @@
 -- A call that puts a packet at once is refused where 256 packets wait.
-use Rattle.x25_station.proofs.Names.{◌≡◌, ℕ, List, ◌++◌, Option, Some, None, Bool, true, false, nat_lt, nat_le, if◌then◌else◌, length, refl, subst, PlainPacket}
-use Rattle.x25_station.proofs.Names.{Marks, State, Free, Calling, Arriving, Collision, Open, Resetting, Clearing, CircuitSettings, Talk, Circuit, outgoing}
-use Rattle.x25_station.proofs.Names.{Done, Request, Sends, send_in, outcome, LayerSettings, Layer, is_channel, LayerRequest, Asks, Dials, Restarts, PullsAll}
-use Rattle.x25_station.proofs.Names.{LayerOutcome, Accepted, Declined, free_channel, puts_at_once, if_at_once, outcome_on, dialled, outcome_in, outcome_ready}
-use Rattle.x25_station.proofs.Names.{layer_outcome}
-use Rattle.x25_circuit.specs.{Calling.{Outcome, Refused, keeps_on, send_open}, Circuit.{waits}, Message.{cut}}
+use Rattle.x25_station.proofs.Names.{◌≡◌, ℕ, List, ◌++◌, Option, Some, None, Bool, true, false, nat_lt, nat_le, if◌then◌else◌, length, refl, subst, Done}
+use Rattle.x25_station.proofs.Names.{Request, Sends, send_in, outcome, CircuitSettings, Talk, Circuit, outgoing, cut, State, Free, Calling, Arriving, Collision}
+use Rattle.x25_station.proofs.Names.{Open, Resetting, Clearing, LayerRequest, Asks, Dials, Restarts, PullsAll, LayerOutcome, Accepted, Declined, free_channel}
+use Rattle.x25_station.proofs.Names.{puts_at_once, if_at_once, outcome_on, dialled, outcome_in, outcome_ready, layer_outcome, LayerSettings, Layer, is_channel}
+use Rattle.x25_station.proofs.Names.{PlainPacket, Marks}
+use Rattle.x25_circuit.specs.{Calling.{Outcome, Refused, keeps_on, send_open}, Circuit.{waits}}
 use Rattle.x25_circuit.specs.declared.error.CircuitError.TheVariants as circuit
 use Rattle.x25_layer.specs.declared.error.LayerError.TheVariants as error
 

@@ -1,11 +1,12 @@
 -- A message is refused exactly where its channel has no room for one more.
 use Rattle.x25_station.proofs.Names.{◌≡◌, ◌∙◌, ℕ, ◌-◌, ◌≤◌, ◌==◌, Bool, true, false, not, List, [], length, Option, nat_lt, if◌then◌else◌, refl, sym, ap, arith}
-use Rattle.x25_station.proofs.Names.{PlainPacket, Marks, State, Free, Calling, Arriving, Collision, Open, Resetting, Clearing, Circuit, CircuitSettings}
-use Rattle.x25_station.proofs.Names.{is_open_in, Done, Sends, outcome, send_in, LayerError, LayerSettings, is_channel, LayerOutcome, Accepted, Declined, Asks}
-use Rattle.x25_station.proofs.Names.{outcome_on, outcome_in, Answered, Went, Refuses, LinkView, went, Side, is_up, Settings, link_settings, layer_settings}
-use Rattle.std.proofs.{Common.{le-leb}, lemmas.Bool.Decides.{nat_tests}}
+use Rattle.x25_station.proofs.Names.{nat_tests, Done, Sends, outcome, send_in, Circuit, CircuitSettings, is_open_in, State, Free, Calling, Arriving, Collision}
+use Rattle.x25_station.proofs.Names.{Open, Resetting, Clearing, LayerOutcome, Accepted, Declined, Asks, outcome_on, outcome_in, LayerSettings, is_channel}
+use Rattle.x25_station.proofs.Names.{LayerError, Answered, Went, Refuses, LinkView, went, Side, is_up, PlainPacket, Marks, may_mark, Settings, link_settings}
+use Rattle.x25_station.proofs.Names.{layer_settings, StationEntry, Station, view_of, did, requests, requests_of, where_asked}
+use Rattle.std.proofs.Common.{le-leb}
 use Rattle.x25_circuit.specs.{Calling.{Outcome as CircuitOutcome, Refused as CircuitRefuses}, Circuit.{waits, message_room}}
-use Rattle.x25_station.{proofs.Names.{StationEntry, Station, view_of, may_mark, did, requests, requests_of, where_asked}, specs.Station.Told.{room, is_refused}}
+use Rattle.x25_station.specs.Station.Told.{room, is_refused}
 use Rattle.x25_circuit.specs.declared.error.CircuitError.TheVariants as circuit_error
 use Rattle.x25_layer.specs.declared.error.LayerError.TheVariants as error
 

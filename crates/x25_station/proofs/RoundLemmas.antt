@@ -1,11 +1,11 @@
 -- The rounds of pulls, packet by packet, over the link.
 use Rattle.x25_station.proofs.Names.{◌≡◌, ℕ, zero, suc, ◌+◌, ◌-◌, ◌<◌, ◌≤◌, List, [], ◌∷◌, ◌++◌, length, length-append, Option, Some, None, Bool, true, false}
-use Rattle.x25_station.proofs.Names.{nat_lt, ◌==◌, if◌then◌else◌, option_to_list, refl, sym, ap, subst, ◌∙◌, arith, lt-ltb, ltb-true, PlainPacket, spelling_of}
-use Rattle.x25_station.proofs.Names.{ShownLink, LinkState, FitsWhole, waiting_of, waits_of, after_put_to, link_waits, LayerSettings, layer_pulled, LinkView}
-use Rattle.x25_station.proofs.Names.{Putting, with_pulled, pull_one, round, rounds, FitsLayer, spelled, after_all}
+use Rattle.x25_station.proofs.Names.{nat_lt, ◌==◌, if◌then◌else◌, option_to_list, refl, sym, ap, subst, ◌∙◌, arith, lt-ltb, ltb-true, layer_pulled}
+use Rattle.x25_station.proofs.Names.{LayerSettings, spelled, FitsLayer, LinkView, Putting, with_pulled, pull_one, round, rounds, Lists, ShownLink, LinkState}
+use Rattle.x25_station.proofs.Names.{FitsWhole, waiting_of, waits_of, after_put_to, link_waits, PlainPacket, spelling_of, after_all, seen_at}
 use Rattle.x25_layer.specs.{code.Answering.{GivesNext, GivesNone}, code.Pulling.{IsPut}, laws.RoundLaw.{RoundsGoOn, RoundsEnd}}
-use Rattle.x25_link.specs.{Station.{Lists}, code.FitsLink.{lists_in}, laws.LinkLaws.{handed_down, put_adds, link_close}}
-use Rattle.x25_station.specs.code.OverLink.{after_octets, seen_at}
+use Rattle.x25_link.specs.{code.FitsLink.{lists_in}, laws.LinkLaws.{handed_down, put_adds, link_close}}
+use Rattle.x25_station.specs.code.OverLink.{after_octets}
 use Rattle.x25_layer.specs.declared.layer.Layer as layer_code
 
 -- ---- what is put

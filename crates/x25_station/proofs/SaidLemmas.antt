@@ -1,8 +1,9 @@
 -- What calls and acceptances say, and what is asked of a channel that isn't configured.
-use Rattle.x25_station.proofs.Names.{◌≡◌, ℕ, ◌==◌, List, [], Option, Some, None, Bool, true, false, ◌||◌, if◌then◌else◌, refl, sym, ap, ◌∙◌, same_Some, Params}
-use Rattle.x25_station.proofs.Names.{Proposal, in_brief, Request, Accepts, outcome, LayerSettings, is_channel, Asks, LayerOutcome, Declined, layer_outcome}
-use Rattle.x25_station.proofs.Names.{outcome_in, outcome_on, if_at_once, puts_at_once, LinkView, Refuses, went, alone, Settings, link_settings, layer_settings}
-use Rattle.x25_station.{proofs.Names.{StationEntry, Station, view_of, Outcome, did, entries_of_outcome, requests, requests_of}, specs.Command.{proposal_said}}
+use Rattle.x25_station.proofs.Names.{◌≡◌, ℕ, ◌==◌, List, [], Option, Some, None, Bool, true, false, ◌||◌, if◌then◌else◌, refl, sym, ap, ◌∙◌, same_Some, Request}
+use Rattle.x25_station.proofs.Names.{Accepts, outcome, Proposal, in_brief, Params, Asks, LayerOutcome, Declined, layer_outcome, outcome_in, outcome_on}
+use Rattle.x25_station.proofs.Names.{if_at_once, puts_at_once, LayerSettings, is_channel, LinkView, Refuses, went, alone, Settings, link_settings}
+use Rattle.x25_station.proofs.Names.{layer_settings, StationEntry, Station, view_of, Outcome, did, entries_of_outcome, requests, requests_of}
+use Rattle.x25_station.specs.Command.{proposal_said}
 use Rattle.x25_layer.specs.declared.error.LayerError.TheVariants as layer_error
 
 -- ---- what is said

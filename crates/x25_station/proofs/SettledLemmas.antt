@@ -1,24 +1,21 @@
 -- A station whose link is up asks, or its link is at rest.
 use Rattle.x25_station.proofs.Names.{◌≡◌, ℕ, ◌+◌, ◌≤◌, ◌==◌, List, [], ◌∷◌, ◌++◌, length, Bool, true, false, not, ◌||◌, ◌&&◌, if◌then◌else◌, nat_lt, Option}
-use Rattle.x25_station.proofs.Names.{Some, None, refl, sym, ap, subst, ◌∙◌, arith, true≢false, eqb-true, and_parts, frame_of, PlainPacket, spelling_of}
-use Rattle.x25_station.proofs.Names.{LinkError, Phase, Waiting, Closed, Down, Reason, Retries, added, waits, LinkSettings, LinkStation, Side, is_up, with_near}
-use Rattle.x25_station.proofs.Names.{with_nothing, sends, LinkStep, other, alone, put_step, take_step, timer_refusal, timer_step, connect_refusal, connect_step}
-use Rattle.x25_station.proofs.Names.{disconnect_refusal, disconnect_step, abandon_step, probe_refusal, relink_refusal, relink_step, timer_runs, Tells}
-use Rattle.x25_station.proofs.Names.{TakeTells, LayerError, Layer, is_channel, is_ready, PullsAll, outcome_in, layer_outcome, LinkView, Answered, Went, Refuses}
-use Rattle.x25_station.proofs.Names.{Putting, begin, rounds, went, calls, PlainGiven, write, Requests, RequestsWith, Connects, Disconnects, Probes, Relinks}
-use Rattle.x25_station.proofs.Names.{said_by, may_ask, Settings, link_settings, layer_settings, StationEntry, connect_asked, disconnect_asked, relink_asked}
-use Rattle.x25_station.proofs.Names.{all_given, view_given, is_taken, Station, put_on, all_put, view_of, Step, with_puts, layer_at, follows, led_by, unless}
+use Rattle.x25_station.proofs.Names.{Some, None, refl, sym, ap, subst, ◌∙◌, arith, true≢false, eqb-true, and_parts, disc, frame_of, PlainGiven, write, PullsAll}
+use Rattle.x25_station.proofs.Names.{outcome_in, layer_outcome, Layer, is_channel, is_ready, LayerError, LinkView, Answered, Went, Refuses, Putting, begin}
+use Rattle.x25_station.proofs.Names.{rounds, went, calls, LinkStep, other, alone, put_step, take_step, timer_refusal, timer_step, connect_refusal, connect_step}
+use Rattle.x25_station.proofs.Names.{disconnect_refusal, disconnect_step, abandon_step, probe_refusal, relink_refusal, relink_step, timer_runs, added, waits}
+use Rattle.x25_station.proofs.Names.{Outgoing, LinkSettings, LinkStation, Side, is_up, with_near, with_nothing, sends, LinkError, Phase, Waiting, Closed, Down}
+use Rattle.x25_station.proofs.Names.{Reason, Retries, Tells, TakeTells, TimerTells, AbandonTells, RelinkIsTwoSteps, PlainPacket, spelling_of, Requests}
+use Rattle.x25_station.proofs.Names.{RequestsWith, Connects, Disconnects, Probes, Relinks, said_by, may_ask, Settings, link_settings, layer_settings}
+use Rattle.x25_station.proofs.Names.{StationEntry, connect_asked, disconnect_asked, relink_asked, all_given, view_given, is_taken, pulled_of, Station, put_on}
+use Rattle.x25_station.proofs.Names.{all_put, view_of, Step, with_puts, layer_at, follows, led_by, unless, abandons, entries_of_outcome, did, gave, requests_of}
 use Rattle.std.proofs.lemmas.List.{length-append}
-use Rattle.x25_frame.specs.Frame.{disc}
-use Rattle.x25_link.specs.{Link.{is_idle, connects as link_connects}, Outgoing.{no_packet, Outgoing}, declared.phase.Reason.TheVariants.{Counts}}
-use Rattle.x25_link.specs.laws.NoteLaw.{TimerTells, AbandonTells}
+use Rattle.x25_link.specs.{Link.{is_idle, connects as link_connects}, Outgoing.{no_packet}, declared.phase.Reason.TheVariants.{Counts}}
 use Rattle.x25_link.specs.laws.RestLaw.{HasSaidAll, TakeSaysAll, PutSaysAll, TimerSaysAll, ConnectSaysAll, DisconnectSaysAll, AbandonSaysAll, NoTimerIsIdle}
-use Rattle.x25_link.specs.laws.SetUp.{RelinkIsTwoSteps}
 use Rattle.x25_link.specs.laws.WindowLaw.{IsSound, Follows, TakeFollows, PutFollows, TimerFollows, AbandonFollows, ending_of, brought_by, window_of}
 use Rattle.x25_link.specs.laws.WindowMachine.{Input, nothing}
-use Rattle.x25_station.proofs.{AwaitLemmas.{awaits_in, SameStates, rounds_same}, MayLemmas.{where_holds}}
-use Rattle.x25_station.proofs.{Names.{abandons, entries_of_outcome, did, gave, requests_of, runs}, UnheardLemmas.{Lasts, ended_lasts, put_lasts, all_put_lasts}}
-use Rattle.x25_station.specs.{Pulling.{pulled_of}, Station.Told.{is_at_rest}}
+use Rattle.x25_station.proofs.{AwaitLemmas.{awaits_in, SameStates, rounds_same}, MayLemmas.{where_holds}, Names.{runs}}
+use Rattle.x25_station.{proofs.UnheardLemmas.{Lasts, ended_lasts, put_lasts, all_put_lasts}, specs.Station.Told.{is_at_rest}}
 use Rattle.x25_station.specs.laws.SettledLaw.{IsSettled, SettledBy, NewIsSettled, StaysSettled, SettledAsks, GoesOn, PullsGoOn}
 use Rattle.x25_layer.specs.declared.error.LayerError.TheVariants as layer_error
 use Rattle.x25_station.specs.Station as station

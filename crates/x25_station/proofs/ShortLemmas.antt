@@ -1,16 +1,14 @@
 -- What a layer tells of octets: on configured channels alone, and with texts that are short.
 use Rattle.x25_station.proofs.Names.{◌≡◌, ℕ, ◌<◌, ◌≤◌, List, [], ◌∷◌, Option, Some, None, Result, Ok, Err, Bool, true, false, if◌then◌else◌, length, refl}
-use Rattle.x25_station.proofs.Names.{arith, Role, Dte, Dce, PacketError, PlainPacket, call, accept, clear, clear_conf, user_data, rr, rnr, interrupt}
-use Rattle.x25_station.proofs.Names.{interrupt_conf, reset, reset_conf, restart, restart_conf, IsInRange, longest_user, channel_in, read_in, State, Free}
-use Rattle.x25_station.proofs.Names.{Calling, Collision, Open, Resetting, Clearing, Params, default_params, may_answer, said_in, CircuitSettings, Circuit, Talk}
-use Rattle.x25_station.proofs.Names.{piece_of, no_part, joining, CallRequest, PlainNotice, connected, Answer, answers, undecoded, row_call, row_accept}
-use Rattle.x25_station.proofs.Names.{row_clear, LayerSettings, Layer, LayerAnswer, is_channel, notices_on, answers_on, drops, answers_ready, answers_restarting}
-use Rattle.std.proofs.Common.{All}
-use Rattle.x25_circuit.specs.{Circuit.{incoming}, Hearing.{unless, data_ground, number_ground, takes, hears_status, confirms}, Message.{Message, completed}}
-use Rattle.x25_circuit.specs.Hearing.{collides, goes, clears_for, connects, row_clear_conf, row_reset, row_reset_conf, row_open, row_data, row_undecoded}
-use Rattle.x25_circuit.specs.Notice.{deliveries}
+use Rattle.x25_station.proofs.Names.{arith, All, Role, Dte, Dce, CircuitSettings, Circuit, Talk, incoming, row_undecoded, Answer, answers, undecoded, row_call}
+use Rattle.x25_station.proofs.Names.{row_accept, row_clear, data_ground, number_ground, takes, hears_status, confirms, row_clear_conf, row_reset}
+use Rattle.x25_station.proofs.Names.{row_reset_conf, row_data, piece_of, no_part, joining, Message, CallRequest, PlainNotice, connected, default_params}
+use Rattle.x25_station.proofs.Names.{may_answer, said_in, Params, State, Free, Calling, Collision, Open, Resetting, Clearing, LayerSettings, Layer, LayerAnswer}
+use Rattle.x25_station.proofs.Names.{is_channel, notices_on, answers_on, drops, answers_ready, answers_restarting, answers_in, undecoded_in, undecoded_at}
+use Rattle.x25_station.proofs.Names.{answer_to, PlainPacket, call, accept, clear, clear_conf, user_data, rr, rnr, interrupt, interrupt_conf, reset, reset_conf}
+use Rattle.x25_station.proofs.Names.{restart, restart_conf, channel_in, IsInRange, longest_user, read_in, PacketError, IsShort, AreTellable}
+use Rattle.x25_circuit.specs.{Hearing.{unless, collides, goes, clears_for, connects, row_open}, Message.{completed}, Notice.{deliveries}}
 use Rattle.x25_packet.specs.laws.TakingLaw.{TakesInRange}
-use Rattle.x25_station.{proofs.Names.{answers_in, undecoded_in, undecoded_at, answer_to}, specs.Receiving.{IsShort, AreTellable}}
 
 abbrev AreShort : List PlainNotice → Type 0
 AreShort [] = Unit {0}

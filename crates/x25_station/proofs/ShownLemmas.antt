@@ -1,6 +1,5 @@
 -- What is shown of a request: an acceptance with the packet sizes and windows in force.
-use Rattle.x25_station.proofs.Names.{◌≡◌, Bool, true, if◌then◌else◌, Option, Some, None, refl, ap, ◌∙◌, in_brief, Params, Circuit, shown}
-use Rattle.std.specs.Option.{unwrap_or}
+use Rattle.x25_station.proofs.Names.{◌≡◌, Bool, true, if◌then◌else◌, Option, Some, None, refl, ap, ◌∙◌, unwrap_or, Circuit, in_brief, Params, shown}
 use Rattle.x25_circuit.specs.Calling as circuit
 
 -- it looks at packet sizes and windows alone

@@ -1,26 +1,26 @@
 -- No step of a station makes an answer awaited anew, and the end of a wait is told; where none is given clear and
 -- restart lead on.
 use Rattle.x25_station.proofs.Names.{◌≡◌, ℕ, ◌<◌, ◌≤◌, ◌==◌, ◌⊎◌, inl, inr, List, [], ◌∷◌, ◌++◌, Bool, true, false, ◌||◌, if◌then◌else◌, Option, Some, None}
-use Rattle.x25_station.proofs.Names.{refl, sym, ap, subst, ◌∙◌, arith, or-true, true≢false, eqb-true, eq-eqb, PlainPacket, clear, restart, longest_user}
-use Rattle.x25_station.proofs.Names.{read_in, LinkError, Phase, Down, Waiting, Up, Closed, Reason, waits, Side, is_up, LinkStep, alone, take_step}
-use Rattle.x25_station.proofs.Names.{timer_refusal, timer_step, connect_refusal, connect_step, disconnect_refusal, disconnect_step, abandon_step, probe_refusal}
-use Rattle.x25_station.proofs.Names.{relink_refusal, relink_step, Tells, PutTells, State, Free, Calling, Collision, Resetting, Clearing, Clears, clear_in}
-use Rattle.x25_station.proofs.Names.{CircuitSettings, Circuit, default_params, LayerSettings, Layer, LayerAnswer, is_channel, is_ready, put_at, restarting_from}
-use Rattle.x25_station.proofs.Names.{LayerRequest, Asks, Restarts, LayerOutcome, Accepted, Declined, outcome_on, outcome_in, layer_outcome, named_by, LinkView}
-use Rattle.x25_station.proofs.Names.{Putting, begin, rounds, went, Refuses, Requests, RequestsWith, Connects, Disconnects, Probes, Relinks, said_by, may_ask}
-use Rattle.x25_station.proofs.Names.{Settings, link_settings, layer_settings, beside_in, StationEntry, of_channel, restart_asked, connect_asked}
-use Rattle.x25_station.proofs.Names.{disconnect_asked, relink_asked, was_restarted, restart_confirmed, at_fault, was_confirmed, entries_down, station_asked}
-use Rattle.x25_station.proofs.Names.{bringing, entries_beside, entries_behind, PlainGiven, view_given, is_taken, Station, view_of, Step, Outcome, Did, Refused}
+use Rattle.x25_station.proofs.Names.{refl, sym, ap, subst, ◌∙◌, arith, or-true, true≢false, eqb-true, eq-eqb, list_any, awaited_in, Clears, clear_in, does}
+use Rattle.x25_station.proofs.Names.{CircuitSettings, Circuit, default_params, Awaits, State, Free, Calling, Collision, Resetting, Clearing, PlainGiven}
+use Rattle.x25_station.proofs.Names.{LayerRequest, Asks, Restarts, LayerOutcome, Accepted, Declined, outcome_on, outcome_in, layer_outcome, LayerSettings}
+use Rattle.x25_station.proofs.Names.{Layer, LayerAnswer, is_channel, is_ready, put_at, restarting_from, packet_on, LinkView, Putting, begin, rounds, went}
+use Rattle.x25_station.proofs.Names.{Refuses, LinkStep, probe_refusal, relink_refusal, relink_step, waits, Side, is_up, alone, take_step, timer_refusal}
+use Rattle.x25_station.proofs.Names.{timer_step, connect_refusal, connect_step, disconnect_refusal, disconnect_step, abandon_step, LinkError, Phase, Down}
+use Rattle.x25_station.proofs.Names.{Waiting, Up, Closed, Reason, Tells, PutTells, PlainPacket, clear, restart, longest_user, read_in, beside_in, Requests}
+use Rattle.x25_station.proofs.Names.{RequestsWith, Connects, Disconnects, Probes, Relinks, said_by, may_ask, Settings, link_settings, layer_settings, named_by}
+use Rattle.x25_station.proofs.Names.{came_beside, was_diagnosed, entries_up, StationEntry, of_channel, restart_asked, connect_asked, disconnect_asked}
+use Rattle.x25_station.proofs.Names.{relink_asked, was_restarted, restart_confirmed, at_fault, was_confirmed, entries_down, station_asked, bringing}
+use Rattle.x25_station.proofs.Names.{entries_beside, entries_behind, link_up, link_down, view_given, is_taken, Station, view_of, Step, Outcome, Did, Refused}
 use Rattle.x25_station.proofs.Names.{with_puts, layer_at, layer_answer, confirmed_by, entries_of_answer, follows, led_by, unless, abandons, entries_heard}
-use Rattle.std.{proofs.lemmas.List.Folds.{list_any-append}, specs.List.{list_any}}
-use Rattle.x25_circuit.specs.{Awaits.{awaited_in}, Calling.{does}, Circuit.{entered}, declared.awaits.Awaits.{Awaits}}
-use Rattle.x25_layer.specs.{Layer.{packet_on}, code.FitsLayer.{awaited_at}}
+use Rattle.x25_station.proofs.Names.{entries_of_outcome, did, requests, with_given, gave, requests_of, where_asked, gives, tells_link, is_of_link}
+use Rattle.std.proofs.lemmas.List.Folds.{list_any-append}
+use Rattle.x25_circuit.specs.Circuit.{entered}
+use Rattle.x25_layer.specs.code.FitsLayer.{awaited_at}
 use Rattle.x25_station.proofs.AwaitLemmas.{Kind, in_call, in_collision, in_reset, in_clear, state_of, awaits_in, EndsOn, LayerMoves, OutcomeMoves, answer_moves}
 use Rattle.x25_station.proofs.{AwaitLemmas.{asked_moves, SameStates, rounds_same, moves_on}, KeepLemmas.{LinkLaws}, MayLemmas.{where_holds}}
-use Rattle.x25_station.proofs.{Names.{entries_of_outcome, did, requests, with_given, gave, requests_of, where_asked, tells_link}, PutLemmas.{all_up}}
-use Rattle.x25_station.{proofs.UnheardLemmas.{all_given_last}, specs.Entry.{link_up, link_down, came_beside, was_diagnosed, entries_up}, specs.Step.{gives}}
-use Rattle.x25_station.specs.{Timer.{is_of_link}, laws.EndLaw.{is_answered_on, is_left_on, IsTold, EndIsTold}}
-use Rattle.x25_station.specs.laws.WayOutLaw.{rank_in, rank_of, rank, ClearLeadsOn, RestartLeadsOn, AwaitsStill, LeadsOn, NothingLeadsBack}
+use Rattle.x25_station.proofs.{Names.{is_answered_on, is_left_on, rank_in, rank_of}, PutLemmas.{all_up}, UnheardLemmas.{all_given_last}}
+use Rattle.x25_station.specs.laws.{EndLaw.{IsTold, EndIsTold}, WayOutLaw.{rank, ClearLeadsOn, RestartLeadsOn, AwaitsStill, LeadsOn, NothingLeadsBack}}
 use Rattle.x25_layer.specs.declared.error.LayerError.TheVariants as layer_error
 use Rattle.x25_station.specs.laws.TimerLaw as timer
 

@@ -1,10 +1,9 @@
 -- What holds of a link that has taken octets: where it came up or hands up it takes packets.
-use Rattle.x25_station.proofs.Names.{◌≡◌, ℕ, ◌<◌, ◌≤◌, List, length, Option, Some, None, map, Bool, true, refl, ap, sym, subst, ◌∙◌, arith, Role, PlainFrame}
-use Rattle.x25_station.proofs.Names.{waits, LinkSettings, LinkStation, is_up, take_step, TakeTells, TakeHandsUp, ShownLink, FitsLink, waiting_of, link_waits}
-use Rattle.std.proofs.{Common.{IfSome}, Math.Logic.{∥∥₁_elim}, Props.{props}, lemmas.List.{length-map}}
+use Rattle.x25_station.proofs.Names.{◌≡◌, ℕ, ◌<◌, ◌≤◌, List, length, Option, Some, None, map, Bool, true, refl, ap, sym, subst, ◌∙◌, arith, length-map, Role}
+use Rattle.x25_station.proofs.Names.{PlainFrame, take_step, waits, LinkSettings, LinkStation, is_up, fresh, ShownLink, FitsLink, waiting_of, limit_of, up_of}
+use Rattle.x25_station.proofs.Names.{places_left, link_waits, TakeTells, TakeHandsUp, Settings, link_settings, CanPut, Station, FitsParts, AreMeant, Manner}
+use Rattle.std.proofs.{Common.{IfSome}, Math.Logic.{∥∥₁_elim}, Props.{props}}
 use Rattle.x25_frame.specs.Spelling.{spelling_of}
-use Rattle.x25_link.specs.{Station.{fresh}, code.FitsLink.{limit_of, up_of}, code.Frames.{places_left}}
-use Rattle.x25_station.{proofs.Names.{Manner, Settings, link_settings, Station, FitsParts, AreMeant}, specs.Receiving.{CanPut}}
 use Rattle.x25_layer.specs.declared.layer.Layer as layer_code
 
 -- ---- the link takes packets

@@ -1,11 +1,10 @@
 -- What a circuit tells is entered one notice after another.
 use Rattle.x25_station.proofs.Names.{◌≡◌, ℕ, List, [], ◌∷◌, ◌++◌, Option, Some, None, Bool, true, false, if◌then◌else◌, refl, ap, sym, subst, ◌∙◌, map}
-use Rattle.x25_station.proofs.Names.{append_assoc, map-append, Name, Told, name_of, LayerSettings, Layer, LayerNotice, on_channel, restarted, restart_done}
-use Rattle.x25_station.proofs.Names.{layer_fault, notices_on, StationEntry, of_channel, was_restarted, restart_confirmed, at_fault, station_told, plain_entry}
-use Rattle.x25_circuit.specs.{Notice.{collided}, code.Replies.{plain_notice, notices_of}, declared.notice.Notice.{Notice}}
-use Rattle.x25_layer.specs.declared.stretch.Stretch.{Stretch}
-use Rattle.x25_station.{proofs.Names.{plain_name, Lent}, specs.Entry.{entry_told}, specs.Receiving.{IsTellable, AreTellable}}
-use Rattle.x25_station.specs.{code.PlainEntry.{plain_told}, declared.entry.Entry.{Entry}, declared.entry.Told.{Told as CodeTold}}
+use Rattle.x25_station.proofs.Names.{append_assoc, map-append, collided, plain_notice, Notice, Name, LayerSettings, Layer, LayerNotice, on_channel, restarted}
+use Rattle.x25_station.proofs.Names.{restart_done, layer_fault, notices_on, Stretch, Told, name_of, StationEntry, of_channel, was_restarted, restart_confirmed}
+use Rattle.x25_station.proofs.Names.{at_fault, station_told, entry_told, AreTellable, plain_entry, plain_name, plain_told, Entry, Lent}
+use Rattle.x25_circuit.specs.code.Replies.{notices_of}
+use Rattle.x25_station.specs.{Receiving.{IsTellable}, declared.entry.Told.{Told as CodeTold}}
 use Rattle.x25_station.specs.declared.entry.Entry.TheVariants as code
 
 abbrev pub told_first : ℕ → Layer → Bool → List StationEntry

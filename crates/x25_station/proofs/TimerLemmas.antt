@@ -1,17 +1,16 @@
 -- A deadline that is held by what T1 becomes stands exactly while T1 runs, and T1 begins anew where it is due to.
 use Rattle.x25_station.proofs.Names.{◌≡◌, ◌+◌, ◌≤◌, inl, inr, Bool, true, false, not, ◌||◌, if◌then◌else◌, List, [], ◌∷◌, Option, Some, None, refl, sym, ap}
-use Rattle.x25_station.proofs.Names.{◌∙◌, arith, true≢false, le-ltb, lt-ltb, or-true, LinkError, Phase, Up, Retries, LinkSettings, Side, with_near, LinkStep}
-use Rattle.x25_station.proofs.Names.{quiet, leaves, alone, connect_refusal, disconnect_refusal, asks_again, timer_refusal, timer_step, probe_refusal}
-use Rattle.x25_station.proofs.Names.{relink_refusal, Layer, Answered, Went, Refuses, calls, PlainGiven, Requests, RequestsWith, Connects, Disconnects, Probes}
-use Rattle.x25_station.proofs.Names.{Relinks, said_by, may_ask, Settings, link_settings, layer_settings, StationEntry, of_channel, restart_asked, connect_asked}
-use Rattle.x25_station.proofs.Names.{disconnect_asked, relink_asked, was_restarted, restart_confirmed, at_fault, was_confirmed, view_given, Station, view_of}
-use Rattle.x25_station.proofs.Names.{Step, Outcome, Did, Refused, layer_at, follows, unless, did, gave, requests_of, runs, tells_link, is_acknowledged, Timer}
+use Rattle.x25_station.proofs.Names.{◌∙◌, arith, or-true, true≢false, le-ltb, lt-ltb, PlainGiven, Layer, Answered, Went, Refuses, calls, LinkStep, quiet}
+use Rattle.x25_station.proofs.Names.{leaves, alone, connect_refusal, disconnect_refusal, asks_again, timer_refusal, timer_step, probe_refusal, relink_refusal}
+use Rattle.x25_station.proofs.Names.{closed_by, LinkSettings, Side, with_near, LinkError, Phase, Up, Retries, Requests, RequestsWith, Connects, Disconnects}
+use Rattle.x25_station.proofs.Names.{Probes, Relinks, said_by, may_ask, Settings, link_settings, layer_settings, at_fault, was_confirmed, link_up, link_down}
+use Rattle.x25_station.proofs.Names.{came_beside, was_diagnosed, StationEntry, of_channel, restart_asked, connect_asked, disconnect_asked, relink_asked}
+use Rattle.x25_station.proofs.Names.{was_restarted, restart_confirmed, view_given, Station, view_of, Step, Outcome, Did, Refused, layer_at, follows, unless}
+use Rattle.x25_station.proofs.Names.{did, gave, requests_of, commands, fires, runs, tells_link, is_acknowledged, timer_of, pulled_timer, Timer}
 use Rattle.std.specs.Prelude.{nat_lt}
-use Rattle.x25_link.specs.Link.{closed_by}
 use Rattle.x25_station.proofs.MayLemmas.{where_holds}
-use Rattle.x25_station.{proofs.UnheardLemmas.{ready_lasts, ended_lasts, all_put_lasts, all_given_last}, specs.Command.{Command}}
-use Rattle.x25_station.specs.{Entry.{link_up, link_down, came_beside, was_diagnosed}, Pulling.{pulled}, Step.{connects, commands, fires}}
-use Rattle.x25_station.specs.{Timer.{timer_of, pulled_timer}, declared.timer.Timer.TheVariants.{Begins}}
+use Rattle.x25_station.{proofs.UnheardLemmas.{ready_lasts, ended_lasts, all_put_lasts, all_given_last}, specs.Command.{Command}, specs.Pulling.{pulled}}
+use Rattle.x25_station.specs.declared.timer.Timer.TheVariants.{Begins}
 use Rattle.x25_station.specs.laws.TimerLaw.{StationEvent, Comes, Asks, Fires, Watched, heeds, after, watched_by, watched_from, IsFiring, TellsLink, IsDue}
 use Rattle.x25_link.specs.declared.error.LinkError.TheVariants as link_error
 use Rattle.x25_link.specs.Link as link
@@ -115,9 +114,6 @@ fired_few c t = by (nat_lt t.near.tries c.retries)
 pub fired_none : (c : Settings) (s : Station) → HearsNone s (fires c s)
 fired_none c s = unless_none s (timer_refusal s.link)
     _ (followed c s (link.fires (link_settings c) (alone s.link)) (fired_few (link_settings c) (alone s.link)))
-
-pub connected_none : (c : Settings) (s : Station) → HearsNone s (connects c s)
-connected_none c s = unless_none s (connect_refusal s.link.phase) _ (followed c s (link.connects (alone s.link)) (omega arith))
 
 pub asked_none : (c : Settings) (s : Station) (command : Command) → HearsNone s (commands c s command)
 asked_none c s (Requests request) =

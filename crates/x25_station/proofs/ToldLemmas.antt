@@ -1,7 +1,7 @@
 -- What a station tells of itself.
-use Rattle.x25_station.proofs.Names.{◌∙◌, ◌≡◌, Bool, true, false, if◌then◌else◌, Option, Some, None, sym, ap, none-some, same_Some, Name, plain_name}
-use Rattle.std.specs.Option.{unwrap_or}
-use Rattle.x25_layer.specs.{code.FitsLayer.{plain_stretch}, declared.stretch.Stretch.{Stretch}}
+use Rattle.x25_station.proofs.Names.{◌∙◌, ◌≡◌, Bool, true, false, if◌then◌else◌, Option, Some, None, sym, ap, none-some, same_Some, unwrap_or, Name, Stretch}
+use Rattle.x25_station.proofs.Names.{plain_name}
+use Rattle.x25_layer.specs.code.FitsLayer.{plain_stretch}
 
 -- a channel is open only where it is configured
 pub open_named : (configured opened : Bool) (name : Name) (o : Option Name) → (if configured then opened else false) ≡ true → o

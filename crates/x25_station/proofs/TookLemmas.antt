@@ -1,14 +1,13 @@
 -- What the link's step and what the layer does behind it are together is what the definition says of octets that come.
 use Rattle.x25_station.proofs.Names.{◌≡◌, ℕ, List, [], ◌++◌, map, Option, Bool, true, false, ◌&&◌, if◌then◌else◌, refl, ap, ap₂, sym, subst, ◌∙◌, PlainFrame}
-use Rattle.x25_station.proofs.Names.{Notes, LinkStation, is_up, LinkStep, take_step, abandon_step, ShownLink, FitsLink, FitsWhole, FitsLayer, Putting, Manner}
-use Rattle.x25_station.proofs.Names.{Settings, link_settings, layer_settings, manner_of, StationEntry, entries_noted, Station, view_of, all_put, Step, layer_at}
+use Rattle.x25_station.proofs.Names.{FitsLayer, is_full, Putting, LinkStep, take_step, abandon_step, LinkStation, is_up, ShownLink, FitsLink, FitsWhole, Notes}
+use Rattle.x25_station.proofs.Names.{Settings, link_settings, layer_settings, manner_of, StationEntry, entries_noted, kept_of, Station, view_of, all_put, Step}
+use Rattle.x25_station.proofs.Names.{layer_at, entries_heard, follows, abandons, receives, is_acknowledged, FitsParts, Manner, IsKept}
 use Rattle.std.specs.Prelude.{nat_lt}
 use Rattle.x25_frame.specs.Spelling.{spelling_of}
-use Rattle.x25_layer.specs.code.FitsLayer.{is_full}
 use Rattle.x25_link.specs.Hearing.{acknowledges}
 use Rattle.x25_station.proofs.{AskLemmas.{taken_link}, DownLemmas.{downs, follows_down}}
-use Rattle.x25_station.proofs.{Names.{entries_heard, follows, abandons, IsKept, FitsParts, kept_of, is_acknowledged}, TimerLemmas.{follows_acked}}
-use Rattle.x25_station.specs.Step.{receives}
+use Rattle.x25_station.proofs.TimerLemmas.{follows_acked}
 use Rattle.x25_layer.specs.declared.layer.Layer as layer_code
 
 -- what the layer does behind this step, by what the step handed up and noted

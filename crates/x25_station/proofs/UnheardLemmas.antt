@@ -1,20 +1,19 @@
 -- What a station asks while nothing is heard: T1 goes on, and each firing and each poll takes a try.
 use Rattle.x25_station.proofs.Names.{◌≡◌, ℕ, zero, suc, ◌+◌, ◌<◌, ◌≤◌, List, [], ◌∷◌, ◌++◌, Bool, true, false, ◌||◌, ◌&&◌, if◌then◌else◌, nat_lt, length}
-use Rattle.x25_station.proofs.Names.{Option, Some, None, Result, Ok, Err, refl, sym, ap, subst, ◌∙◌, arith, true≢false, ltb-true, lt-ltb, or-true, PlainFrame}
-use Rattle.x25_station.proofs.Names.{frame_of, PlainPacket, spelling_of, LinkError, Phase, Down, Waiting, Up, Closed, Reason, Retries, added, LinkSettings}
-use Rattle.x25_station.proofs.Names.{LinkStation, Side, is_up, is_busy, with_near, with_nothing, sends, ready, may_send, send_next, pumped, owes_ready, ended}
-use Rattle.x25_station.proofs.Names.{LinkStep, quiet, leaves, other, alone, put_step, take_step, timer_runs, timer_refusal, timer_step, asks_again}
-use Rattle.x25_station.proofs.Names.{connect_refusal, connect_step, disconnect_refusal, disconnect_step, probe_refusal, relink_refusal, relink_step}
-use Rattle.x25_station.proofs.Names.{abandon_step, Answered, Went, Refuses, calls, PlainGiven, write, Requests, RequestsWith, Connects, Disconnects, Probes}
-use Rattle.x25_station.proofs.Names.{Relinks, said_by, may_ask, Settings, link_settings, layer_settings, StationEntry, connect_asked, disconnect_asked}
-use Rattle.x25_station.proofs.Names.{relink_asked, entries_down, all_given, view_given, is_taken, Station, put_on, all_put, view_of, Step, with_puts, follows}
-use Rattle.std.proofs.{Common.{max}, lemmas.List.{length-append}}
-use Rattle.x25_frame.specs.{Frame.{sabm, disc, ua}, declared.error.FrameError.{FrameError}}
-use Rattle.x25_layer.specs.code.FitsLayer.{is_full}
-use Rattle.x25_link.specs.{Link.{closed_by}, laws.SetUp.{TakeWaits, waiting_after, waiting_up}}
+use Rattle.x25_station.proofs.Names.{Option, Some, None, Result, Ok, Err, refl, sym, ap, subst, ◌∙◌, arith, max, or-true, true≢false, ltb-true, lt-ltb}
+use Rattle.x25_station.proofs.Names.{PlainFrame, disc, frame_of, PlainGiven, write, is_full, Answered, Went, Refuses, calls, LinkStep, quiet, leaves, other}
+use Rattle.x25_station.proofs.Names.{alone, put_step, take_step, timer_runs, timer_refusal, timer_step, asks_again, connect_refusal, connect_step}
+use Rattle.x25_station.proofs.Names.{disconnect_refusal, disconnect_step, probe_refusal, relink_refusal, relink_step, abandon_step, closed_by, added}
+use Rattle.x25_station.proofs.Names.{LinkSettings, LinkStation, Side, is_up, is_busy, with_near, with_nothing, sends, ready, may_send, send_next, pumped}
+use Rattle.x25_station.proofs.Names.{owes_ready, ended, LinkError, Phase, Down, Waiting, Up, Closed, Reason, Retries, PlainPacket, spelling_of, Requests}
+use Rattle.x25_station.proofs.Names.{RequestsWith, Connects, Disconnects, Probes, Relinks, said_by, may_ask, Settings, link_settings, layer_settings}
+use Rattle.x25_station.proofs.Names.{StationEntry, connect_asked, disconnect_asked, relink_asked, entries_down, entries_up, all_given, view_given, is_taken}
+use Rattle.x25_station.proofs.Names.{Station, put_on, all_put, view_of, Step, with_puts, follows, led_by, unless, abandons, did, with_given, gave, requests_of}
+use Rattle.std.proofs.lemmas.List.{length-append}
+use Rattle.x25_frame.specs.{Frame.{sabm, ua}, declared.error.FrameError.{FrameError}}
+use Rattle.x25_link.specs.laws.SetUp.{TakeWaits, waiting_after, waiting_up}
 use Rattle.x25_station.proofs.{DownLemmas.{downs, follows_down, timer_down, disconnect_down, relink_down}, MayLemmas.{where_holds}}
-use Rattle.x25_station.{proofs.Names.{led_by, unless, abandons, did, with_given, gave, requests_of, tells_link}, specs.Entry.{entries_up}}
-use Rattle.x25_station.specs.{Step.{receives}, laws.UnheardLaw.{MayAsk, TakesTries, AsksOn, UnheardAsksOn}}
+use Rattle.x25_station.{proofs.Names.{receives, tells_link}, specs.laws.UnheardLaw.{MayAsk, TakesTries, AsksOn, UnheardAsksOn}}
 use Rattle.x25_station.specs.Station as station
 use Rattle.x25_station.specs.laws.TimerLaw as timer
 

@@ -1,9 +1,9 @@
 -- What leads on where the other end doesn't answer.
 use Rattle.x25_station.proofs.Names.{◌≡◌, zero, suc, [], ◌∷◌, Bool, true, false, if◌then◌else◌, nat_lt, Option, Some, None, refl, sym, ap, ◌∙◌, arith}
-use Rattle.x25_station.proofs.Names.{true≢false, lt-ltb, le-ltb, LinkError, Phase, Down, Waiting, Up, Retries, LinkStation, Side, is_up, with_nothing, LinkStep}
-use Rattle.x25_station.proofs.Names.{timer_runs, timer_step, relink_refusal, relink_step, Settings, link_settings, relink_asked, entries_down, Station, Step}
-use Rattle.x25_link.specs.laws.SetUp.{ConnectWaits, TimerWaits, RelinkIsTwoSteps}
-use Rattle.x25_station.{proofs.DownLemmas.{relink_down, timer_down}, proofs.Names.{Did, unless, follows, led_by}, specs.Step.{fires}}
+use Rattle.x25_station.proofs.Names.{true≢false, lt-ltb, le-ltb, LinkStep, timer_runs, timer_step, relink_refusal, relink_step, LinkStation, Side, is_up}
+use Rattle.x25_station.proofs.Names.{with_nothing, LinkError, Phase, Down, Waiting, Up, Retries, RelinkIsTwoSteps, Settings, link_settings, relink_asked}
+use Rattle.x25_link.specs.laws.SetUp.{ConnectWaits, TimerWaits}
+use Rattle.x25_station.proofs.{DownLemmas.{relink_down, timer_down}, Names.{entries_down, Station, Step, Did, unless, follows, led_by, fires}}
 use Rattle.x25_station.specs.laws.WayOutLaw.{RelinkLeadsOn, once, again, FiringLeadsOn}
 use Rattle.x25_link.specs.declared.error.LinkError.TheVariants as error
 

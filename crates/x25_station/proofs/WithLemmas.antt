@@ -1,15 +1,15 @@
 -- A call of the layer over the link with something given beside its packet, which it has.
-use Rattle.x25_station.proofs.Names.{◌≡◌, ℕ, List, Option, Some, None, Result, Ok, Err, Bool, true, false, if◌then◌else◌, refl, ap, sym, subst, PlainPacket}
-use Rattle.x25_station.proofs.Names.{accept, clear, spelling_of, ShownLink, LinkState, FitsWhole, State, Free, Calling, Arriving, Open, Clearing, may_clear_for}
-use Rattle.x25_station.proofs.Names.{Proposal, default_params, may_answer, CircuitSettings, Circuit, Done, Request, Calls, Accepts, Clears, outcome, call_in}
-use Rattle.x25_station.proofs.Names.{accept_in, clear_in, LayerError, LayerSettings, Layer, is_channel, LayerRequest, Asks, Dials, LayerOutcome, Accepted}
-use Rattle.x25_station.proofs.Names.{Declined, layer_outcome, outcome_in, outcome_on, where_room, if_at_once, puts_at_once, dialled, free_channel, Answered}
-use Rattle.x25_station.proofs.Names.{Went, Refuses, begin, rounds, went, FitsLayer, spelled, PlainGiven, suits, LayerGives}
-use Rattle.std.{proofs.Common.{IsErrAnd}, specs.Prelude.{IfSome, IsSome}}
-use Rattle.x25_circuit.specs.{Calling.{Outcome, Refused}, Params.{field_for}, declared.error.CircuitError.{CircuitError}}
-use Rattle.x25_layer.specs.{Calls.{asked_where}, code.Answering.{Gives, Answers}}
+use Rattle.x25_station.proofs.Names.{◌≡◌, ℕ, List, Option, Some, None, Result, Ok, Err, Bool, true, false, if◌then◌else◌, refl, ap, sym, subst, IsErrAnd}
+use Rattle.x25_station.proofs.Names.{IfSome, Done, Request, Calls, Accepts, Clears, outcome, call_in, accept_in, clear_in, may_clear_for, CircuitSettings}
+use Rattle.x25_station.proofs.Names.{Circuit, Proposal, default_params, may_answer, field_for, CircuitError, State, Free, Calling, Arriving, Open, Clearing}
+use Rattle.x25_station.proofs.Names.{PlainGiven, LayerRequest, Asks, Dials, LayerOutcome, Accepted, Declined, layer_outcome, outcome_in, outcome_on, where_room}
+use Rattle.x25_station.proofs.Names.{if_at_once, puts_at_once, dialled, free_channel, asked_where, LayerSettings, Layer, is_channel, spelled, Gives, Answers}
+use Rattle.x25_station.proofs.Names.{FitsLayer, LayerError, Answered, Went, Refuses, begin, rounds, went, ShownLink, LinkState, FitsWhole, PlainPacket, accept}
+use Rattle.x25_station.proofs.Names.{clear, spelling_of, suits, LayerGives, all_with, seen_with, GoesWith, DrivesAsked}
+use Rattle.std.specs.Prelude.{IsSome}
+use Rattle.x25_circuit.specs.Calling.{Outcome, Refused}
 use Rattle.x25_station.proofs.DriveLemmas.{IsTold, DrivesLayer, DrivesLink, told_in, layer_not, on_err, same_err, drove, drove_not}
-use Rattle.x25_station.specs.code.OverLink.{all_with, seen_with, GoesWith, DrivesWith, all_asked, seen_asked, DrivesAsked}
+use Rattle.x25_station.specs.code.OverLink.{DrivesWith, all_asked, seen_asked}
 use Rattle.x25_circuit.specs.declared.error.CircuitError.TheVariants as circuit_error
 use Rattle.x25_circuit.specs.Calling as circuit
 use Rattle.x25_layer.specs.declared.error.LayerError.TheVariants as error

@@ -5,5 +5,6 @@ pub mod FitsParts
 pub mod OverLink
 pub mod FitsStation
 pub mod Clock
+pub mod LinkCalls
 pub mod Pulls
 pub mod Confirming

@@ -28,6 +28,7 @@ use crate::error::StationError;
 use crate::giving::{NOT_TAKEN, may_ask, may_dial};
 use crate::law::steps_keep_bounds;
 use crate::lent::Lent;
+use crate::linking::LinkCall;
 use crate::station::Station;
 use crate::step::Step;
 use x25_circuit::{Proposal, Request};
@@ -43,7 +44,7 @@ fn asked_of(lent: &mut Lent, layer: &Layer, channel: u16, request: &Request<'_>)
         → is_channel c.channels channel ≡ true → IsBrief (plain_request request.now)
         → plain_asked lent.new result ≡ shown (l.circuits channel) (plain_request request.now) }
 {
-    match request {
+    match *request {
         Request::Call {
             called,
             calling,
@@ -60,22 +61,16 @@ fn asked_of(lent: &mut Lent, layer: &Layer, channel: u16, request: &Request<'_>)
         Request::Accept { .. } => Asked::Accept {
             params: layer.params(channel).unwrap_or(Params::default()),
         },
-        Request::Clear { cause, diagnostic } => Asked::Clear {
-            cause: *cause,
-            diagnostic: *diagnostic,
-        },
+        Request::Clear { cause, diagnostic } => Asked::Clear { cause, diagnostic },
         Request::Send { marks, user } => {
             lent.set_message(user);
-            Asked::Send { marks: *marks }
+            Asked::Send { marks }
         }
         Request::Interrupt { user } => {
             lent.user.set(user);
             Asked::Interrupt
         }
-        Request::Reset { cause, diagnostic } => Asked::Reset {
-            cause: *cause,
-            diagnostic: *diagnostic,
-        },
+        Request::Reset { cause, diagnostic } => Asked::Reset { cause, diagnostic },
         Request::Ready => Asked::Ready,
         Request::NotReady => Asked::NotReady,
     }
@@ -139,61 +134,37 @@ impl Station {
         ensures only { may_lack (command_of command.now) ≡ false → (c : Settings) (s : State)
             → FitsStation c self.old s → RefusesOnly result (commands c s (command_of command.now)) }
     {
-        match command {
+        match *command {
             Cmd::Accept {
                 channel,
                 params,
                 given,
-            } => self.accept(*channel, *params, *given, out),
+            } => self.accept(channel, params, given, out),
             Cmd::Clear {
                 channel,
                 cause,
                 diagnostic,
                 given,
-            } => self.ask(
-                *channel,
-                Request::Clear {
-                    cause: *cause,
-                    diagnostic: *diagnostic,
-                },
-                *given,
-                out,
-            ),
+            } => self.ask(channel, Request::Clear { cause, diagnostic }, given, out),
             Cmd::Send {
                 channel,
                 q,
                 d,
                 user,
-            } => self.ask(
-                *channel,
-                Request::Send {
-                    marks: Marks { q: *q, d: *d },
-                    user,
-                },
-                None,
-                out,
-            ),
-            Cmd::Interrupt { channel, user } => self.ask(
-                *channel,
-                Request::Interrupt { user },
-                None,
-                out,
-            ),
+            } => {
+                let marks = Marks { q, d };
+                self.ask(channel, Request::Send { marks, user }, None, out)
+            }
+            Cmd::Interrupt { channel, user } => {
+                self.ask(channel, Request::Interrupt { user }, None, out)
+            }
             Cmd::Reset {
                 channel,
                 cause,
                 diagnostic,
-            } => self.ask(
-                *channel,
-                Request::Reset {
-                    cause: *cause,
-                    diagnostic: *diagnostic,
-                },
-                None,
-                out,
-            ),
-            Cmd::Ready { channel } => self.ask(*channel, Request::Ready, None, out),
-            Cmd::NotReady { channel } => self.ask(*channel, Request::NotReady, None, out),
+            } => self.ask(channel, Request::Reset { cause, diagnostic }, None, out),
+            Cmd::Ready { channel } => self.ask(channel, Request::Ready, None, out),
+            Cmd::NotReady { channel } => self.ask(channel, Request::NotReady, None, out),
             Cmd::Call {
                 called,
                 calling,
@@ -202,14 +173,14 @@ impl Station {
                 given,
             } => {
                 let params = params.unwrap_or(Params::default());
-                self.call(called, calling, user, params, *given, out)
+                self.call(called, calling, user, params, given, out)
             }
-            Cmd::Restart { cause, diagnostic } => self.restart(*cause, *diagnostic, out),
+            Cmd::Restart { cause, diagnostic } => self.restart(cause, diagnostic, out),
             Cmd::Pull => self.pull_asked(out),
-            Cmd::Connect => self.connect_asked(out),
-            Cmd::Disconnect => self.disconnect(out),
-            Cmd::Probe => self.probe(out),
-            Cmd::Relink => self.relink(out),
+            Cmd::Connect => self.call_link(LinkCall::Connect, out),
+            Cmd::Disconnect => self.call_link(LinkCall::Disconnect, out),
+            Cmd::Probe => self.call_link(LinkCall::Probe, out),
+            Cmd::Relink => self.call_link(LinkCall::Relink, out),
         }
     }
 

@@ -1,10 +1,8 @@
 //! What a packet brings beside what the station takes it for.
 ghost use Rattle.std.specs.Prelude.{◌≡◌, IfSome, is_some};
-ghost use Rattle.x25_station.specs.Beside.{AreFew, IsReadShorter, beside_in, beside_kind, beside_or_none};
-ghost use Rattle.x25_station.specs.Beside.{of_fields, plain_beside};
-ghost use Rattle.x25_packet.specs.Block.{plain_fields};
+ghost use Rattle.x25_station.specs.Beside.{AreFew, IsReadShorter, beside_in, beside_kind};
+ghost use Rattle.x25_station.specs.Beside.{plain_beside};
 ghost use Rattle.x25_packet.specs.Form.{plain_kind};
-ghost use Rattle.x25_packet.specs.Grammar.{form_in};
 
 use x25_packet::{
     Block, FAST_SELECT_OCTETS, Fields, Form, Kind, PacketError, decode, decode_within,
@@ -23,50 +21,27 @@ pub(crate) enum Beside<'a> {
     Diagnostic(u8),
 }
 
-/// Fields that aren't both empty.
-fn of_fields<'a>(fields: Option<Fields<'a>>) -> Beside<'a>
-    ensures { plain_beside result ≡ of_fields (plain_fields fields.entry) }
-{
-    match fields {
-        Some(fields) if fields.facilities.len() + fields.user.len() > 0 => Beside::Fields(fields),
-        _ => Beside::Nothing,
-    }
-}
-
 fn beside_kind<'a>(a: bool, kind: Kind<'a>) -> Beside<'a>
     ensures { plain_beside result ≡ beside_kind (plain_kind a kind.entry) }
 {
-    match kind {
+    let fields = match kind {
         Kind::Call { body } => match Block::of(a, body).fields {
             // A station tells the user data with the call.
-            Some(Fields { facilities, .. }) => of_fields(Some(Fields {
+            Some(Fields { facilities, .. }) => Some(Fields {
                 facilities,
                 user: &[],
-            })),
-            None => Beside::Nothing,
+            }),
+            None => None,
         },
         Kind::Accept { body } | Kind::ClearConf { body } | Kind::ExtendedClear { body, .. } => {
-            of_fields(Block::of(a, body).fields)
+            Block::of(a, body).fields
         }
-        Kind::Diagnostic { code, .. } => Beside::Diagnostic(code),
+        Kind::Diagnostic { code, .. } => return Beside::Diagnostic(code),
+        _ => None,
+    };
+    match fields {
+        Some(fields) if fields.facilities.len() + fields.user.len() > 0 => Beside::Fields(fields),
         _ => Beside::Nothing,
-    }
-}
-
-/// What octets bring in any form beside the packet that a station takes them for, by what it reads them to. A CALL that
-/// is too long for it has 128 octets of user data at most.
-fn beside_form<'a>(form: &Result<Form<'a>, PacketError>, octets: &'a [u8]) -> Beside<'a>
-    requires { IsReadShorter form.now octets.now }
-    ensures told { plain_beside result ≡ beside_or_none (form_in 128 octets.now) }
-    ensures few { AreFew (plain_beside result) }
-{
-    reading_is_the_grammar();
-    if let Ok(form) = form {
-        return beside_kind(form.bit_8, form.kind);
-    }
-    match decode(FAST_SELECT_OCTETS, octets) {
-        Ok(form) => beside_kind(form.bit_8, form.kind),
-        Err(_) => Beside::Nothing,
     }
 }
 
@@ -81,10 +56,19 @@ pub(crate) fn beside_of<'a>(
     // At most 109 octets of facilities, and 128 of user data.
     ensures few { AreFew (plain_beside result) }
 {
-    let Some(form) = form else {
+    let Some(read) = form else {
         return Beside::Nothing;
     };
-    match beside_form(form, octets) {
+    reading_is_the_grammar();
+    let form = match read {
+        Ok(form) => *form,
+        // A CALL that is too long for this end has 128 octets of user data at most.
+        Err(_) => match decode(FAST_SELECT_OCTETS, octets) {
+            Ok(form) => form,
+            Err(_) => return Beside::Nothing,
+        },
+    };
+    match beside_kind(form.bit_8, form.kind) {
         Beside::Nothing => Beside::Nothing,
         _ if decode_within(FAST_SELECT_OCTETS, octets).is_ok() => Beside::Nothing,
         beside => beside,

@@ -18,7 +18,7 @@ use crate::entry::{Entry, Told};
 use crate::lent::Lent;
 use x25_circuit::Notice;
 use x25_layer::{Layer, Report, Stretch};
-use x25_packet::{called_digits, calling_digits, user_data};
+use x25_packet::call_views;
 
 // The name of no stretch: there is none on a channel that isn't configured.
 pub(crate) const NO_NAME: Stretch = Stretch {
@@ -34,9 +34,10 @@ fn told_of(lent: &mut Lent, notice: Notice<'_>) -> Told
 {
     match notice {
         Notice::Incoming { a, params, body } => {
-            lent.called.set_digits(&called_digits(a, body));
-            lent.calling.set_digits(&calling_digits(a, body));
-            lent.user.set(user_data(a, body));
+            let views = call_views(a, body);
+            lent.called.set_digits(&views.called);
+            lent.calling.set_digits(&views.calling);
+            lent.user.set(views.user);
             Told::Incoming { params }
         }
         Notice::Connected { params } => Told::Connected { params },
@@ -125,13 +126,16 @@ pub(crate) fn enter_beside(beside: Beside<'_>, channel: Option<u16>, entries: &m
     ensures entered { entries.new.items ≡ entries.old.items
         ++ entries_beside (plain_beside beside.entry) channel }
 {
-    match (beside, channel) {
-        (Beside::Fields(fields), Some(channel)) => {
-            entries.push_beside(channel, fields.facilities, fields.user);
+    match beside {
+        Beside::Nothing => {}
+        Beside::Fields(fields) => {
+            let Some(channel) = channel else {
+                return;
+            };
+            entries.lent.facilities.set(fields.facilities);
+            entries.lent.beside.set(fields.user);
+            entries.list.push_reserved(Entry::Beside { channel });
         }
-        (Beside::Diagnostic(diagnostic), _) => {
-            entries.push(Entry::Diagnosed { diagnostic });
-        }
-        _ => {}
+        Beside::Diagnostic(diagnostic) => entries.push(Entry::Diagnosed { diagnostic }),
     }
 }

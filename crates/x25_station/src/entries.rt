@@ -1,7 +1,5 @@
 ghost use Rattle.std.specs.Prelude.{◌≡◌, ◌<◌, ◌≤◌, ◌++◌, [], ◌∷◌, length, map, nat_le, vec_capacity, IfOk};
-ghost use Rattle.std.specs.List.{sum_by};
-ghost use Rattle.x25_station.specs.Entry.{came_beside};
-ghost use Rattle.x25_station.specs.code.Entries.{IsWhole, comes_beside};
+ghost use Rattle.x25_station.specs.code.Entries.{IsWhole};
 ghost use Rattle.x25_station.specs.code.PlainEntry.{plain_entry};
 
 use crate::entry::Entry;
@@ -79,17 +77,5 @@ impl Entries {
         ensures { self.new.items ≡ self.old.items ++ plain_entry self.old.lent entry ∷ [] }
     {
         self.list.push_reserved(entry);
-    }
-
-    /// Puts the entry of facilities and user data that came beside a packet behind the others, of which none is such.
-    pub(crate) fn push_beside(&mut self, channel: u16, facilities: &[u8], user: &[u8])
-        requires place { length self.old.items < 3 }
-        requires none { sum_by comes_beside self.old.items ≡ 0 }
-        ensures { length facilities.now ≤ 128 → length user.now ≤ 128 →
-            self.new.items ≡ self.old.items ++ came_beside channel facilities.now user.now ∷ [] }
-    {
-        self.lent.facilities.set(facilities);
-        self.lent.beside.set(user);
-        self.list.push_reserved(Entry::Beside { channel });
     }
 }

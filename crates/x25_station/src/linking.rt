@@ -1,13 +1,15 @@
 //! Calls that the link alone answers, and at LinkDown the packet layer.
-ghost use Rattle.std.specs.Prelude.{◌≡◌, ◌+◌, ◌<◌, ◌≤◌, ◌++◌, length, true, false, None};
+ghost use Rattle.std.specs.Prelude.{◌≡◌, ◌+◌, ◌<◌, ◌≤◌, ◌++◌, [], length, true, false, None};
+ghost use Rattle.x25_link.specs.code.FitsLink.{Does as LinkDoes};
 ghost use Rattle.x25_layer.specs.Layer.{Layer as LayerState, LayerSettings};
 ghost use Rattle.x25_layer.specs.code.FitsLayer.{FitsLayer};
 ghost use Rattle.x25_station.specs.Entry.{entries_down};
 ghost use Rattle.x25_station.specs.code.Clock.{TellsTimer};
 ghost use Rattle.x25_station.specs.code.FitsStation.{FitsStation, Does, IsEmpty, RefusesOnly};
+ghost use Rattle.x25_station.specs.code.LinkCalls.{entries_asked, calls_link, link_refusal, step_of_call};
 ghost use Rattle.x25_station.specs.Config.{Settings};
 ghost use Rattle.x25_station.specs.Station.{Station as State};
-ghost use Rattle.x25_station.specs.Step.{connects_asked, disconnects, fires, layer_down, probes, relinks};
+ghost use Rattle.x25_station.specs.Step.{fires, layer_down};
 
 use crate::entries::Entries;
 use crate::entry::Entry;
@@ -16,26 +18,50 @@ use crate::law::steps_keep_bounds;
 use crate::station::Station;
 use crate::step::Step;
 use x25_layer::Layer;
-use x25_link::Reason;
+use x25_link::{Heard, Link, LinkError, Reason};
+
+/// A call that the link alone answers.
+#[derive(Clone, Copy)]
+pub(crate) enum LinkCall {
+    /// Begins to set the link up.
+    Connect,
+    /// Disconnects the link, for good.
+    Disconnect,
+    /// Timer T1 fires.
+    Fire,
+    /// Polls the other end, as T1 does at its firing.
+    Probe,
+    /// Sets the link up anew.
+    Relink,
+}
+
+// What the link answers.
+fn answer_of(link: &mut Link, call: LinkCall) -> Result<Heard<'static>, LinkError>
+    ensures { LinkDoes link.old link.new result (link_refusal call) (step_of_call call) }
+{
+    match call {
+        LinkCall::Connect => link.connect(),
+        LinkCall::Disconnect => link.disconnect(),
+        LinkCall::Fire => link.t1(),
+        LinkCall::Probe => link.probe(),
+        LinkCall::Relink => link.relink(),
+    }
+}
+
+// Enters a command that has an entry.
+fn enter_call(call: LinkCall, entries: &mut Entries)
+    requires { entries.old.items ≡ [] }
+    ensures { entries.new.items ≡ entries_asked call }
+{
+    match call {
+        LinkCall::Connect => entries.push(Entry::ConnectAsked),
+        LinkCall::Disconnect => entries.push(Entry::DisconnectAsked),
+        LinkCall::Fire | LinkCall::Probe => {}
+        LinkCall::Relink => entries.push(Entry::RelinkAsked),
+    }
+}
 
 impl Station {
-    /// Begins to set the link up.
-    pub(crate) fn connect_asked(&mut self, out: &mut Step) -> Result<(), StationError>
-        requires { IsEmpty out.old }
-        ensures does { Does self.old self.new out.new result connects_asked }
-        ensures only { (c : Settings) (s : State) → FitsStation c self.old s → RefusesOnly result (connects_asked c s) }
-    {
-        steps_keep_bounds();
-        match self.link.connect() {
-            Ok(_) => {
-                out.entries.push(Entry::ConnectAsked);
-                self.link.swap_frames(&mut out.frames);
-                Ok(())
-            }
-            Err(error) => Err(StationError::of_link(error)),
-        }
-    }
-
     /// A firing of timer T1 of the link.
     ///
     /// 11 where the timer doesn't run, and nothing else. The station is as before then.
@@ -46,73 +72,22 @@ impl Station {
     {
         out.clear();
         let ran = self.link.timer_runs();
-        let answer = self.fire(out);
+        let answer = self.call_link(LinkCall::Fire, out);
         out.timer = self.timer_behind(ran, answer.is_ok(), false, out);
         answer
     }
 
-    // T1 fires, into a step that is empty.
-    fn fire(&mut self, out: &mut Step) -> Result<(), StationError>
+    /// Asks the link alone, into a step that is empty.
+    pub(crate) fn call_link(&mut self, call: LinkCall, out: &mut Step) -> Result<(), StationError>
         requires { IsEmpty out.old }
-        ensures does { Does self.old self.new out.new result fires }
-        ensures only { (c : Settings) (s : State) → FitsStation c self.old s → RefusesOnly result (fires c s) }
+        ensures does { Does self.old self.new out.new result (calls_link call) }
+        ensures only { (c : Settings) (s : State) → FitsStation c self.old s
+            → RefusesOnly result (calls_link call c s) }
     {
         steps_keep_bounds();
-        match self.link.t1() {
+        match answer_of(&mut self.link, call) {
             Ok(heard) => {
-                self.link.swap_frames(&mut out.frames);
-                note_down(&mut self.layer, heard.notes.down, &mut out.entries);
-                Ok(())
-            }
-            Err(error) => Err(StationError::of_link(error)),
-        }
-    }
-
-    /// Polls the other end, as T1 does at its firing.
-    pub(crate) fn probe(&mut self, out: &mut Step) -> Result<(), StationError>
-        requires { IsEmpty out.old }
-        ensures does { Does self.old self.new out.new result probes }
-        ensures only { (c : Settings) (s : State) → FitsStation c self.old s → RefusesOnly result (probes c s) }
-    {
-        steps_keep_bounds();
-        match self.link.probe() {
-            Ok(heard) => {
-                self.link.swap_frames(&mut out.frames);
-                note_down(&mut self.layer, heard.notes.down, &mut out.entries);
-                Ok(())
-            }
-            Err(error) => Err(StationError::of_link(error)),
-        }
-    }
-
-    /// Sets the link up anew.
-    pub(crate) fn relink(&mut self, out: &mut Step) -> Result<(), StationError>
-        requires { IsEmpty out.old }
-        ensures does { Does self.old self.new out.new result relinks }
-        ensures only { (c : Settings) (s : State) → FitsStation c self.old s → RefusesOnly result (relinks c s) }
-    {
-        steps_keep_bounds();
-        match self.link.relink() {
-            Ok(heard) => {
-                out.entries.push(Entry::RelinkAsked);
-                self.link.swap_frames(&mut out.frames);
-                note_down(&mut self.layer, heard.notes.down, &mut out.entries);
-                Ok(())
-            }
-            Err(error) => Err(StationError::of_link(error)),
-        }
-    }
-
-    /// Disconnects the link, for good.
-    pub(crate) fn disconnect(&mut self, out: &mut Step) -> Result<(), StationError>
-        requires { IsEmpty out.old }
-        ensures does { Does self.old self.new out.new result disconnects }
-        ensures only { (c : Settings) (s : State) → FitsStation c self.old s → RefusesOnly result (disconnects c s) }
-    {
-        steps_keep_bounds();
-        match self.link.disconnect() {
-            Ok(heard) => {
-                out.entries.push(Entry::DisconnectAsked);
+                enter_call(call, &mut out.entries);
                 self.link.swap_frames(&mut out.frames);
                 note_down(&mut self.layer, heard.notes.down, &mut out.entries);
                 Ok(())

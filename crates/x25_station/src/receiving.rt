@@ -69,7 +69,7 @@ fn hear(
         result ≡ bringing (layer_answer (layer_settings c) (is_some form.now) l packet.now).notices }
 {
     taking_keeps_octets();
-    let told = layer.packet(form, packet, &mut entries.lent.message);
+    let told = layer.hear(form, packet, &mut entries.lent.message);
     drive(layer, link);
     let channel = bringing(&told);
     enter_told(layer, &mut entries.lent, told, &mut entries.list);
@@ -152,7 +152,7 @@ impl Station {
         steps_keep_bounds();
         notes_what_changes();
         holds_few();
-        let heard = self.link.take(octets);
+        let heard = self.link.hear(octets);
         follow(
             &mut self.layer,
             &mut self.link,

@@ -1,13 +1,8 @@
 -- Octets that were read block by block, the last one over the one before it.
-use Rattle.std.proofs.Common.{ℕ, zero, suc, ◌≡◌, ◌≤◌, ◌+◌, ◌-◌, ◌*◌, ◌∙◌, List, [], ◌∷◌, ◌++◌, length, take, drop, Option, Some, None, Bool, true, false, refl}
-use Rattle.std.proofs.Common.{ap, sym, subst, arith}
-use Rattle.std.specs.Prelude.{if◌then◌else◌}
-use Rattle.std.proofs.lemmas.List.{drop_at, length-drop, length-take-le, take_all, take_at, take-append-drop, take-take}
-use Rattle.std.proofs.Math.Seq.{take-add}
-use Rattle.std.proofs.lemmas.Simd.{put_chunk_is}
-use Rattle.std.specs.Simd.Lanes.{put_chunk}
-use Rattle.hex.specs.Hex.{hex_digit_value}
-use Rattle.x25_text.specs.Hexadecimal.{octets_of, joined}
+use Rattle.x25_text.proofs.Names.{ℕ, zero, suc, ◌≡◌, ◌≤◌, ◌+◌, ◌-◌, ◌*◌, ◌∙◌, List, [], ◌∷◌, ◌++◌, length, take, drop, Option, Some, None, Bool, true, false}
+use Rattle.x25_text.proofs.Names.{refl, ap, sym, arith, length-drop, length-take-le, take_all, take-take, take-add, hex_digit_value, octets_of, joined}
+use Rattle.std.proofs.{Common.{subst}, lemmas.List.{drop_at, take_at, take-append-drop}, lemmas.Simd.{put_chunk_is}}
+use Rattle.std.specs.{Prelude.{if◌then◌else◌}, Simd.Lanes.{put_chunk}}
 
 -- ---- a block that was stored
 

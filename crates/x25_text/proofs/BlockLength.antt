@@ -1,7 +1,6 @@
 -- What has no user data has at most 128 octets of it.
-use Rattle.std.proofs.Common.{arith, Bool, Option, Some, None}
-use Rattle.x25_packet.specs.Block.{PlainBlock, PlainFields, MayBeFields, MayBeBlock}
-use Rattle.x25_packet.specs.declared.form.Forms.TheVariants.{Any}
+use Rattle.x25_text.proofs.Names.{arith, Bool, Option, Some, None}
+use Rattle.x25_packet.specs.{Block.{PlainBlock, PlainFields, MayBeFields, MayBeBlock}, declared.form.Forms.TheVariants.{Any}}
 
 fields_with : (f : Option PlainFields) → MayBeFields Any 0 f → MayBeFields Any 128 f
 fields_with None h = tt

@@ -1,9 +1,7 @@
 -- Two ways to write an octet as two hexadecimal digits.
-use Rattle.std.proofs.Common.{ℕ, zero, suc, ◌≡◌, ◌<◌, ◌/◌, ◌%◌, ◌∷◌, [], List, false, refl, arith, slice_index}
-use Rattle.std.specs.Fmt.{digit_glyph}
 use Rattle.hex.specs.Hex.{encode_with, encode_lower, lower_digits}
-use Rattle.x25_text.specs.Text.{octet_text}
-use Rattle.std.specs.List.{flat_map}
+use Rattle.std.{proofs.Common.{slice_index}, specs.Fmt.{digit_glyph}, specs.List.{flat_map}}
+use Rattle.x25_text.{proofs.Names.{ℕ, zero, suc, ◌≡◌, ◌<◌, ◌/◌, ◌%◌, ◌∷◌, [], List, false, refl, arith}, specs.Text.{octet_text}}
 
 digit_same : (d : ℕ) → d < 16 → slice_index lower_digits d ≡ digit_glyph false d
 digit_same zero h = refl

@@ -1,8 +1,7 @@
 -- The text of a frame that LAPB modulo 8 lacks, by whether it has a name.
-use Rattle.std.proofs.Common.{ℕ, ◌≡◌, ◌++◌, true, false, List, [], refl, codes, Option, Some, None}
-use Rattle.std.specs.Prelude.{is_some, unwrap_or}
+use Rattle.std.{proofs.Common.{codes}, specs.Prelude.{is_some, unwrap_or}}
 use Rattle.x25_frame.specs.declared.error.FrameError.TheVariants.{Undefined}
-use Rattle.x25_text.specs.FrameText.{fault_text}
+use Rattle.x25_text.{proofs.Names.{ℕ, ◌≡◌, ◌++◌, true, false, List, [], refl, Option, Some, None}, specs.FrameText.{fault_text}}
 use Rattle.x25_text.specs.WideFrameText.{headed_text, other_information_text}
 
 differ : false ≡ true → ⊥

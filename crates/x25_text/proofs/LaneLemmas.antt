@@ -1,15 +1,9 @@
 -- Sixteen characters at a time, lane by lane.
-use Rattle.std.proofs.Common.{ℕ, zero, suc, ◌≡◌, ◌<◌, ◌≤◌, ◌+◌, ◌-◌, ◌*◌, ◌/◌, ◌%◌, ◌^◌, ◌∙◌, inl, inr, Bool, true, false, cond, List, [], ◌∷◌, length, map}
-use Rattle.std.proofs.Common.{take, get_or, refl, ap, sym, arith, Fits, w8}
-use Rattle.std.specs.Prelude.{◌==◌, ◌&&◌, nat_lt, nat_eq, Option, Some, None}
-use Rattle.std.specs.List.{list_all}
-use Rattle.std.proofs.lemmas.Bool.{cases_eq, eq-eqb, eqb-true, ne_eqb, ltb-true, ltb-false, and_parts, agree_below, agree_below_at}
-use Rattle.std.proofs.Math.Nat.{pow-suc}
-use Rattle.std.specs.Simd.Lanes.{Each1, sel_l, mask_l, number_l, top}
-use Rattle.std.proofs.lemmas.Nat.{pow_pos}
-use Rattle.hex.specs.Hex.{hex_digit_value}
-use Rattle.x25_text.specs.Hexadecimal.{octets_of, joined, paired, value_of}
-use Rattle.x25_text.proofs.DigitTable.{a_digit, no_digit}
+use Rattle.x25_text.proofs.Names.{ℕ, zero, suc, ◌≡◌, ◌<◌, ◌≤◌, ◌+◌, ◌-◌, ◌*◌, ◌/◌, ◌%◌, ◌∙◌, Bool, true, false, cond, List, [], ◌∷◌, length, map, take, get_or}
+use Rattle.x25_text.proofs.Names.{refl, ap, sym, arith, ◌==◌, ◌&&◌, nat_lt, list_all, eqb-true, ltb-true, ltb-false, agree_below, agree_below_at, top}
+use Rattle.std.proofs.{Common.{◌^◌, inl, inr, Fits, w8}, Math.Nat.{pow-suc}, lemmas.Bool.{cases_eq, eq-eqb, ne_eqb, and_parts}, lemmas.Nat.{pow_pos}}
+use Rattle.std.specs.{Prelude.{nat_eq, Option, Some, None}, Simd.Lanes.{Each1, sel_l, mask_l, number_l}}
+use Rattle.x25_text.{proofs.DigitTable.{a_digit, no_digit}, proofs.Names.{hex_digit_value, octets_of, joined, value_of}, specs.Hexadecimal.{paired}}
 
 -- ---- the test of all lanes
 

@@ -1,4 +1,4 @@
-pub mod InfoHead
+pub mod Names
 pub mod HeadLemmas
 pub mod BlockLength
 pub mod DigitLemmas

@@ -1,17 +1,10 @@
 -- Octets at the front of a text, up to the first character that is no digit.
-use Rattle.std.proofs.Common.{ℕ, zero, suc, ◌≡◌, ◌<◌, ◌≤◌, ◌+◌, ◌*◌, ◌%◌, ◌^◌, ◌∙◌, Bool, true, false, cond, not, List, [], ◌∷◌, ◌++◌, length, map, take, drop}
-use Rattle.std.proofs.Common.{get_or, refl, ap, sym, arith, Option, Some, None}
-use Rattle.std.specs.Int.{trailing_zeros, w64}
-use Rattle.std.specs.Prelude.{◌&&◌, IfSome, nat_eq, nat_lt, nat_le}
-use Rattle.std.specs.List.{list_all, prefix_len}
-use Rattle.std.proofs.lemmas.Bool.{le-leb, lt-leb, ltb-false, ltb-true}
-use Rattle.std.proofs.lemmas.List.{length-drop, length-map, length-take-le, take-map, take-take}
-use Rattle.std.proofs.lemmas.Simd.{first_set_mask_l, mask_l-mod}
-use Rattle.std.specs.Simd.Lanes.{mask_l, put_chunk, top}
-use Rattle.std.proofs.Math.Seq.{take-add}
-use Rattle.x25_text.specs.Hexadecimal.{octets_of, paired, value_of}
-use Rattle.x25_text.proofs.BlockLemmas.{Reads, both_of, octets_of-append, stored_block}
-use Rattle.x25_text.proofs.LaneLemmas.{block_read, tops_of_map}
+use Rattle.x25_text.proofs.Names.{ℕ, zero, suc, ◌≡◌, ◌<◌, ◌≤◌, ◌+◌, ◌*◌, ◌%◌, ◌∙◌, Bool, true, false, cond, List, [], ◌∷◌, ◌++◌, length, map, take, drop}
+use Rattle.x25_text.proofs.Names.{get_or, refl, ap, sym, arith, Option, Some, None, ◌&&◌, nat_lt, list_all, ltb-false, ltb-true, length-drop, length-take-le}
+use Rattle.std.proofs.{Common.{◌^◌, not}, lemmas.Bool.{le-leb, lt-leb}, lemmas.List.{length-map, take-map}, lemmas.Simd.{first_set_mask_l, mask_l-mod}}
+use Rattle.std.specs.{Int.{trailing_zeros, w64}, List.{prefix_len}, Prelude.{IfSome, nat_eq, nat_le}, Simd.Lanes.{mask_l, put_chunk}}
+use Rattle.x25_text.proofs.{BlockLemmas.{Reads, both_of, octets_of-append, stored_block}, LaneLemmas.{block_read, tops_of_map}}
+use Rattle.x25_text.{proofs.Names.{take-take, top, take-add, octets_of, value_of}, specs.Hexadecimal.{paired}}
 
 -- what passes the test stands at the front
 pub front_all : (p : ℕ → Bool) (n : ℕ) (xs : List ℕ) → n ≤ prefix_len p xs → list_all p (take n xs) ≡ true

@@ -1,15 +1,9 @@
 -- Octets that are written as digits, block by block.
-use Rattle.std.proofs.Common.{ℕ, zero, suc, ◌≡◌, ◌<◌, ◌≤◌, ◌+◌, ◌-◌, ◌*◌, ◌/◌, ◌%◌, ◌∙◌, true, false, cond, List, [], ◌∷◌, ◌++◌, length, take, drop, map}
-use Rattle.std.proofs.Common.{get_or, refl, ap, sym, arith}
-use Rattle.std.specs.Prelude.{◌==◌, nat_lt}
-use Rattle.std.specs.Fmt.{digit_glyph}
-use Rattle.std.specs.List.{flat_map}
-use Rattle.std.specs.Simd.Lanes.{top}
-use Rattle.std.proofs.lemmas.Bool.{agree_below, agree_below_at, eqb-true}
-use Rattle.std.proofs.lemmas.Grind.{flat_map-append}
-use Rattle.std.proofs.lemmas.List.{get_or-append-add, get_or-map, get_or_append_left, length-map, length-take-le, take_all, take_at, take-take}
-use Rattle.std.proofs.Math.Seq.{take-add}
-use Rattle.x25_text.specs.Text.{octet_text}
+use Rattle.x25_text.proofs.Names.{ℕ, zero, suc, ◌≡◌, ◌<◌, ◌≤◌, ◌+◌, ◌-◌, ◌*◌, ◌/◌, ◌%◌, ◌∙◌, true, false, cond, List, [], ◌∷◌, ◌++◌, length, take, drop, map}
+use Rattle.x25_text.proofs.Names.{get_or, refl, ap, sym, arith, ◌==◌, nat_lt, top, agree_below, agree_below_at, eqb-true, length-take-le, take_all, take-take}
+use Rattle.std.proofs.lemmas.{Grind.{flat_map-append}, List.{get_or-append-add, get_or-map, get_or_append_left, length-map, take_at}}
+use Rattle.std.specs.{Fmt.{digit_glyph}, List.{flat_map}}
+use Rattle.x25_text.{proofs.Names.{take-add}, specs.Text.{octet_text}}
 
 -- ---- some octets
 

@@ -1,15 +1,9 @@
 -- Characters that are tested block by block, the last block over the one before it.
-use Rattle.std.proofs.Common.{ℕ, suc, ◌≡◌, ◌<◌, ◌≤◌, ◌+◌, ◌-◌, ◌%◌, ◌∙◌, Bool, true, false, cond, List, [], ◌∷◌, length, map, take, drop, get_or, refl, ap, sym}
-use Rattle.std.proofs.Common.{arith}
-use Rattle.std.specs.Prelude.{◌==◌, ◌&&◌, nat_le, nat_lt}
-use Rattle.std.specs.Simd.Lanes.{sel_l, top, zip2}
-use Rattle.std.specs.Char.{is_ascii_hexdigit}
-use Rattle.std.specs.List.{list_all, prefix_len}
-use Rattle.std.proofs.lemmas.Bool.{agree_below, agree_below_at, and_parts, eqb-true, le-leb, leb-true, ltb-false, ltb-true}
-use Rattle.std.proofs.lemmas.List.{drop-drop, length-drop, take_all, take-append-drop, take-take}
-use Rattle.std.proofs.lemmas.List.Folds.{list_all-append}
-use Rattle.std.proofs.Math.Seq.{take-add}
-use Rattle.x25_text.specs.Hexadecimal.{value_of}
+use Rattle.x25_text.proofs.Names.{ℕ, suc, ◌≡◌, ◌<◌, ◌≤◌, ◌+◌, ◌-◌, ◌%◌, ◌∙◌, Bool, true, false, cond, List, [], ◌∷◌, length, map, take, drop, get_or, refl, ap}
+use Rattle.x25_text.proofs.Names.{sym, arith, ◌==◌, ◌&&◌, nat_lt, top, list_all, agree_below, agree_below_at, eqb-true, ltb-false, ltb-true, length-drop}
+use Rattle.x25_text.proofs.Names.{take_all, take-take, take-add, value_of}
+use Rattle.std.proofs.lemmas.{Bool.{and_parts, le-leb, leb-true}, List.{drop-drop, take-append-drop}, List.Folds.{list_all-append}}
+use Rattle.std.specs.{Char.{is_ascii_hexdigit}, List.{prefix_len}, Prelude.{nat_le}, Simd.Lanes.{sel_l, zip2}}
 
 -- ---- sixteen characters
 

@@ -4,7 +4,6 @@ ghost use Rattle.std.specs.List.{flat_map};
 ghost use Rattle.x25_frame.specs.Frame.{plain};
 ghost use Rattle.x25_frame.specs.Spelling.{bit};
 ghost use Rattle.x25_text.specs.Text.{octet_text};
-ghost use Rattle.x25_text.specs.PacketText.{information_text};
 ghost use Rattle.x25_text.specs.FrameText.{fault_text, frame_text, supervisory_text, why_text};
 
 use crate::packet_text::push_information;
@@ -42,18 +41,18 @@ fn push_labelled(label: &[u8], octets: &[u8], text: &mut Text)
     text.push_hexadecimal(octets);
 }
 
-fn push_info(long_data: bool, ns: Seq, nr: Seq, p: bool, information: &[u8], text: &mut Text)
-    requires { length text.old + MOST_TEXT ≤ ROOM }
+/// Appends an I frame but for its information.
+pub(crate) fn push_numbers(ns: Seq, nr: Seq, p: bool, text: &mut Text)
+    requires room { length text.old + 20 ≤ ROOM }
     ensures text { text.new ≡ text.old ++ (codes "I cmd P=" ++ decimal (bit p) ++ codes " S=" ++ decimal ns.number
-        ++ codes " R=" ++ decimal nr.number ++ codes " | " ++ information_text long_data information.now) }
-    ensures size { length text.new ≤ length text.old + MOST_TEXT }
+        ++ codes " R=" ++ decimal nr.number ++ codes " | ") }
+    ensures size { length text.new ≡ length text.old + 20 }
 {
     let mut characters = *b"I cmd P=_ S=_ R=_ | ";
     characters[8] = bit_digit(p);
     characters[12] = seq_digit(ns);
     characters[16] = seq_digit(nr);
     text.push(&characters);
-    push_information(long_data, information, text);
 }
 
 fn push_frame_reject(f: bool, why: [u8; 3], text: &mut Text)
@@ -74,7 +73,10 @@ pub fn push_frame(long_data: bool, frame: &Frame, text: &mut Text)
     ensures size { length text.new ≤ length text.old + MOST_TEXT }
 {
     match frame {
-        Frame::I { ns, nr, p, info } => push_info(long_data, *ns, *nr, *p, info, text),
+        Frame::I { ns, nr, p, info } => {
+            push_numbers(*ns, *nr, *p, text);
+            push_information(long_data, info, text);
+        }
         Frame::Rr { command, nr, pf } => push_supervisory(b"RR ", *command, *pf, *nr, text),
         Frame::Rnr { command, nr, pf } => push_supervisory(b"RNR ", *command, *pf, *nr, text),
         Frame::Rej { command, nr, pf } => push_supervisory(b"REJ ", *command, *pf, *nr, text),

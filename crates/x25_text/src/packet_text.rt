@@ -10,9 +10,7 @@ ghost use Rattle.x25_text.specs.PacketText.{numbers_text, packet_fault_text, pac
 
 use crate::text::{MOST_OCTETS, ROOM, Text, bit_digit, seq_digit};
 use x25_frame::Seq;
-use x25_packet::{
-    Halves, Marks, Packet, PacketError, call_views, decode_within, facility_field, longest_user,
-};
+use x25_packet::{Halves, Marks, Packet, PacketError, call_views, decode_within, longest_user};
 
 /// The most characters of a packet or of its error on one line.
 pub const MOST_PACKET_TEXT: usize = 8_260;
@@ -90,7 +88,7 @@ pub(crate) fn push_fields(facilities: &[u8], user: &[u8], text: &mut Text)
 }
 
 /// Appends the numbers and marks of a DATA packet, and the label of its user data.
-fn push_marks(ps: Seq, pr: Seq, m: bool, marks: Marks, text: &mut Text)
+pub(crate) fn push_marks(ps: Seq, pr: Seq, m: bool, marks: Marks, text: &mut Text)
     requires room { length text.old + 26 ≤ ROOM }
     ensures text { text.new ≡ text.old ++ (numbers_text ps.number pr.number ++ marks_text m marks.q
         ++ confirmation_text marks.d ++ codes " data=") }
@@ -128,7 +126,7 @@ fn push_accept_body(a: bool, body: &[u8], text: &mut Text)
     ensures text { text.new ≡ text.old ++ (codes " fac=" ++ octets_text (field_of a body.now)) }
     ensures size { length text.new ≤ length text.old + 18 }
 {
-    push_field(b" fac=", facility_field(a, body).as_slice(), text);
+    push_field(b" fac=", call_views(a, body).facilities.as_slice(), text);
 }
 
 /// Appends a packet on one line. A CALL has at most 128 octets of user data.

@@ -1,33 +1,17 @@
 //! Frames as text where packets are read in all their forms, and frames that LAPB modulo 8 lacks.
 ghost use Rattle.std.specs.Prelude.{◌≡◌, ◌+◌, ◌*◌, ◌≤◌, ◌==◌, ◌++◌, true, slice_index, [], Some, None, is_some};
-ghost use Rattle.std.specs.Prelude.{unwrap_or, IfSome, MatchOption, codes, decimal, length};
+ghost use Rattle.std.specs.Prelude.{unwrap_or, IfSome, MatchOption, length};
 ghost use Rattle.x25_frame.specs.Frame.{plain};
-ghost use Rattle.x25_frame.specs.Spelling.{bit};
 ghost use Rattle.x25_frame.specs.Error.{information_in};
 ghost use Rattle.x25_frame.specs.Spelling.{address_of};
 ghost use Rattle.x25_text.specs.WideFrameText.{headed_text, other_frame_text, other_head, other_information_text};
 ghost use Rattle.x25_text.specs.WideFrameText.{poll_text};
 ghost use Rattle.x25_text.specs.WideFrameText.{unnumbered_name, wide_frame_text};
-ghost use Rattle.x25_text.specs.WidePacketText.{wide_information_text};
 
-use crate::frame_text::{MOST_TEXT, push_fault, push_frame, push_supervisory};
-use crate::text::{MOST_OCTETS, ROOM, Text, bit_digit, seq_digit};
+use crate::frame_text::{MOST_TEXT, push_fault, push_frame, push_numbers, push_supervisory};
+use crate::text::{MOST_OCTETS, ROOM, Text};
 use crate::wide_packet_text::push_wide_information;
 use x25_frame::{Frame, FrameError, Role, Seq, command_address};
-
-fn push_wide_info(long_data: bool, ns: Seq, nr: Seq, p: bool, information: &[u8], text: &mut Text)
-    requires { length text.old + MOST_TEXT ≤ ROOM }
-    ensures text { text.new ≡ text.old ++ (codes "I cmd P=" ++ decimal (bit p) ++ codes " S=" ++ decimal ns.number
-        ++ codes " R=" ++ decimal nr.number ++ codes " | " ++ wide_information_text long_data information.now) }
-    ensures size { length text.new ≤ length text.old + MOST_TEXT }
-{
-    let mut characters = *b"I cmd P=_ S=_ R=_ | ";
-    characters[8] = bit_digit(p);
-    characters[12] = seq_digit(ns);
-    characters[16] = seq_digit(nr);
-    text.push(&characters);
-    push_wide_information(long_data, information, text);
-}
 
 /// Appends a frame on one line, with its packet in any form.
 ///
@@ -38,7 +22,10 @@ pub fn push_wide_frame(long_data: bool, frame: &Frame, text: &mut Text)
     ensures size { length text.new ≤ length text.old + MOST_TEXT }
 {
     match frame {
-        Frame::I { ns, nr, p, info } => push_wide_info(long_data, *ns, *nr, *p, info, text),
+        Frame::I { ns, nr, p, info } => {
+            push_numbers(*ns, *nr, *p, text);
+            push_wide_information(long_data, info, text);
+        }
         _ => push_frame(long_data, frame, text),
     }
 }

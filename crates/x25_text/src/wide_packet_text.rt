@@ -6,19 +6,18 @@ ghost use Rattle.x25_packet.specs.Block.{optional_at, plain_block, plain_fields}
 ghost use Rattle.x25_packet.specs.Form.{plain, plain_kind};
 ghost use Rattle.x25_packet.specs.Form.Spelling.{IsKind};
 ghost use Rattle.x25_packet.specs.declared.form.Forms.TheVariants.{Any};
-ghost use Rattle.x25_text.specs.PacketText.{confirmation_text, marks_text, numbers_text};
+ghost use Rattle.x25_text.specs.PacketText.{confirmation_text};
 ghost use Rattle.x25_text.specs.WidePacketText.{block_text, format_text, halves_text, kind_text};
 ghost use Rattle.x25_text.specs.WidePacketText.{optional_block_text, typed_addresses_text, typed_text};
 ghost use Rattle.x25_text.specs.WidePacketText.{wide_fields_text, wide_information_text, wide_packet_text};
 ghost use Rattle.x25_text.specs.WidePacketText.{wide_reason_text};
 
 use crate::packet_text::{
-    MOST_PACKET_TEXT, push_addresses, push_field, push_fields, push_packet, push_packet_fault,
-    push_reason,
+    MOST_PACKET_TEXT, push_addresses, push_field, push_fields, push_marks, push_packet,
+    push_packet_fault, push_reason,
 };
 use crate::text::{ROOM, Text};
-use x25_frame::Seq;
-use x25_packet::{Block, Fields, Form, Halves, Kind, decode, decode_within, longest_user};
+use x25_packet::{Block, Fields, Form, Halves, Kind, Marks, decode, decode_within, longest_user};
 
 fn push_format(a: bool, text: &mut Text)
     requires room { length text.old + 4 ≤ ROOM }
@@ -38,26 +37,6 @@ fn push_confirmation(d: bool, text: &mut Text)
     if d {
         text.push(b" D=1");
     }
-}
-
-/// Appends P(S) and P(R).
-fn push_numbers(ps: Seq, pr: Seq, text: &mut Text)
-    requires room { length text.old + 8 ≤ ROOM }
-    ensures text { text.new ≡ text.old ++ numbers_text ps.number pr.number }
-    ensures size { length text.new ≡ length text.old + 8 }
-{
-    text.push_seq(b" S=", ps);
-    text.push_seq(b" R=", pr);
-}
-
-/// Appends the more data mark and the qualifier.
-fn push_bits(m: bool, q: bool, text: &mut Text)
-    requires room { length text.old + 8 ≤ ROOM }
-    ensures text { text.new ≡ text.old ++ marks_text m q }
-    ensures size { length text.new ≡ length text.old + 8 }
-{
-    text.push_bit(b" M=", m);
-    text.push_bit(b" Q=", q);
 }
 
 fn push_wide_fields(fields: &Option<Fields>, text: &mut Text)
@@ -156,11 +135,10 @@ fn push_block(a: bool, block: &Block, text: &mut Text)
 {
     if a {
         push_typed_addresses(block, text);
-        push_wide_fields(&block.fields, text);
     } else {
         push_addresses(&block.called_halves(), &block.calling_halves(), text);
-        push_wide_fields(&block.fields, text);
     }
+    push_wide_fields(&block.fields, text);
 }
 
 fn push_optional_block(a: bool, body: &[u8], text: &mut Text)
@@ -229,10 +207,17 @@ fn push_kind(packet: &Form, text: &mut Text)
         }
         Kind::Data { m, ps, pr, user } => {
             text.push_number(b"DATA ch=", packet.channel);
-            push_numbers(*ps, *pr, text);
-            push_bits(*m, packet.bit_8, text);
-            push_confirmation(packet.d, text);
-            push_field(b" data=", user, text);
+            push_marks(
+                *ps,
+                *pr,
+                *m,
+                Marks {
+                    q: packet.bit_8,
+                    d: packet.d,
+                },
+                text,
+            );
+            text.push_octets(user);
         }
         Kind::Rr { pr } => {
             text.push_number(b"RR ch=", packet.channel);

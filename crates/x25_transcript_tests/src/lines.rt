@@ -82,7 +82,7 @@ fn sent(channel: u16, name: Stretch) -> Entry {
         channel,
         name,
         asked: Asked::Send {
-            marks: Marks::with_q(true),
+            marks: Marks { q: true, d: false },
         },
     }
 }

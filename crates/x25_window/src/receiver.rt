@@ -54,11 +54,4 @@ impl Receiver {
         };
         true
     }
-
-    /// Forgets what was taken: number 0 is awaited.
-    pub fn clear(&mut self)
-        ensures { FitsTaken self.new 0 }
-    {
-        *self = Receiver::new();
-    }
 }

@@ -17,6 +17,4 @@ fn only_the_awaited_number_is_taken(rt: HostRuntime) {
         let found = taken(&mut receiver, number);
         assert_eq!(rt; found, (false, true, false, (number + 1) % 8), "{number}");
     }
-    receiver.clear();
-    assert_eq!(rt; receiver.wanted().get(), 0);
 }

@@ -1,24 +1,15 @@
 -- How each numbered frame is answered, what the sending rule sends behind the answer, and what timer T1 asks.
-use Rattle.std.proofs.Common.{◌≡◌, ℕ, suc, zero, ◌+◌, ◌-◌, ◌*◌, ◌%◌, ◌<◌, ◌≤◌, List, [], ◌∷◌, ◌++◌, length, Bool, true, false, not, if◌then◌else◌, Some, None}
-use Rattle.std.proofs.Common.{Ok, refl, sym, ap, ◌∙◌, subst, arith, append-nil, append_assoc}
-use Rattle.std.proofs.lemmas.Bool.{lt-ltb, and_parts, not-true}
-use Rattle.x25_frame.specs.Frame.{PlainFrame, info, rr, rnr, rej, sabm, disc, dm}
-use Rattle.x25_frame.specs.Reading.{frame_of}
-use Rattle.x25_link.specs.declared.phase.Phase.{Phase}
-use Rattle.x25_link.specs.declared.phase.Phase.TheVariants.{Down, Waiting, Up, Closed}
-use Rattle.x25_link.specs.declared.phase.Reason.TheVariants.{Dm}
-use Rattle.x25_link.specs.Station.{LinkSettings, LinkStation, Side, is_up, is_busy, wanted, with_near, sends, ready, next_frame, send_next, may_send, pumped}
-use Rattle.x25_link.specs.Station.{owes_ready, finished, ended}
-use Rattle.x25_link.specs.Hearing.{LinkStep, quiet, leaves, other, is_valid, acknowledged, is_taken, takes, answers, passes_over, rejects_gap, hears_info}
-use Rattle.x25_link.specs.Hearing.{peer_is, goes_back, polls, row_of_frame}
-use Rattle.x25_link.specs.Link.{alone, closed_by, hears, declines, when_down, fires, asks_again, take_step}
-use Rattle.x25_link.specs.laws.WindowLaw.{IsOut}
+use Rattle.x25_link.proofs.Names.{◌≡◌, ℕ, suc, zero, ◌+◌, ◌-◌, ◌%◌, ◌<◌, ◌≤◌, List, [], ◌∷◌, ◌++◌, length, Bool, true, false, not, if◌then◌else◌, Some, None}
+use Rattle.x25_link.proofs.Names.{Ok, refl, sym, ap, ◌∙◌, subst, arith, append-nil, lt-ltb, and_parts, not-true, PlainFrame, info, rr, rnr, rej, sabm, disc, dm}
+use Rattle.x25_link.proofs.Names.{frame_of, Phase, Down, Up, Closed, Dm, LinkSettings, LinkStation, Side, is_up, is_busy, wanted, with_near, sends}
+use Rattle.x25_link.proofs.Names.{ready, next_frame, send_next, may_send, pumped, owes_ready, finished, ended, LinkStep, quiet, leaves, other, is_valid}
+use Rattle.x25_link.proofs.Names.{acknowledged, is_taken, takes, answers, passes_over, hears_info, peer_is, goes_back, polls, row_of_frame, alone, closed_by}
+use Rattle.std.proofs.Common.{◌*◌, append_assoc}
+use Rattle.x25_link.proofs.{EndLemmas.{true_false, open_is}, LinkLemmas.{fires_settled, fires_calm}, Names.{hears, when_down, fires, asks_again}}
+use Rattle.x25_link.{proofs.rows.WindowRows.{closed_stays, out_is_not_up}, specs.Hearing.{rejects_gap}, specs.Link.{declines, take_step}}
 use Rattle.x25_link.specs.laws.AnswerLaw.{says, AreNext, weight_of, weight_if, once_taken, busy_after, Outcome, Answers, Asks, TimerAsks, heard, goes_on_from}
 use Rattle.x25_link.specs.laws.AnswerLaw.{PollIsAnswered, FinalEndsRecovery, ReadyIsHeard, RejGoesBack, IsTakenUp, WantedIsTaken, passed_over}
-use Rattle.x25_link.specs.laws.AnswerLaw.{OtherIsPassedOver, asks, Declines, OutDeclines, DmLeavesUp}
-use Rattle.x25_link.proofs.EndLemmas.{true_false, open_is}
-use Rattle.x25_link.proofs.LinkLemmas.{fires_settled, fires_calm}
-use Rattle.x25_link.proofs.rows.WindowRows.{closed_stays, out_is_not_up}
+use Rattle.x25_link.specs.laws.{AnswerLaw.{OtherIsPassedOver, asks, Declines, OutDeclines, DmLeavesUp}, WindowLaw.{IsOut}}
 
 -- ---- what the end of a step sends
 
@@ -393,9 +384,8 @@ closed_declines frame s e = down_declines frame s e
 out_row : (c : LinkSettings) (octets : List ℕ) (p : Phase) (s : LinkStation) → IsOut p → (frame : PlainFrame) → asks frame ≡ true
     → Declines s (hears c octets (Ok frame) p (alone s))
 out_row c octets Down s out frame e = down_declines frame s e
-out_row c octets Waiting s out frame e = absurd out
-out_row c octets Up s out frame e = absurd out
 out_row c octets Closed s out frame e = closed_declines frame s e
+out_row c octets p s out frame e = absurd out
 
 pub out_declines : OutDeclines
 out_declines c octets s out frame is e =

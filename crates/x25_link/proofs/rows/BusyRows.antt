@@ -1,25 +1,12 @@
 -- What each step says of whether its station is busy, and what it doesn't send to a busy peer.
-use Rattle.std.proofs.Common.{◌≡◌, ℕ, zero, suc, ◌+◌, List, [], ◌∷◌, ◌++◌, Bool, true, false, not, if◌then◌else◌, Some, Result, Ok, Err, refl, sym, ◌∙◌, subst}
-use Rattle.std.proofs.Common.{arith}
-use Rattle.std.specs.Prelude.{◌||◌, nat_lt}
-use Rattle.std.proofs.lemmas.Bool.{ltb-false, le-ltb}
-use Rattle.x25_frame.specs.Frame.{PlainFrame, info, rr, rnr, rej, sabm, disc, ua, dm, frmr}
-use Rattle.x25_frame.specs.Reading.{frame_of}
-use Rattle.x25_frame.specs.declared.error.FrameError.{FrameError}
-use Rattle.x25_frame.specs.declared.error.FrameError.TheVariants.{Undefined, NoInfoAllowed, TooLong}
-use Rattle.x25_link.specs.declared.phase.Phase.{Phase}
-use Rattle.x25_link.specs.declared.phase.Phase.TheVariants.{Up}
-use Rattle.x25_link.specs.declared.phase.Reason.TheVariants.{Disc, Dm, FrmrSent, FrmrGot, Reset, Retries}
-use Rattle.x25_link.specs.Station.{LinkSettings, LinkStation, Side, is_busy, wanted, with_near, sends, ready, next_frame, send_next, may_send, pumped}
-use Rattle.x25_link.specs.Station.{owes_ready, finished, ended}
-use Rattle.x25_link.specs.Hearing.{LinkStep, quiet, leaves, other, is_valid, acknowledged, is_taken, takes, answers, passes_over, peer_is, goes_back, polls}
-use Rattle.x25_link.specs.Hearing.{row_of_frame, row_of}
-use Rattle.x25_link.specs.Link.{alone, hears, puts, fires, asks_again}
+use Rattle.x25_link.proofs.Names.{◌≡◌, ℕ, zero, suc, ◌+◌, List, [], ◌∷◌, ◌++◌, Bool, true, false, not, if◌then◌else◌, Some, Result, Ok, Err, refl, sym, ◌∙◌}
+use Rattle.x25_link.proofs.Names.{subst, arith, ◌||◌, nat_lt, ltb-false, le-ltb, PlainFrame, info, rr, rnr, rej, sabm, disc, ua, dm, frmr, frame_of, FrameError}
+use Rattle.x25_link.proofs.Names.{Undefined, NoInfoAllowed, TooLong, Phase, Up, Disc, Dm, FrmrSent, FrmrGot, Reset, Retries, LinkSettings, LinkStation, Side}
+use Rattle.x25_link.proofs.Names.{is_busy, wanted, with_near, sends, ready, next_frame, send_next, may_send, pumped, owes_ready, finished, ended, LinkStep}
+use Rattle.x25_link.proofs.Names.{quiet, leaves, other, is_valid, acknowledged, is_taken, takes, answers, passes_over, peer_is, goes_back, polls, row_of_frame}
+use Rattle.x25_link.proofs.{EndLemmas.{true_false, open_is}, Names.{row_of, alone, hears, puts, fires, asks_again}, rows.NoteRows.{noted_quiet, up_quiet}}
+use Rattle.x25_link.{proofs.rows.WindowRows.{up_is}, specs.laws.BusyLaw.{said_last, says_free, NoInfo, Says, TakeSaysBusy, PutSaysBusy, TimerSaysBusy}}
 use Rattle.x25_link.specs.laws.NoteLaw.{IsQuiet}
-use Rattle.x25_link.specs.laws.BusyLaw.{said_last, says_free, NoInfo, Says, TakeSaysBusy, PutSaysBusy, TimerSaysBusy}
-use Rattle.x25_link.proofs.EndLemmas.{true_false, open_is}
-use Rattle.x25_link.proofs.rows.NoteRows.{noted_quiet, up_quiet}
-use Rattle.x25_link.proofs.rows.WindowRows.{up_is}
 
 -- ---- one frame more
 

@@ -1,31 +1,16 @@
 -- What the notes of each step say of the station after it.
-use Rattle.std.proofs.Common.{length, subst, ◌≡◌, ℕ, zero, suc, ◌+◌, ◌≤◌, List, [], ◌∷◌, ◌++◌, Bool, true, false, not, if◌then◌else◌, Option, Some, None}
-use Rattle.std.proofs.Common.{option_to_list, Result, Ok, Err, refl, sym, ap, ◌∙◌, arith, append-nil}
-use Rattle.std.proofs.lemmas.Option.{none-some}
-use Rattle.std.specs.Prelude.{◌&&◌, nat_lt}
-use Rattle.std.proofs.Math.Nat.{le_trans}
-use Rattle.std.proofs.lemmas.Bool.{ltb-false, not-true, and_parts}
-use Rattle.x25_frame.specs.Frame.{PlainFrame, info, rr, rnr, rej, sabm, disc, ua, dm, frmr}
-use Rattle.x25_frame.specs.Spelling.{is_command, poll_or_final}
-use Rattle.x25_frame.specs.Reading.{frame_of}
-use Rattle.x25_frame.specs.declared.error.FrameError.{FrameError}
-use Rattle.x25_frame.specs.declared.error.FrameError.TheVariants.{Undefined, NoInfoAllowed, TooLong}
-use Rattle.x25_link.specs.declared.phase.Phase.{Phase}
-use Rattle.x25_link.specs.declared.phase.Phase.TheVariants.{Down, Waiting, Up, Closed}
-use Rattle.x25_link.specs.declared.phase.Reason.{Reason}
-use Rattle.x25_link.specs.declared.phase.Reason.TheVariants.{Disc, Dm, FrmrSent, FrmrGot, Retries, Counts, Local, Reset}
-use Rattle.x25_link.specs.declared.phase.Notes.{Notes}
-use Rattle.x25_link.specs.Outgoing.{no_packet, waits}
-use Rattle.x25_link.specs.Station.{LinkSettings, LinkStation, Side, lists_of, no_packets, fresh, is_up, is_busy, with_near, sends, ready, send_next, may_send}
-use Rattle.x25_link.specs.Station.{pumped, owes_ready, ended}
-use Rattle.x25_link.specs.Hearing.{LinkStep, quiet, leaves, other, rejects, is_valid, acknowledged, is_taken, takes, answers, passes_over, reject_of}
-use Rattle.x25_link.specs.Hearing.{hears_info, peer_is, goes_back, polls, numbered, row_of_frame, row_of}
-use Rattle.x25_link.specs.Link.{alone, closed_by, hears, puts, connects, asks_again, fires, disconnects, when_down, when_waiting, relinks}
-use Rattle.x25_link.specs.laws.SetUp.{reset_from}
+use Rattle.x25_link.proofs.Names.{length, subst, ◌≡◌, ℕ, zero, suc, ◌+◌, ◌≤◌, List, [], ◌∷◌, ◌++◌, Bool, true, false, not, if◌then◌else◌, Some, None, Result}
+use Rattle.x25_link.proofs.Names.{Ok, Err, refl, sym, ap, ◌∙◌, arith, append-nil, ◌&&◌, nat_lt, ltb-false, not-true, and_parts, PlainFrame, info, rr, rnr, rej}
+use Rattle.x25_link.proofs.Names.{sabm, disc, ua, dm, frmr, is_command, poll_or_final, frame_of, FrameError, Undefined, NoInfoAllowed, TooLong, Phase, Down}
+use Rattle.x25_link.proofs.Names.{Waiting, Up, Closed, Reason, Disc, Dm, FrmrSent, FrmrGot, Retries, Counts, Local, Reset, no_packet, waits, LinkSettings}
+use Rattle.x25_link.proofs.Names.{LinkStation, Side, fresh, is_up, is_busy, with_near, sends, ready, send_next, may_send, pumped, owes_ready, ended, LinkStep}
+use Rattle.x25_link.proofs.Names.{quiet, leaves, other, rejects, is_valid, acknowledged, is_taken, takes, answers, passes_over, reject_of, hears_info, peer_is}
+use Rattle.x25_link.proofs.Names.{goes_back, polls, numbered, row_of_frame, row_of, alone, closed_by, hears, puts, connects, asks_again, fires, disconnects}
+use Rattle.std.proofs.{Common.{Option, option_to_list}, Math.Nat.{le_trans}, lemmas.Option.{none-some}}
+use Rattle.x25_link.{proofs.EndLemmas.{true_false, none_open, ended_stays}, proofs.Names.{when_down, when_waiting}, specs.Link.{relinks}}
+use Rattle.x25_link.specs.{Station.{lists_of, no_packets}, declared.phase.Notes.{Notes}, laws.LinkLaws.{ended_lists, ended_phase}}
 use Rattle.x25_link.specs.laws.NoteLaw.{Tells, Continues, HandsUp, TakeTells, TakeContinues, TakeHandsUp, TimerTells, TimerContinues, PutTells, ConnectTells}
-use Rattle.x25_link.specs.laws.NoteLaw.{DisconnectTells, AbandonTells, RelinkTells}
-use Rattle.x25_link.specs.laws.LinkLaws.{ended_lists, ended_phase}
-use Rattle.x25_link.proofs.EndLemmas.{true_false, none_open, ended_stays}
+use Rattle.x25_link.specs.laws.{NoteLaw.{DisconnectTells, AbandonTells, RelinkTells}, SetUp.{reset_from}}
 
 none_is_some : {A : Type 0} (reason : Reason) → None ≡ Some reason → A
 none_is_some reason e = absurd (none-some reason e)

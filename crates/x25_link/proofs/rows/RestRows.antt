@@ -1,20 +1,12 @@
 -- Each step of a station says all that it may, and when a station is at rest.
-use Rattle.std.proofs.Common.{◌≡◌, ℕ, suc, zero, ◌+◌, ◌<◌, ◌≤◌, length, Bool, true, false, if◌then◌else◌, refl, sym, ap, ◌∙◌, subst, arith}
-use Rattle.std.specs.Prelude.{◌&&◌, ◌||◌, ◌==◌, nat_lt}
-use Rattle.std.proofs.lemmas.Bool.{lt-ltb, le-ltb, ltb-false, eqb-true, eq-eqb, and_parts}
-use Rattle.x25_frame.specs.Reading.{frame_of}
-use Rattle.x25_link.specs.declared.phase.Phase.{Phase}
-use Rattle.x25_link.specs.declared.phase.Phase.TheVariants.{Up}
-use Rattle.x25_link.specs.declared.phase.Reason.TheVariants.{Retries, Counts}
-use Rattle.x25_link.specs.Outgoing.{waits, is_open}
-use Rattle.x25_link.specs.Station.{LinkStation, Side, is_up, is_busy, with_near, ready, send_next, may_send, pumped, owes_ready, ended}
-use Rattle.x25_link.specs.Hearing.{LinkStep, quiet, leaves, other, acknowledged}
-use Rattle.x25_link.specs.Link.{alone, closed_by, hears, puts, fires, asks_again, connects, disconnects, timer_runs, is_idle}
+use Rattle.x25_link.proofs.Names.{◌≡◌, ℕ, suc, zero, ◌+◌, ◌<◌, ◌≤◌, length, Bool, true, false, if◌then◌else◌, refl, sym, ap, ◌∙◌, subst, arith, ◌&&◌, ◌||◌}
+use Rattle.x25_link.proofs.Names.{nat_lt, lt-ltb, le-ltb, ltb-false, eq-eqb, and_parts, frame_of, Phase, Up, Retries, Counts, waits, is_open, LinkStation, Side}
+use Rattle.x25_link.proofs.Names.{is_up, is_busy, with_near, ready, send_next, may_send, pumped, owes_ready, ended, LinkStep, quiet, leaves, other, alone}
+use Rattle.std.{proofs.lemmas.Bool.{eqb-true}, specs.Prelude.{◌==◌}}
+use Rattle.x25_link.proofs.{EndLemmas.{true_false, closed_is, ended_settled, ended_calm}, FrameCount.{Few, hears_few}}
+use Rattle.x25_link.proofs.{Names.{closed_by, hears, puts, fires, asks_again, connects, disconnects}, rows.WindowRows.{closed_stays, up_is}}
+use Rattle.x25_link.specs.{Link.{timer_runs, is_idle}, laws.RestLaw.{AllHeardIsRest, RestIsAllHeard}}
 use Rattle.x25_link.specs.laws.RestLaw.{HasSaidAll, TakeSaysAll, PutSaysAll, TimerSaysAll, ConnectSaysAll, DisconnectSaysAll, AbandonSaysAll, NoTimerIsIdle}
-use Rattle.x25_link.specs.laws.RestLaw.{AllHeardIsRest, RestIsAllHeard}
-use Rattle.x25_link.proofs.FrameCount.{Few, hears_few}
-use Rattle.x25_link.proofs.EndLemmas.{true_false, closed_is, ended_settled, ended_calm}
-use Rattle.x25_link.proofs.rows.WindowRows.{closed_stays, up_is}
 
 -- ---- V(S) is never below what is acknowledged
 
@@ -92,9 +84,7 @@ abandon_says_all c s = off_says_all c.window (leaves Counts (alone s)) refl none
 
 or_false : (a b d : Bool) → (a || (b || d)) ≡ false → (a ≡ false) × (b ≡ false) × (d ≡ false)
 or_false false false false e = (refl, refl, refl)
-or_false false false true e = true_false e
-or_false false true d e = true_false e
-or_false true b d e = true_false e
+or_false a b d e = true_false e
 
 -- nothing waits behind V(S) where the window is open
 all_sent : (k : ℕ) (s : LinkStation) → 1 ≤ k → may_send k s ≡ false → is_up s.phase ≡ true → s.recovery ≡ false → s.peer_busy ≡ false → s.outgoing.place

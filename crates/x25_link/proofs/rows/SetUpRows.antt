@@ -1,21 +1,11 @@
 -- What a station does in set-up, row by row.
-use Rattle.std.proofs.Common.{◌≡◌, ℕ, suc, ◌+◌, List, [], ◌∷◌, Bool, true, false, if◌then◌else◌, Option, Some, None, Result, Ok, Err, refl, sym, ap, ◌∙◌, subst}
-use Rattle.std.proofs.Common.{arith}
-use Rattle.std.specs.Prelude.{nat_lt}
-use Rattle.x25_frame.specs.Frame.{PlainFrame, sabm, disc, ua}
-use Rattle.x25_frame.specs.declared.error.FrameError.{FrameError}
-use Rattle.x25_link.specs.declared.phase.Phase.{Phase}
-use Rattle.x25_link.specs.declared.phase.Phase.TheVariants.{Down, Waiting, Up, Closed}
-use Rattle.x25_link.specs.declared.phase.Reason.{Reason}
-use Rattle.x25_link.specs.declared.phase.Reason.TheVariants.{Retries, Counts}
-use Rattle.x25_link.specs.Outgoing.{no_packet}
-use Rattle.x25_link.specs.Station.{LinkSettings, LinkStation, is_up, may_send, owes_ready, fresh, with_nothing}
-use Rattle.x25_link.specs.Hearing.{LinkStep, quiet, leaves, row_of}
-use Rattle.x25_link.specs.Link.{alone, closed_by, hears, goes_up, connects, fires, disconnects, asks_again, when_waiting, when_down}
+use Rattle.x25_link.proofs.Names.{◌≡◌, ℕ, suc, ◌+◌, List, [], ◌∷◌, Bool, true, false, if◌then◌else◌, Some, None, Result, Ok, refl, sym, ap, ◌∙◌, subst}
+use Rattle.x25_link.proofs.Names.{arith, nat_lt, PlainFrame, sabm, disc, ua, FrameError, Phase, Down, Waiting, Up, Reason, Retries, Counts, no_packet}
+use Rattle.x25_link.proofs.Names.{LinkSettings, LinkStation, is_up, may_send, owes_ready, fresh, with_nothing, LinkStep, quiet, leaves, row_of, alone}
+use Rattle.std.proofs.Common.{Option}
+use Rattle.x25_link.proofs.{EndLemmas.{none_open, ended_stays}, Names.{closed_by, hears, connects, fires, disconnects, asks_again, when_waiting, when_down}}
+use Rattle.x25_link.{proofs.rows.WindowRows.{closed_stays}, specs.Link.{goes_up}, specs.laws.SetUp.{DisconnectWaits, RelinkIsTwoSteps}}
 use Rattle.x25_link.specs.laws.SetUp.{Is, waiting_after, waiting_sends, waiting_up, TakesPart, reset_from, TakeWaits, TakeSetsUp, ConnectWaits, TimerWaits}
-use Rattle.x25_link.specs.laws.SetUp.{DisconnectWaits, RelinkIsTwoSteps}
-use Rattle.x25_link.proofs.EndLemmas.{none_open, ended_stays}
-use Rattle.x25_link.proofs.rows.WindowRows.{closed_stays}
 
 is_from : (k : ℕ) (near : LinkStation) (out : List PlainFrame) (down : Option Reason) (up : Bool) (step : LinkStep) → may_send k step.side.near ≡ false
     → owes_ready step.side.near ≡ false
@@ -44,8 +34,7 @@ waits_row c octets s e (Ok (sabm p)) =
 waits_row c octets s e (Ok (disc p)) =
     idle_from c.window _ _ _ _ (when_waiting (disc p) (alone s)) (ap is_up e) (record { near = refl; out = refl; packet = refl; down = refl; up = refl })
 waits_row c octets s e (Ok (ua true)) = fresh_from c.window _ _ (goes_up (alone s)) (record { near = refl; out = refl; packet = refl; down = refl; up = refl })
-waits_row c octets s e (Ok frame) = nothing_waits c.window s e
-waits_row c octets s e (Err x) = nothing_waits c.window s e
+waits_row c octets s e read = nothing_waits c.window s e
 
 pub take_waits : TakeWaits
 take_waits c octets s e read is =
@@ -58,10 +47,9 @@ sets_up_row : (c : LinkSettings) (octets : List ℕ) (s : LinkStation) (p : Bool
     → Is fresh (ua p ∷ []) (reset_from phase) true (closed_by c.window (hears c octets (Ok (sabm p)) phase (alone s)))
 sets_up_row c octets s p Down h = fresh_from c.window _ _ (when_down (sabm p) (alone s))
     (record { near = refl; out = refl; packet = refl; down = refl; up = refl })
-sets_up_row c octets s p Waiting h = absurd h
 sets_up_row c octets s p Up h = fresh_from c.window _ _ (row_of c octets (Ok (sabm p)) (alone s))
     (record { near = refl; out = refl; packet = refl; down = refl; up = refl })
-sets_up_row c octets s p Closed h = absurd h
+sets_up_row c octets s p phase h = absurd h
 
 pub take_sets_up : TakeSetsUp
 take_sets_up c octets s h p is = rw is (sets_up_row c octets s p s.phase h)

@@ -1,12 +1,7 @@
 -- The definition moves: worked examples, by computing.
-use Rattle.std.proofs.Common.{◌≡◌, [], ◌∷◌, ◌++◌, true, false, Ok, refl}
+use Rattle.x25_link.proofs.Names.{◌≡◌, [], ◌∷◌, ◌++◌, true, false, Ok, refl, info, rr, rej, dm, frmr, LinkSettings, fresh, with_nothing, pumped, LinkStep}
 use Rattle.x25_bits.specs.declared.role.Role.TheVariants.{Dte, Dce}
-use Rattle.x25_frame.specs.Frame.{info, rr, rej, dm, frmr}
-use Rattle.x25_link.specs.Station.{LinkSettings, fresh, with_nothing, pumped}
-use Rattle.x25_link.specs.Hearing.{LinkStep, row_of, row_of_frame}
-use Rattle.x25_link.specs.declared.phase.Phase.TheVariants.{Down}
-use Rattle.x25_link.specs.Link.{alone, put_step, timer_step, closed_by, when_down}
-use Rattle.x25_link.specs.laws.RestLaw.{IsAtRest}
+use Rattle.x25_link.{proofs.Names.{row_of, row_of_frame, Down, alone, closed_by, when_down}, specs.Link.{put_step, timer_step}, specs.laws.RestLaw.{IsAtRest}}
 
 -- an I frame with N(R) 1 where nothing was sent
 invalid_nr : (let s = row_of (record { role = Dce; window = 7; longest = 4099; retries = 10 }) (1 ∷ 32 ∷ []) (Ok (info 0 1 false [])) (alone fresh) in

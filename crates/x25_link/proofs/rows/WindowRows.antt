@@ -1,32 +1,18 @@
 -- Each row of the must-send table, and each call: what is heard, taken and then sent; and what is out stays out.
-use Rattle.std.proofs.Common.{◌≡◌, ℕ, ◌%◌, List, [], ◌∷◌, length, Bool, true, false, if◌then◌else◌, Some, None, Result, Ok, Err, refl, sym, ap, subst}
-use Rattle.std.proofs.Common.{length-append, arith, ◌+◌, ◌≤◌}
-use Rattle.std.specs.Prelude.{◌&&◌, nat_lt}
-use Rattle.std.proofs.lemmas.Bool.{leb-true, eqb-true, and_parts}
-use Rattle.x25_frame.specs.Frame.{PlainFrame, info, rr, rnr, rej, sabm, disc, ua, dm, frmr}
-use Rattle.x25_frame.specs.Spelling.{is_command, poll_or_final}
-use Rattle.x25_frame.specs.Reading.{frame_of}
-use Rattle.x25_frame.specs.declared.error.FrameError.{FrameError}
-use Rattle.x25_frame.specs.declared.error.FrameError.TheVariants.{Undefined, NoInfoAllowed, TooLong}
-use Rattle.x25_window.specs.code.Modulo.{resolved}
-use Rattle.x25_link.specs.declared.phase.Phase.{Phase}
-use Rattle.x25_link.specs.declared.phase.Phase.TheVariants.{Down, Waiting, Up, Closed}
-use Rattle.x25_link.specs.declared.phase.Reason.{Reason}
-use Rattle.x25_link.specs.declared.phase.Reason.TheVariants.{Retries, Disc, Dm, FrmrSent, FrmrGot, Reset, Local, Counts}
-use Rattle.x25_link.specs.Outgoing.{no_packet}
-use Rattle.x25_link.specs.Station.{LinkSettings, LinkStation, Side, is_up, with_near, sends, ready, may_send, owes_ready}
-use Rattle.x25_link.specs.Hearing.{LinkStep, quiet, leaves, other, rejects, is_valid, acknowledged, is_taken, takes, hears_info, peer_is, goes_back, polls}
-use Rattle.x25_link.specs.Hearing.{numbered, row_of_frame, row_of}
-use Rattle.x25_link.specs.Link.{alone, closed_by, hears, puts, asks_again, fires, disconnects, when_down}
-use Rattle.x25_window.specs.laws.Window.{after}
-use Rattle.x25_window.specs.laws.Window.EndStep.{Hear, Take}
-use Rattle.x25_link.specs.laws.WindowMachine.{Window, Input, hands_down, receives, nothing, rests}
-use Rattle.x25_link.specs.laws.WindowLaw.{IsRunning, brought_by, window_of}
-use Rattle.x25_link.specs.laws.WindowLaw.{after_input, MayHandUp, if_valid, ending_of_frame, ending_of, ends_in, AreLast, Stays, Ends, Follows, TakeFollows}
-use Rattle.x25_link.specs.laws.WindowLaw.{PutFollows, TimerFollows, DisconnectFollows, AbandonFollows, IsOut, sets_up, StaysOut, TakeStaysOut, ClosesOut}
-use Rattle.x25_link.specs.laws.WindowLaw.{DisconnectStaysOut}
+use Rattle.x25_link.proofs.Names.{◌≡◌, ℕ, ◌%◌, List, [], ◌∷◌, length, Bool, true, false, if◌then◌else◌, Some, None, Result, Ok, Err, refl, sym, ap, subst}
+use Rattle.x25_link.proofs.Names.{length-append, arith, ◌+◌, ◌≤◌, ◌&&◌, nat_lt, and_parts, PlainFrame, info, rr, rnr, rej, sabm, disc, ua, dm, frmr, is_command}
+use Rattle.x25_link.proofs.Names.{poll_or_final, frame_of, FrameError, Undefined, NoInfoAllowed, TooLong, Phase, Down, Waiting, Up, Closed, Reason, Retries}
+use Rattle.x25_link.proofs.Names.{Disc, Dm, FrmrSent, FrmrGot, Reset, Local, Counts, no_packet, LinkSettings, LinkStation, Side, is_up, with_near, sends, ready}
+use Rattle.x25_link.proofs.Names.{may_send, owes_ready, LinkStep, quiet, leaves, other, rejects, is_valid, acknowledged, is_taken, takes, hears_info, peer_is}
+use Rattle.x25_link.proofs.Names.{goes_back, polls, numbered, row_of_frame, row_of, alone, closed_by, hears, puts, asks_again, fires, disconnects, when_down}
+use Rattle.std.proofs.lemmas.Bool.{leb-true, eqb-true}
 use Rattle.x25_link.proofs.EndLemmas.{true_false, none_open, ended_stays}
 use Rattle.x25_link.proofs.WindowLemmas.{KeptAt, Kept, K-ready, K-ended, K-answers, K-passes_over, K-goes_back, K-polls}
+use Rattle.x25_link.specs.laws.WindowLaw.{IsRunning, brought_by, window_of, after_input, MayHandUp, if_valid, ending_of_frame, ending_of, ends_in, AreLast}
+use Rattle.x25_link.specs.laws.WindowLaw.{Stays, Ends, Follows, TakeFollows, PutFollows, TimerFollows, DisconnectFollows, AbandonFollows, IsOut, sets_up}
+use Rattle.x25_link.specs.laws.WindowLaw.{StaysOut, TakeStaysOut, ClosesOut, DisconnectStaysOut}
+use Rattle.x25_link.specs.laws.WindowMachine.{Window, Input, hands_down, receives, nothing, rests}
+use Rattle.x25_window.specs.{code.Modulo.{resolved}, laws.Window.{after}, laws.Window.EndStep.{Hear, Take}}
 
 -- ---- from a row to the step
 
@@ -217,10 +203,9 @@ abandon_follows c s running = leaves_ends c.window Counts s refl refl
 -- ---- out
 
 pub out_is_not_up : (p : Phase) → IsOut p → is_up p ≡ false
-out_is_not_up Down h = refl
 out_is_not_up Waiting h = absurd h
 out_is_not_up Up h = absurd h
-out_is_not_up Closed h = refl
+out_is_not_up p h = refl
 
 out_settled : (k : ℕ) (s : LinkStation) → IsOut s.phase → may_send k s ≡ false
 out_settled k s h = rw (out_is_not_up s.phase h) refl
@@ -246,11 +231,10 @@ hears_out : (c : LinkSettings) (octets : List ℕ) (read : Result PlainFrame Fra
     ≡ false
     → StaysOut (hears c octets read p (alone s))
 hears_out c octets (Ok frame) Down s h g e = down_out frame s g e
-hears_out c octets (Err x) Down s h g e = record { out = g; frames = tt; packet = refl; quiet = refl }
 hears_out c octets read Waiting s h g e = absurd h
 hears_out c octets read Up s h g e = absurd h
 hears_out c octets (Ok frame) Closed s h g e = declines_out frame _ s g
-hears_out c octets (Err x) Closed s h g e = record { out = g; frames = tt; packet = refl; quiet = refl }
+hears_out c octets (Err x) p s h g e = record { out = g; frames = tt; packet = refl; quiet = refl }
 
 pub take_stays_out : TakeStaysOut
 take_stays_out c octets s out e =

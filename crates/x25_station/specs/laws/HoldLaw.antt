@@ -34,7 +34,7 @@ FewJoined = (c : Settings) (v : code.Station) (s : Station) (h : ℕ) → FitsSt
 abbrev pub holds : circuit_code.Circuit → ℕ
 holds u = 1 + length u.transfer.queue.ring.items
 
--- those that wait, and one whose last packet was pulled, which is held until the next is begun
+-- those that wait, and one whose last packet was pulled, or that was dropped on its way, until the next is begun
 abbrev pub FewHeld : Type 0
 FewHeld = (v : code.Station) (k : ℕ) (u : circuit_code.Circuit) → slice_get v.layer.circuits.items k ≡ Some u
     → holds u ≤ 9

@@ -1,8 +1,4 @@
-use Rattle.std.proofs.Common.{◌≡◌, ◌+◌, ℕ, Bool, length, drop, ap, subst, ◌∙◌, arith}
-use Rattle.std.proofs.lemmas.List.{length-drop}
-use Rattle.x25_window.specs.code.Held.{Held}
-use Rattle.x25_circuit.specs.Message.{asked_in}
-use Rattle.x25_circuit.proofs.AskedLemmas.{bit_few, byte_is_bit}
+use Rattle.x25_circuit.proofs.{AskedLemmas.{bit_few, byte_is_bit}, Names.{◌≡◌, ◌+◌, ℕ, Bool, length, drop, ap, subst, ◌∙◌, arith, length-drop, asked_in, Held}}
 use Rattle.x25_circuit.proofs.NumbersLemmas.{numbers_released, released_asks}
 use Rattle.x25_circuit.proofs.transfer.acknowledge.Goals as goal
 

@@ -1,6 +1,4 @@
-use Rattle.std.proofs.Common.{ℕ, ◌+◌, ◌≤◌, ◌≡◌, List, length, drop}
-use Rattle.x25_circuit.specs.Message.{Piece, asked_in}
-use Rattle.x25_circuit.specs.code.FitsNumbers.{FitsNumbers}
+use Rattle.x25_circuit.proofs.Names.{ℕ, ◌+◌, ◌≤◌, ◌≡◌, List, length, drop, Piece, asked_in, FitsNumbers}
 use Rattle.x25_circuit.proofs.transfer.acknowledge.Given as goal
 
 -- so many packets are acknowledged, and of those that asked the others are left

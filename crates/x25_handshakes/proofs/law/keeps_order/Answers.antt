@@ -1,6 +1,5 @@
-use Rattle.x25_handshakes.specs.laws.Histories.{messages, interrupts, calls}
-use Rattle.x25_handshakes.proofs.{LayerLemmas.{Stands-run, Stands-start}, LawLemmas.{in_order}, StretchKindLemmas.{messages_handled, interrupts_handled}}
-use Rattle.x25_handshakes.proofs.{CallKindLemmas.{calls_handled}, ArrivalLemmas.{all_arrives}}
+use Rattle.x25_handshakes.proofs.{ArrivalLemmas.{all_arrives}, CallKindLemmas.{calls_handled}, LawLemmas.{in_order}, LayerLemmas.{Stands-run, Stands-start}}
+use Rattle.x25_handshakes.{proofs.StretchKindLemmas.{messages_handled, interrupts_handled}}
 use Rattle.x25_handshakes.proofs.law.keeps_order.Goals as goal
 
 pub returns : goal.returns

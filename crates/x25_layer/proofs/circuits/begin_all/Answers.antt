@@ -1,10 +1,6 @@
-use Rattle.std.proofs.Common.{ℕ, suc, ◌≡◌, ◌≤◌, ◌∙◌, List, length, sym, subst, ap, arith}
-use Rattle.std.proofs.lemmas.Option.{slice_get-get_or}
-use Rattle.x25_circuit.specs.declared.circuit.Circuit as circuit_code
-use Rattle.x25_circuit.specs.Circuit.{Circuit, forgotten}
-use Rattle.x25_layer.specs.Layer.{at_rest}
-use Rattle.x25_layer.specs.code.FitsLayer.{FitsCircuits}
+use Rattle.x25_layer.proofs.Names.{ℕ, suc, ◌≡◌, ◌≤◌, ◌∙◌, List, length, sym, subst, ap, arith, slice_get-get_or, Circuit, forgotten, at_rest, FitsCircuits}
 use Rattle.x25_layer.proofs.FitLemmas.{changed_none, changed_more, changed_all, written_back}
+use Rattle.x25_circuit.specs.declared.circuit.Circuit as circuit_code
 use Rattle.x25_layer.proofs.circuits.begin_all.Goals as goal
 
 pub loop-circuit-init : goal.loop-circuit-init

@@ -1,8 +1,4 @@
-use Rattle.std.proofs.Common.{ℕ}
-use Rattle.x25_circuit.specs.Circuit.{Circuit}
-use Rattle.x25_layer.specs.Layer.{LayerSettings, at_rest}
-use Rattle.x25_layer.specs.code.FitsLayer.{FitsCircuits}
-use Rattle.x25_layer.proofs.FitLemmas.{ChangedBelow}
+use Rattle.x25_layer.proofs.{FitLemmas.{ChangedBelow}, Names.{ℕ, Circuit, LayerSettings, at_rest, FitsCircuits}}
 use Rattle.x25_layer.proofs.circuits.begin_all.Given as goal
 
 abbrev pub invariant-loop-circuit : goal.invariant-loop-circuit

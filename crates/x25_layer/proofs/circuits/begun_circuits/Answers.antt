@@ -1,9 +1,6 @@
-use Rattle.std.proofs.Common.{◌≡◌, ◌+◌, List, vec_len, vec_capacity, arith, sym, subst}
-use Rattle.x25_circuit.specs.declared.circuit.Circuit as circuit_code
-use Rattle.x25_layer.specs.Layer.{at_rest, LayerSettings}
-use Rattle.x25_layer.specs.Ranges.{two_way}
-use Rattle.x25_layer.specs.code.FitsLayer.{FitsCircuits}
+use Rattle.x25_layer.proofs.Names.{◌≡◌, ◌+◌, List, vec_len, vec_capacity, arith, sym, subst, at_rest, LayerSettings, two_way, FitsCircuits}
 use Rattle.x25_layer.proofs.FitLemmas.{fits_push}
+use Rattle.x25_circuit.specs.declared.circuit.Circuit as circuit_code
 use Rattle.x25_layer.proofs.circuits.begun_circuits.Goals as goal
 
 pub loop-preserved : goal.loop-preserved

@@ -1,7 +1,4 @@
-use Rattle.std.proofs.Common.{◌≡◌, vec_len, vec_capacity}
-use Rattle.x25_layer.specs.Layer.{at_rest}
-use Rattle.x25_layer.specs.Ranges.{two_way}
-use Rattle.x25_layer.specs.code.FitsLayer.{FitsCircuits}
+use Rattle.x25_layer.proofs.Names.{◌≡◌, vec_len, vec_capacity, at_rest, two_way, FitsCircuits}
 use Rattle.x25_layer.proofs.circuits.begun_circuits.Given as goal
 
 abbrev pub invariant-loop : goal.invariant-loop

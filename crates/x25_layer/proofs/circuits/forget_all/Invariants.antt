@@ -1,8 +1,4 @@
-use Rattle.std.proofs.Common.{ℕ}
-use Rattle.x25_circuit.specs.Circuit.{Circuit, forgotten}
-use Rattle.x25_layer.specs.Layer.{LayerSettings}
-use Rattle.x25_layer.specs.code.FitsLayer.{FitsCircuits}
-use Rattle.x25_layer.proofs.FitLemmas.{ChangedBelow}
+use Rattle.x25_layer.proofs.{FitLemmas.{ChangedBelow}, Names.{ℕ, Circuit, forgotten, LayerSettings, FitsCircuits}}
 use Rattle.x25_layer.proofs.circuits.forget_all.Given as goal
 
 abbrev pub invariant-loop-circuit : goal.invariant-loop-circuit

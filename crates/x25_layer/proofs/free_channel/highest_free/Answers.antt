@@ -1,6 +1,4 @@
-use Rattle.std.proofs.Common.{◌≡◌, ◌-◌, ◌∙◌, ℕ, sym, ap, true, false, arith}
-use Rattle.x25_layer.specs.Calls.{highest_free}
-use Rattle.x25_layer.proofs.FreeLemmas.{freed, highest_at}
+use Rattle.x25_layer.proofs.{FreeLemmas.{freed, highest_at}, Names.{◌≡◌, ◌-◌, ◌∙◌, ℕ, sym, ap, true, false, arith, highest_free}}
 use Rattle.x25_layer.proofs.free_channel.highest_free.Goals as goal
 
 pub returns-then-is_free-clause-value : goal.returns-then-is_free-clause-value

@@ -1,8 +1,4 @@
-use Rattle.std.proofs.Common.{◌≡◌, ◌≤◌, ℕ, length}
-use Rattle.x25_circuit.specs.Circuit.{Circuit}
-use Rattle.x25_layer.specs.Layer.{LayerSettings}
-use Rattle.x25_layer.specs.Calls.{highest_free}
-use Rattle.x25_layer.specs.code.FitsLayer.{FitsCircuits}
+use Rattle.x25_layer.proofs.Names.{◌≡◌, ◌≤◌, ℕ, length, Circuit, highest_free, LayerSettings, FitsCircuits}
 use Rattle.x25_layer.proofs.free_channel.highest_free.Given as goal
 
 -- those above a channel aren't free

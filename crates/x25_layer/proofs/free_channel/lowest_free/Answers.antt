@@ -1,6 +1,4 @@
-use Rattle.std.proofs.Common.{◌≡◌, ◌+◌, ◌∙◌, ℕ, length, sym, ap, arith}
-use Rattle.x25_layer.specs.Calls.{lowest_free}
-use Rattle.x25_layer.proofs.FreeLemmas.{freed, lowest_none, lowest_some}
+use Rattle.x25_layer.proofs.{FreeLemmas.{freed, lowest_none, lowest_some}, Names.{◌≡◌, ◌+◌, ◌∙◌, ℕ, length, sym, ap, arith, lowest_free}}
 use Rattle.x25_layer.proofs.free_channel.lowest_free.Goals as goal
 
 pub returns-then-is_free-clause-value : goal.returns-then-is_free-clause-value

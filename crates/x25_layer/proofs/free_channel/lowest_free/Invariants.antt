@@ -1,8 +1,4 @@
-use Rattle.std.proofs.Common.{◌≡◌, ℕ, None}
-use Rattle.x25_circuit.specs.Circuit.{Circuit}
-use Rattle.x25_layer.specs.Layer.{LayerSettings}
-use Rattle.x25_layer.specs.Calls.{lowest_free}
-use Rattle.x25_layer.specs.code.FitsLayer.{FitsCircuits}
+use Rattle.x25_layer.proofs.Names.{◌≡◌, ℕ, None, Circuit, lowest_free, LayerSettings, FitsCircuits}
 use Rattle.x25_layer.proofs.free_channel.lowest_free.Given as goal
 
 abbrev pub invariant-loop-circuit : goal.invariant-loop-circuit

@@ -1,9 +1,5 @@
-use Rattle.std.proofs.Common.{◌≡◌, ℕ, ◌<◌, Some, false, slice_get}
+use Rattle.x25_layer.proofs.Names.{◌≡◌, ℕ, ◌<◌, Some, false, slice_get, Circuit, HasCountsLeft, LayerSettings, FitsCircuits, full_up_to}
 use Rattle.x25_circuit.specs.declared.circuit.Circuit as circuit_code
-use Rattle.x25_circuit.specs.Circuit.{Circuit}
-use Rattle.x25_layer.specs.Layer.{LayerSettings}
-use Rattle.x25_layer.specs.code.FitsLayer.{FitsCircuits, full_up_to}
-use Rattle.x25_layer.specs.Full.{HasCountsLeft}
 use Rattle.x25_layer.proofs.full.any_full.Given as goal
 
 -- no count of the circuits so far is at its most

@@ -1,10 +1,5 @@
-use Rattle.std.proofs.Common.{Bool}
-use Rattle.x25_layer.specs.declared.ranges.Ranges.{Ranges}
-use Rattle.x25_layer.specs.laws.Law.{Always}
-use Rattle.x25_layer.specs.laws.Acknowledged.{AcknowledgedAreHandedUp}
+use Rattle.x25_layer.proofs.{AcknowledgedLemmas.{always_acknowledged}, ApartLemmas.{always_apart}, Names.{Bool, Ranges, AcknowledgedAreHandedUp, Always}}
 use Rattle.x25_layer.proofs.RunLemmas.{Premises}
-use Rattle.x25_layer.proofs.ApartLemmas.{always_apart}
-use Rattle.x25_layer.proofs.AcknowledgedLemmas.{always_acknowledged}
 use Rattle.x25_layer.proofs.law.acknowledged_are_handed_up.Goals as goal
 
 -- the nested handshakes, and packet sizes and windows, by their contracts

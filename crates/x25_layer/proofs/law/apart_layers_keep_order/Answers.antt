@@ -1,12 +1,5 @@
-use Rattle.std.proofs.Common.{Bool}
-use Rattle.x25_layer.specs.declared.ranges.Ranges.{Ranges}
-use Rattle.x25_layer.specs.laws.TwoLayers.{TwoLayers}
-use Rattle.x25_layer.specs.laws.Law.{Always, IsQuietWorld, IsLawfulWorld, ArrivesAll, KeepsOrder}
-use Rattle.x25_layer.specs.laws.NameLaw.{NamesAreCounted, NoClearComesInP1}
-use Rattle.x25_layer.specs.laws.Apart.{AlwaysApart}
-use Rattle.x25_layer.specs.laws.ApartLaw.{IsOverLinks}
-use Rattle.x25_layer.proofs.ApartLemmas.{apart_is_over_links, always_apart}
-use Rattle.x25_layer.proofs.FirstLemmas.{restarts_first}
+use Rattle.x25_layer.proofs.Names.{Bool, Ranges, AlwaysApart, IsOverLinks, Always, IsQuietWorld, IsLawfulWorld, ArrivesAll, KeepsOrder, NamesAreCounted}
+use Rattle.x25_layer.proofs.{ApartLemmas.{apart_is_over_links, always_apart}, FirstLemmas.{restarts_first}, Names.{NoClearComesInP1, TwoLayers}}
 use Rattle.x25_layer.proofs.law.apart_layers_keep_order.Goals as goal
 
 over_links : goal.After-names_are_told → (long_data : Bool) (channels : Ranges) → IsOverLinks long_data channels

@@ -1,5 +1,4 @@
-use Rattle.x25_layer.proofs.RoundLemmas.{calls_run, hears_run}
-use Rattle.x25_layer.proofs.SettleLemmas.{rounds_settle, rounds_behind, rounds_at_end, comes_up_alone}
+use Rattle.x25_layer.proofs.{RoundLemmas.{calls_run, hears_run}, SettleLemmas.{rounds_settle, rounds_behind, rounds_at_end, comes_up_alone}}
 use Rattle.x25_layer.proofs.law.calls_are_runs.Goals as goal
 
 pub returns : goal.returns

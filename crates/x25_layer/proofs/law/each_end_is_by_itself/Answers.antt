@@ -1,5 +1,4 @@
-use Rattle.x25_layer.proofs.ApartLemmas.{own_moves_decide, events_run_on, stays_down}
-use Rattle.x25_layer.proofs.FirstLemmas.{begins_alone}
+use Rattle.x25_layer.proofs.{ApartLemmas.{own_moves_decide, events_run_on, stays_down}, FirstLemmas.{begins_alone}}
 use Rattle.x25_layer.proofs.law.each_end_is_by_itself.Goals as goal
 
 pub returns : goal.returns

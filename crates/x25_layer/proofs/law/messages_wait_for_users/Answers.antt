@@ -1,11 +1,6 @@
-use Rattle.std.proofs.Common.{Bool}
-use Rattle.x25_layer.specs.declared.ranges.Ranges.{Ranges}
-use Rattle.x25_layer.specs.laws.Law.{Always}
-use Rattle.x25_layer.specs.laws.WaitLaw.{ClosedKeepNone, NoneOpenInRestart, WaitForUsersAlone}
-use Rattle.x25_layer.proofs.RunLemmas.{Premises}
-use Rattle.x25_layer.proofs.LeftLemmas.{rounds_leave_none, still_pulls_none}
+use Rattle.x25_layer.proofs.{ApartLemmas.{always_apart}, LeftLemmas.{rounds_leave_none, still_pulls_none}}
+use Rattle.x25_layer.proofs.{Names.{Bool, Ranges, Always, ClosedKeepNone, NoneOpenInRestart, WaitForUsersAlone}, RunLemmas.{Premises}}
 use Rattle.x25_layer.proofs.WaitLemmas.{always_closed, always_shut, always_waits}
-use Rattle.x25_layer.proofs.ApartLemmas.{always_apart}
 use Rattle.x25_layer.proofs.law.messages_wait_for_users.Goals as goal
 
 -- the nested handshakes, and packet sizes and windows, by their contracts

@@ -1,6 +1,4 @@
-use Rattle.x25_layer.proofs.RunLemmas.{Premises}
-use Rattle.x25_layer.proofs.ClearLemmas.{never_in_p1}
-use Rattle.x25_layer.proofs.CountLemmas.{always_counted}
+use Rattle.x25_layer.proofs.{ClearLemmas.{never_in_p1}, CountLemmas.{always_counted}, RunLemmas.{Premises}}
 use Rattle.x25_layer.proofs.law.names_are_told.Goals as goal
 
 -- the nested handshakes, and packet sizes and windows, by their contracts

@@ -1,5 +1,4 @@
-use Rattle.x25_layer.proofs.RunLemmas.{Premises}
-use Rattle.x25_layer.proofs.LawLemmas.{always_in_order, always_quiet, always_lawful, always_arrives}
+use Rattle.x25_layer.proofs.{LawLemmas.{always_in_order, always_quiet, always_lawful, always_arrives}, RunLemmas.{Premises}}
 use Rattle.x25_layer.proofs.law.two_layers_keep_order.Goals as goal
 
 -- the nested handshakes, and packet sizes and windows, by their contracts

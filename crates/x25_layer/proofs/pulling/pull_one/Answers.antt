@@ -1,7 +1,4 @@
-use Rattle.std.proofs.Common.{rules, sym, ap, subst}
-use Rattle.x25_circuit.specs.Calling.{Pulled}
-use Rattle.x25_circuit.specs.code.FitsCircuit.{FitsCircuit}
-use Rattle.x25_layer.specs.Layer.{packet_on}
+use Rattle.x25_layer.proofs.Names.{rules, sym, ap, subst, Pulled, FitsCircuit, packet_on}
 use Rattle.x25_layer.proofs.pulling.pull_one.Goals as goal
 
 pub returns-then-waits-eq0-clause-pulls : goal.returns-then-waits-eq0-clause-pulls

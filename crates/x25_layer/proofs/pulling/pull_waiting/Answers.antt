@@ -1,8 +1,4 @@
-use Rattle.std.proofs.Common.{rules, ◌∙◌, sym, ap, subst, Option, true}
-use Rattle.x25_packet.specs.Packet.{PlainPacket}
-use Rattle.x25_packet.specs.Spelling.{moved_to, spelling_of}
-use Rattle.x25_layer.specs.Layer.{packet_on}
-use Rattle.x25_layer.specs.code.Pulling.{IsPut}
+use Rattle.x25_layer.proofs.Names.{rules, ◌∙◌, sym, ap, subst, Option, true, packet_on, IsPut, PlainPacket, moved_to, spelling_of}
 use Rattle.x25_layer.proofs.pulling.pull_waiting.Goals as goal
 
 pub returns-in_default-clause-pulls : goal.returns-in_default-clause-pulls

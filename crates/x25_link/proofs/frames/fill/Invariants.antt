@@ -1,4 +1,4 @@
-use Rattle.std.proofs.Common.{◌≡◌, length, vec_capacity}
+use Rattle.x25_link.proofs.Names.{◌≡◌, length, vec_capacity}
 use Rattle.std.specs.List.{All}
 use Rattle.x25_link.proofs.frames.fill.Given as goal
 

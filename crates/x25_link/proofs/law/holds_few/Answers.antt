@@ -1,5 +1,4 @@
-use Rattle.x25_link.proofs.LinkLemmas.{few_wait, few_stand, window_is_small}
-use Rattle.x25_link.proofs.FrameCount.{take_sends_few, put_sends_one}
+use Rattle.x25_link.proofs.{FrameCount.{take_sends_few, put_sends_one}, LinkLemmas.{few_wait, few_stand, window_is_small}}
 use Rattle.x25_link.proofs.law.holds_few.Goals as goal
 
 pub returns : goal.returns

@@ -1,4 +1,5 @@
-use Rattle.std.proofs.Common.{◌≡◌, vec_len, vec_capacity}
+use Rattle.x25_link.proofs.Names.{◌≡◌, vec_capacity}
+use Rattle.std.proofs.Common.{vec_len}
 use Rattle.x25_link.proofs.places.fill.Given as goal
 
 abbrev pub invariant-loop-place : goal.invariant-loop-place

@@ -1,19 +1,23 @@
-use Rattle.std.proofs.Common.{arith}
-use Rattle.x25_packet.proofs.DigitLemmas.{no_pairs, all_digits, no_filler, a_filler}
+use Rattle.std.proofs.Common.{◌≡◌, ◌/◌, Bool, arith, false, get_or, refl, rules, sym, true}
+use Rattle.std.proofs.lemmas.Grind.{common_steps}
+use Rattle.std.proofs.lemmas.List.Sums.{list_all-from_AllPass}
+use Rattle.std.specs.List.{list_all}
+use Rattle.x25_packet.specs.Digits.{is_pair}
+use Rattle.x25_packet.proofs.DigitLemmas.{digits_held, none_held}
+use Rattle.x25_packet.proofs.digits.hold_digits.Goals.{After-all-are_digits}
 use Rattle.x25_packet.proofs.digits.hold_digits.Goals as goal
 
-pub returns-then-not-are_digit_pairs : goal.returns-then-not-are_digit_pairs
-returns-then-not-are_digit_pairs c =
-    no_pairs c.args.count c.args.octets.now c.are_digit_pairs.result c.are_digit_pairs.ensures c.if-not-are_digit_pairs.true
+pairs : (c : After-all-are_digits) (b : Bool) → c.all-are_digits.result ≡ b → b ≡ list_all is_pair c.args.octets.now
+pairs c true is = sym (list_all-from_AllPass is_pair c.args.octets.now (search rules))
+pairs c false is = grind (arith, common_steps)
 
-pub returns-then-count-eq0 : goal.returns-then-count-eq0
-returns-then-count-eq0 c = no_filler c.args.count c.args.octets.now (omega (arith, c.requires, c.if-count-eq0.true))
-    (all_digits c.args.octets.now c.are_digit_pairs.result c.are_digit_pairs.ensures c.if-not-are_digit_pairs.false)
-
-pub returns-then-octets-count : goal.returns-then-octets-count
-returns-then-octets-count c = no_filler c.args.count c.args.octets.now (omega (arith, c.if-octets-count.true))
-    (all_digits c.args.octets.now c.are_digit_pairs.result c.are_digit_pairs.ensures c.if-not-are_digit_pairs.false)
+pub returns-then-not-are_digits : goal.returns-then-not-are_digits
+returns-then-not-are_digits c =
+    none_held c.args.count c.args.octets.now c.all-are_digits.result (pairs (goal.at.returns-then-not-are_digits c).After-all-are_digits _ refl)
+    c.if-not-are_digits.true
 
 pub returns : goal.returns
-returns c = a_filler c.args.count c.args.octets.now (omega (arith, c.requires, c.if-octets-count.false)) c.if-count-eq0.false
-    (all_digits c.args.octets.now c.are_digit_pairs.result c.are_digit_pairs.ensures c.if-not-are_digit_pairs.false)
+returns c =
+    let last : c.unwrap_or.result ≡ get_or c.args.octets.now (c.args.count / 2) 0 = search rules in
+    digits_held c.args.count c.args.octets.now c.all-are_digits.result c.unwrap_or.result (pairs (goal.at.returns c).After-all-are_digits _ refl)
+    c.if-not-are_digits.false c.requires last

@@ -1,13 +1,6 @@
-use Rattle.std.proofs.Common.{◌≡◌, ℕ, List, take, Some, ap, sym, subst, ◌∙◌}
-use Rattle.std.proofs.lemmas.List.{take_all}
-use Rattle.x25_circuit.specs.declared.params.Params.{Params}
+use Rattle.x25_station.proofs.Names.{◌≡◌, ℕ, List, take, Some, ap, sym, subst, ◌∙◌, take_all, Calls, Accepts, Sends, Interrupts, in_brief, plain_request}
 use Rattle.x25_circuit.specs.declared.request.Request.{Request}
-use Rattle.x25_circuit.specs.Calling.{Calls, Accepts, Sends, Interrupts}
-use Rattle.x25_circuit.specs.Params.{in_brief}
-use Rattle.x25_circuit.specs.Request.{plain_request}
-use Rattle.x25_layer.specs.laws.TwoLayers.{shown}
-use Rattle.x25_station.specs.code.Entries.{IsBrief}
-use Rattle.x25_station.proofs.ShownLemmas.{in_force}
+use Rattle.x25_station.proofs.{Names.{Params, shown, IsBrief}, ShownLemmas.{in_force}}
 use Rattle.x25_station.proofs.asking.asked_of.Goals as goal
 
 call_is : (a b k d u v : List ℕ) (p q : Params) → a ≡ b → k ≡ d → u ≡ v → p ≡ q → Calls a k u (in_brief p) ≡ Calls b d v (in_brief q)

@@ -1,14 +1,6 @@
-use Rattle.std.proofs.Common.{[], ◌∷◌, ◌++◌, List, map, ap, ap₂, ◌∙◌}
-use Rattle.x25_circuit.specs.Calling.{Request}
-use Rattle.x25_handshakes.specs.laws.Names.{Name}
-use Rattle.x25_layer.specs.laws.Transcript.{Asked, name_of}
-use Rattle.x25_station.specs.declared.entry.Entry.{Entry}
+use Rattle.x25_station.proofs.Names.{[], ◌∷◌, ◌++◌, List, map, ap, ap₂, ◌∙◌, Request, Name, Asked, name_of, of_channel, ShownEntries, plain_entry, plain_name}
+use Rattle.x25_station.proofs.{LentLemmas.{none_listed}, Names.{Entry}, ToldLemmas.{named_or}}
 use Rattle.x25_station.specs.declared.entry.Entry.TheVariants as code
-use Rattle.x25_station.specs.Entry.{of_channel}
-use Rattle.x25_station.specs.code.Entries.{ShownEntries}
-use Rattle.x25_station.specs.code.PlainEntry.{plain_entry, plain_name}
-use Rattle.x25_station.proofs.LentLemmas.{none_listed}
-use Rattle.x25_station.proofs.ToldLemmas.{named_or}
 use Rattle.x25_station.proofs.asking.enter_asked.Goals as goal
 
 pub returns : goal.returns

@@ -1,9 +1,7 @@
-use Rattle.std.proofs.Common.{◌∙◌, sym, subst}
-use Rattle.x25_station.specs.code.Confirming.{Stands}
-use Rattle.x25_station.specs.code.PlainEntry.{plain_name}
+use Rattle.x25_station.proofs.Names.{◌∙◌, sym, subst, Stands, plain_name}
 use Rattle.x25_station.proofs.ConfirmLemmas.{unnamed_behind, ended_behind, other_behind, less_behind, name_behind, names_agree, names_differ, told_behind}
-use Rattle.x25_station.proofs.confirming.confirmed.Goals as goal
 use Rattle.x25_station.proofs.confirming.confirmed.Goals.{then-ne-via-then-ne, then-ne-via-else-ne+then-not-is_open}
+use Rattle.x25_station.proofs.confirming.confirmed.Goals as goal
 
 pub returns-in_default-name-clause-tells : goal.returns-in_default-name-clause-tells
 returns-in_default-name-clause-tells c = λ c' h l next stands fits.

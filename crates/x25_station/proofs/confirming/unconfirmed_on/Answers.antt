@@ -1,8 +1,7 @@
-use Rattle.std.proofs.Common.{◌∙◌, Some, None, ap, sym, refl}
-use Rattle.std.specs.Option.{unwrap_or}
+use Rattle.x25_station.proofs.Names.{◌∙◌, Some, None, ap, sym, refl, unwrap_or}
 use Rattle.x25_station.proofs.ConfirmLemmas.{closed_before, none_before, unnamed_closed, open_name, open_count, stands_by}
-use Rattle.x25_station.proofs.confirming.unconfirmed_on.Goals as goal
 use Rattle.x25_station.proofs.confirming.unconfirmed_on.Goals.{then-count-eq0-via-then-count-eq0, then-count-eq0-via-else-count-eq0+then-not-is_open}
+use Rattle.x25_station.proofs.confirming.unconfirmed_on.Goals as goal
 
 pub returns-then-count-eq0 : goal.returns-then-count-eq0
 returns-then-count-eq0 c = λ c' l fits.

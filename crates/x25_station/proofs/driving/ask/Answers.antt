@@ -1,9 +1,4 @@
-use Rattle.std.proofs.Common.{◌≡◌, []}
-use Rattle.x25_circuit.specs.Request.{plain_request}
-use Rattle.x25_layer.specs.Calls.{Asks}
-use Rattle.x25_given.specs.Given.{given_with}
-use Rattle.x25_station.proofs.DriveLemmas.{takes_it}
-use Rattle.x25_station.proofs.WithLemmas.{drove_asked, drove_asked_not, puts_asked}
+use Rattle.x25_station.proofs.{DriveLemmas.{takes_it}, Names.{◌≡◌, [], plain_request, given_with, Asks}, WithLemmas.{drove_asked, drove_asked_not, puts_asked}}
 use Rattle.x25_station.proofs.driving.ask.Goals as goal
 
 pub drive_with-requires-clause-free : goal.drive_with-requires-clause-free

@@ -1,8 +1,4 @@
-use Rattle.std.proofs.Common.{◌≡◌, []}
-use Rattle.x25_layer.specs.Calls.{Dials}
-use Rattle.x25_given.specs.Given.{given_with}
-use Rattle.x25_station.proofs.DriveLemmas.{takes_it}
-use Rattle.x25_station.proofs.WithLemmas.{drove_asked, drove_asked_not, puts_dialled}
+use Rattle.x25_station.proofs.{DriveLemmas.{takes_it}, Names.{◌≡◌, [], given_with, Dials}, WithLemmas.{drove_asked, drove_asked_not, puts_dialled}}
 use Rattle.x25_station.proofs.driving.call.Goals as goal
 
 pub drive_with-requires-clause-free : goal.drive_with-requires-clause-free

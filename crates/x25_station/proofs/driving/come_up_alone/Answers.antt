@@ -1,12 +1,5 @@
-use Rattle.std.proofs.Common.{◌∙◌, ap, sym, subst, option_to_list}
-use Rattle.x25_link.specs.code.FitsLink.{LinkState, FitsWhole, after_put_to}
-use Rattle.x25_layer.specs.Layer.{goes_up}
-use Rattle.x25_layer.specs.laws.Rounds.{Putting}
-use Rattle.x25_layer.specs.code.FitsLayer.{FitsLayer}
-use Rattle.x25_station.specs.Config.{link_settings, layer_settings}
-use Rattle.x25_station.specs.Receiving.{kept_of}
-use Rattle.x25_station.specs.Station.{all_put, view_of}
-use Rattle.x25_station.proofs.LinkLemmas.{on_ok, put_by_put}
+use Rattle.x25_station.proofs.Names.{◌∙◌, ap, sym, subst, option_to_list, goes_up, FitsLayer, Putting, LinkState, FitsWhole, after_put_to, link_settings}
+use Rattle.x25_station.proofs.{LinkLemmas.{on_ok, put_by_put}, Names.{layer_settings, kept_of, all_put, view_of}}
 use Rattle.x25_station.proofs.driving.come_up_alone.Goals as goal
 
 pub returns : goal.returns

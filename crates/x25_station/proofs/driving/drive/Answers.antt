@@ -1,13 +1,7 @@
-use Rattle.std.proofs.Common.{◌≡◌, ◌∙◌, List, ℕ, Option, option_to_list, sym, subst}
-use Rattle.x25_packet.specs.Packet.{PlainPacket}
-use Rattle.x25_link.specs.code.FitsLink.{ShownLink, LinkState, FitsWhole, after_put_to}
-use Rattle.x25_layer.specs.code.Answering.{spelled}
-use Rattle.x25_layer.specs.laws.Rounds.{begin}
-use Rattle.x25_station.specs.code.OverLink.{after_all}
-use Rattle.x25_station.proofs.DriveLemmas.{some_put, none_put}
-use Rattle.x25_station.proofs.LinkLemmas.{on_ok}
-use Rattle.x25_station.proofs.driving.drive.Goals as goal
+use Rattle.x25_station.proofs.Names.{◌≡◌, ◌∙◌, List, ℕ, Option, option_to_list, sym, subst, spelled, begin, ShownLink, LinkState, FitsWhole, after_put_to}
+use Rattle.x25_station.proofs.{DriveLemmas.{some_put, none_put}, LinkLemmas.{on_ok}, Names.{PlainPacket, after_all}}
 use Rattle.x25_station.proofs.driving.drive.Goals.{then-not-is_empty, else-not-is_empty}
+use Rattle.x25_station.proofs.driving.drive.Goals as goal
 
 behind : (c : goal.After-pull_all) (packet : Option PlainPacket) (x : LinkState) → c.args.layer.now.sheet ≡ spelled packet
     → FitsWhole c.args.link.now x → FitsWhole c.if-not-is_empty.link (after_all x (option_to_list packet))

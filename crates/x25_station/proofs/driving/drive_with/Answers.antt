@@ -1,13 +1,7 @@
-use Rattle.std.proofs.Common.{ℕ, List, length, ◌==◌, None, refl, sym, ap, subst, ◌∙◌}
-use Rattle.x25_link.specs.code.FitsLink.{LinkState, FitsWhole, after_put_to}
-use Rattle.x25_layer.specs.laws.Rounds.{Putting, begin}
-use Rattle.x25_layer.specs.code.FitsLayer.{FitsLayer}
-use Rattle.x25_packet.specs.Spelling.{spelling_of}
-use Rattle.x25_given.specs.Given.{PlainGiven, given_with, plain_given}
-use Rattle.x25_given.specs.Writing.{write}
-use Rattle.x25_station.specs.code.OverLink.{all_with, seen_at, seen_with}
-use Rattle.x25_station.proofs.DriveLemmas.{rounds_go_behind, none_spelled, free_for}
-use Rattle.x25_station.proofs.GivingLemmas.{none_of}
+use Rattle.x25_station.proofs.Names.{ℕ, List, length, ◌==◌, None, refl, sym, ap, subst, ◌∙◌, PlainGiven, given_with, write, FitsLayer, Putting, begin}
+use Rattle.x25_station.proofs.Names.{LinkState, FitsWhole, after_put_to, spelling_of, all_with, seen_at, seen_with}
+use Rattle.x25_given.specs.Given.{plain_given}
+use Rattle.x25_station.proofs.{DriveLemmas.{rounds_go_behind, none_spelled, free_for}, GivingLemmas.{none_of}}
 use Rattle.x25_station.proofs.WithLemmas.{layer_with, layer_without, link_with, link_without}
 use Rattle.x25_station.proofs.driving.drive_with.Goals as goal
 

@@ -1,11 +1,6 @@
-use Rattle.std.proofs.Common.{◌≡◌, ◌∙◌, ℕ, ◌-◌, ◌+◌, ◌≤◌, List, sym, subst, arith}
-use Rattle.x25_link.specs.code.FitsLink.{FitsWhole, after_put_to}
-use Rattle.x25_link.specs.laws.LinkLaws.{acked_low}
-use Rattle.x25_layer.specs.laws.Rounds.{Putting}
-use Rattle.x25_layer.specs.code.FitsLayer.{FitsLayer}
-use Rattle.x25_station.specs.code.OverLink.{after_all}
+use Rattle.x25_station.proofs.Names.{◌≡◌, ◌∙◌, ℕ, ◌-◌, ◌+◌, ◌≤◌, List, sym, subst, arith, FitsLayer, Putting, FitsWhole, after_put_to, after_all}
 use Rattle.x25_station.proofs.LinkLemmas.{on_ok}
-use Rattle.x25_station.proofs.RoundLemmas.{begins, next_round, ends_here, ends_shut, one_more, room_when, shut_when, shut_after}
+use Rattle.x25_station.proofs.RoundLemmas.{next_round, ends_here, ends_shut, one_more, room_when, shut_when, shut_after}
 use Rattle.x25_station.proofs.driving.pull_all.Goals as goal
 
 pub loop-left-preserved-in-Some : goal.loop-left-preserved-in-Some

@@ -1,10 +1,4 @@
-use Rattle.std.proofs.Common.{◌≡◌, ℕ, ◌+◌, ◌*◌, ◌≤◌, true}
-use Rattle.x25_link.specs.code.FitsLink.{LinkState, FitsWhole, limit_of, up_of}
-use Rattle.x25_link.specs.code.Frames.{places_left}
-use Rattle.x25_layer.specs.Layer.{LayerSettings}
-use Rattle.x25_layer.specs.laws.Rounds.{Putting}
-use Rattle.x25_layer.specs.code.FitsLayer.{FitsLayer}
-use Rattle.x25_station.specs.code.OverLink.{after_all}
+use Rattle.x25_station.proofs.Names.{◌≡◌, ◌+◌, ◌*◌, ◌≤◌, true, LayerSettings, FitsLayer, Putting, LinkState, FitsWhole, limit_of, up_of, places_left, after_all}
 use Rattle.x25_station.proofs.RoundLemmas.{Within}
 use Rattle.x25_station.proofs.driving.pull_all.Given as goal
 

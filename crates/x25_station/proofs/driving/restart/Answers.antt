@@ -1,6 +1,4 @@
-use Rattle.std.proofs.Common.{◌≡◌, []}
-use Rattle.x25_layer.specs.Calls.{Restarts}
-use Rattle.x25_station.proofs.DriveLemmas.{drove, drove_not, takes_it}
+use Rattle.x25_station.proofs.{DriveLemmas.{drove, drove_not, takes_it}, Names.{◌≡◌, [], Restarts}}
 use Rattle.x25_station.proofs.driving.restart.Goals as goal
 
 pub drive-requires-clause-free : goal.drive-requires-clause-free

@@ -1,21 +1,11 @@
-use Rattle.std.proofs.Common.{◌≡◌, true, Bool, [], ◌∷◌, ◌++◌, map, if◌then◌else◌, ap, sym, subst, ◌∙◌}
-use Rattle.std.specs.List.{sum_by}
-use Rattle.x25_circuit.specs.Notice.{PlainNotice, collided}
-use Rattle.x25_layer.specs.Layer.{is_channel, on_channel}
-use Rattle.x25_layer.specs.laws.Transcript.{name_of}
-use Rattle.x25_layer.specs.declared.report.Report.{Report}
-use Rattle.x25_layer.specs.Report.{plain_report}
-use Rattle.x25_station.specs.Entry.{entry_told, station_told}
-use Rattle.x25_station.specs.code.Entries.{comes_beside}
-use Rattle.x25_station.specs.code.PlainEntry.{plain_entry, plain_name}
-use Rattle.x25_station.specs.declared.entry.Entry.{Entry}
+use Rattle.x25_station.proofs.Names.{◌≡◌, true, Bool, [], ◌∷◌, ◌++◌, map, if◌then◌else◌, ap, sym, subst, ◌∙◌, sum_by, PlainNotice, collided, is_channel}
+use Rattle.x25_station.proofs.Names.{on_channel, name_of, entry_told, station_told, AreTellable, comes_beside, plain_entry, plain_name, Entry}
+use Rattle.x25_layer.specs.{Report.{plain_report}, declared.report.Report.{Report}}
+use Rattle.x25_station.proofs.{TellLemmas.{told_behind, told_both, told_alone, notice_tellable, first_tellable}, ToldLemmas.{named_or}}
+use Rattle.x25_station.proofs.entering.enter_told.Goals.{then-collided, else-collided}
 use Rattle.x25_station.specs.declared.entry.Entry.TheVariants as code
 use Rattle.x25_station.specs.declared.entry.Told.TheVariants as told
-use Rattle.x25_station.specs.Receiving.{AreTellable}
-use Rattle.x25_station.proofs.TellLemmas.{told_behind, told_both, told_alone, notice_tellable, first_tellable}
-use Rattle.x25_station.proofs.ToldLemmas.{named_or}
 use Rattle.x25_station.proofs.entering.enter_told.Goals as goal
-use Rattle.x25_station.proofs.entering.enter_told.Goals.{then-collided, else-collided}
 
 pub returns-in-Some-clause-entered : goal.returns-in-Some-clause-entered
 returns-in-Some-clause-entered c = λ c' l fits reported.

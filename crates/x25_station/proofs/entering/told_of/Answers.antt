@@ -1,11 +1,6 @@
-use Rattle.std.proofs.Common.{◌≡◌, ℕ, List, ap, sym, subst, take, ◌∙◌}
-use Rattle.std.proofs.lemmas.List.{take_all}
-use Rattle.x25_packet.specs.Views.{user_of}
-use Rattle.x25_circuit.specs.declared.notice.Notice.{Notice}
-use Rattle.x25_circuit.specs.declared.params.Params.{Params}
+use Rattle.x25_station.proofs.Names.{◌≡◌, ℕ, List, ap, sym, subst, take, ◌∙◌, take_all, plain_notice, Notice, Params, IsShort}
 use Rattle.x25_circuit.specs.Notice.{incoming, interrupted}
-use Rattle.x25_circuit.specs.code.Replies.{plain_notice}
-use Rattle.x25_station.specs.Receiving.{IsShort}
+use Rattle.x25_packet.specs.Views.{user_of}
 use Rattle.x25_station.proofs.entering.told_of.Goals as goal
 
 incoming_is : (a b k d u v : List ℕ) (params : Params) → a ≡ b → k ≡ d → u ≡ v → incoming (record { called = a; calling = k; user = u; params = params })
@@ -19,9 +14,9 @@ pub returns-in-Incoming : goal.returns-in-Incoming
 returns-in-Incoming c = λ short.
     let now = subst (λ (n : Notice). IsShort (plain_notice c.args.lent.now.message n)) c.in-Incoming.is short in
     let user = user_of c.in-Incoming.a c.in-Incoming.body.now in
-    incoming_is _ _ _ _ _ _ c.in-Incoming.params (c.set_digits.ensures ∙ c.called_digits.ensures.digits)
-    (c.set_digits-in-Incoming.ensures ∙ c.calling_digits.ensures.digits)
-    (c.set.ensures ∙ ap (λ (octets : List ℕ). take 128 octets) c.user_data.ensures ∙ take_all 128 user now)
+    incoming_is _ _ _ _ _ _ c.in-Incoming.params (c.set_digits.ensures ∙ c.call_views-views.ensures.called)
+    (c.set_digits-in-Incoming.ensures ∙ c.call_views-views.ensures.calling)
+    (c.set.ensures ∙ ap (λ (octets : List ℕ). take 128 octets) c.call_views-views.ensures.user ∙ take_all 128 user now)
     ∙ sym (ap (plain_notice c.args.lent.now.message) c.in-Incoming.is)
 
 pub returns-in-Interrupted : goal.returns-in-Interrupted

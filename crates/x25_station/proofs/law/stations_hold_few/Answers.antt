@@ -1,5 +1,4 @@
-use Rattle.x25_station.proofs.HoldLemmas.{few_wait, few_stand, few_messages, few_joined, few_held}
-use Rattle.x25_station.proofs.OctetLemmas.{few_octets, few_in_all}
+use Rattle.x25_station.proofs.{HoldLemmas.{few_wait, few_stand, few_messages, few_joined, few_held}, OctetLemmas.{few_octets, few_in_all}}
 use Rattle.x25_station.proofs.law.stations_hold_few.Goals as goal
 
 pub returns : goal.returns

@@ -1,5 +1,4 @@
-use Rattle.x25_station.proofs.GivenJoinLemmas.{given_joined}
-use Rattle.x25_station.proofs.JoinLemmas.{request_joined, receive_joined, quiet_joined, down_joined, up_joined}
+use Rattle.x25_station.proofs.{GivenJoinLemmas.{given_joined}, JoinLemmas.{request_joined, receive_joined, quiet_joined, down_joined, up_joined}}
 use Rattle.x25_station.proofs.law.steps_are_joined.Goals as goal
 
 pub returns : goal.returns

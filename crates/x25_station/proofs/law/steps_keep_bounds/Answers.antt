@@ -1,5 +1,4 @@
-use Rattle.x25_station.proofs.KeepLemmas.{LinkLaws, connect_kept, timer_kept, request_kept, command_kept, receive_kept}
-use Rattle.x25_station.proofs.GivingLemmas.{given_kept}
+use Rattle.x25_station.proofs.{GivingLemmas.{given_kept}, KeepLemmas.{LinkLaws, connect_kept, timer_kept, request_kept, command_kept, receive_kept}}
 use Rattle.x25_station.proofs.law.steps_keep_bounds.Goals as goal
 
 known : goal.After-notes_what_changes → LinkLaws

@@ -1,5 +1,4 @@
-use Rattle.x25_station.proofs.KeepLemmas.{LinkLaws}
-use Rattle.x25_station.proofs.StillLemmas.{clear_leads_on, restart_leads_on, nothing_leads_back, end_is_told}
+use Rattle.x25_station.proofs.{KeepLemmas.{LinkLaws}, StillLemmas.{clear_leads_on, restart_leads_on, nothing_leads_back, end_is_told}}
 use Rattle.x25_station.proofs.WayOutLemmas.{relink_leads_on, firing_leads_on}
 use Rattle.x25_station.proofs.law.ways_out_lead_on.Goals as goal
 

@@ -1,5 +1,4 @@
-use Rattle.x25_station.proofs.GivenLemmas.{given_told, given_written}
-use Rattle.x25_station.proofs.GivenReadLemmas.{given_heard, given_read}
+use Rattle.x25_station.proofs.{GivenLemmas.{given_told, given_written}, GivenReadLemmas.{given_heard, given_read}}
 use Rattle.x25_station.proofs.law.what_is_given_is_told.Goals as goal
 
 pub returns : goal.returns

@@ -1,6 +1,4 @@
-use Rattle.std.proofs.Common.{sym, subst}
-use Rattle.x25_layer.specs.code.FitsLayer.{FitsLayer}
-use Rattle.x25_station.specs.Step.{layer_down}
+use Rattle.x25_station.proofs.Names.{sym, subst, FitsLayer, layer_down}
 use Rattle.x25_station.proofs.linking.note_down.Goals as goal
 
 pub returns-in-Some-clause-layer : goal.returns-in-Some-clause-layer

@@ -1,11 +1,5 @@
-use Rattle.std.proofs.Common.{Bool, true, option_copied, ◌++◌, map, ap, sym, subst, ◌∙◌}
-use Rattle.x25_link.specs.code.FitsLink.{FitsWhole}
-use Rattle.x25_layer.specs.code.FitsLayer.{FitsLayer}
-use Rattle.x25_layer.specs.laws.Rounds.{Putting, hears}
-use Rattle.x25_station.specs.Config.{link_settings, layer_settings}
-use Rattle.x25_station.specs.Receiving.{kept_of}
-use Rattle.x25_station.specs.Station.{all_put, view_of}
-use Rattle.x25_station.specs.Step.{entries_of_answer, entries_of_packet, layer_answer, layer_down}
+use Rattle.x25_station.proofs.Names.{Bool, option_copied, ap, sym, subst, ◌∙◌, FitsLayer, Putting, hears, FitsWhole, link_settings, layer_settings, kept_of}
+use Rattle.x25_station.proofs.Names.{all_put, view_of, entries_of_packet, layer_down}
 use Rattle.x25_station.proofs.FollowLemmas.{is_none, at_up, at_down, at_heard, at_quiet, heard_entries, strict_entries}
 use Rattle.x25_station.proofs.receiving.follow.Goals as goal
 

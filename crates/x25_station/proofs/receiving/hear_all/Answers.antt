@@ -1,16 +1,7 @@
-use Rattle.std.proofs.Common.{true, ◌++◌, List, [], ◌∷◌, ap, subst, ◌∙◌}
+use Rattle.x25_station.proofs.Names.{true, ◌++◌, List, [], ◌∷◌, ap, subst, ◌∙◌, begin, rounds, PlainBeside, beside_in, link_settings, layer_settings, named_by}
 use Rattle.x25_layer.specs.Layer.{Layer as LayerState}
-use Rattle.x25_station.specs.Confirming.{named_by}
-use Rattle.x25_layer.specs.laws.Rounds.{begin, rounds}
-use Rattle.x25_station.specs.Beside.{PlainBeside, beside_in}
-use Rattle.x25_station.specs.Entry.{StationEntry, bringing, entries_beside}
-use Rattle.x25_station.specs.Step.{layer_answer}
-use Rattle.x25_station.specs.Confirming.{confirmed}
-use Rattle.x25_station.specs.Config.{link_settings, layer_settings}
-use Rattle.x25_station.specs.Station.{view_of}
-use Rattle.x25_station.specs.code.Confirming.{Tells}
-use Rattle.x25_station.specs.code.PlainEntry.{plain_entry}
 use Rattle.x25_station.proofs.ConfirmLemmas.{nothing_behind, heard_all}
+use Rattle.x25_station.{proofs.Names.{confirmed, StationEntry, bringing, entries_beside, view_of, layer_answer, plain_entry}, specs.code.Confirming.{Tells}}
 use Rattle.x25_station.proofs.receiving.hear_all.Goals as goal
 
 pub returns-in-Some-clause-entries : goal.returns-in-Some-clause-entries

@@ -1,6 +1,4 @@
-use Rattle.std.proofs.Common.{◌∙◌, ◌^◌, ◌-◌, ap, arith, map, nat_eq, nat_lt, sym, w8}
-use Rattle.std.proofs.lemmas.Simd.{bitmask_splat}
-use Rattle.std.specs.Simd.Lanes.{mask_l}
+use Rattle.std.{proofs.Common.{◌∙◌, ◌^◌, ◌-◌, ap, arith, map, nat_eq, nat_lt, sym, w8}, proofs.lemmas.Simd.{bitmask_splat}, specs.Simd.Lanes.{mask_l}}
 use Rattle.x25_text.proofs.LaneLemmas.{mask_full}
 use Rattle.x25_text.proofs.hexadecimal.are_digits.Goals as goal
 

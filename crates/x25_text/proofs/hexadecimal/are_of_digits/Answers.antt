@@ -1,9 +1,6 @@
-use Rattle.std.proofs.Common.{◌≡◌, ◌∙◌, ap, map, nat_lt, replicate, sym}
+use Rattle.std.proofs.{Common.{◌≡◌, ◌∙◌, ap, map, nat_lt, replicate, sym}, lemmas.List.{map-id}, lemmas.Simd.{splat_is_map, zip2_of_maps}}
 use Rattle.std.specs.List.{list_all}
-use Rattle.std.proofs.lemmas.List.{map-id}
-use Rattle.std.proofs.lemmas.Simd.{splat_is_map, zip2_of_maps}
-use Rattle.x25_text.proofs.LaneLemmas.{fits_each}
-use Rattle.x25_text.proofs.TestedLemmas.{turned_tested}
+use Rattle.x25_text.proofs.{LaneLemmas.{fits_each}, TestedLemmas.{turned_tested}}
 use Rattle.x25_text.proofs.hexadecimal.are_of_digits.Goals as goal
 
 pub returns : goal.returns

@@ -1,8 +1,5 @@
-use Rattle.std.proofs.Common.{ℕ, ◌≡◌, map, refl, replicate, sym}
-use Rattle.std.proofs.lemmas.Simd.{zip2_of_maps, splat_is_map}
-use Rattle.std.proofs.lemmas.List.{map-id}
-use Rattle.x25_text.proofs.LaneLemmas.{fits_each}
-use Rattle.x25_text.proofs.ShownLemmas.{in_turn, octets_shown}
+use Rattle.std.proofs.{Common.{ℕ, ◌≡◌, map, refl, replicate, sym}, lemmas.List.{map-id}, lemmas.Simd.{zip2_of_maps, splat_is_map}}
+use Rattle.x25_text.proofs.{LaneLemmas.{fits_each}, ShownLemmas.{in_turn, octets_shown}}
 use Rattle.x25_text.proofs.hexadecimal.digits_of.Goals as goal
 
 pub returns : goal.returns

@@ -1,7 +1,4 @@
-use Rattle.std.proofs.Common.{◌≡◌, ◌∙◌, ◌+◌, ◌-◌, ◌*◌, ap, arith, length, take}
-use Rattle.std.specs.Prelude.{◌&&◌}
-use Rattle.std.specs.Char.{is_ascii_hexdigit}
-use Rattle.std.specs.List.{list_all}
+use Rattle.std.{proofs.Common.{◌≡◌, ◌∙◌, ◌+◌, ◌-◌, ◌*◌, ap, arith, length, take}, specs.Char.{is_ascii_hexdigit}, specs.List.{list_all}, specs.Prelude.{◌&&◌}}
 use Rattle.x25_text.proofs.TestedLemmas.{all_both_two, all_over_two}
 use Rattle.x25_text.proofs.hexadecimal.is_hexadecimal.Goals as goal
 

@@ -1,6 +1,4 @@
-use Rattle.std.proofs.Common.{◌≡◌, ◌*◌, nat_le, take}
-use Rattle.std.specs.Char.{is_ascii_hexdigit}
-use Rattle.std.specs.List.{list_all}
+use Rattle.std.{proofs.Common.{◌≡◌, ◌*◌, nat_le, take}, specs.Char.{is_ascii_hexdigit}, specs.List.{list_all}}
 use Rattle.x25_text.proofs.hexadecimal.is_hexadecimal.Given as goal
 
 -- the least marks are of digits where the first characters are digits

@@ -1,5 +1,4 @@
-use Rattle.std.proofs.Common.{◌≡◌, ◌∙◌, ◌+◌, ◌*◌, ◌++◌, ap, arith, get_or, length, sym, take}
-use Rattle.std.proofs.lemmas.List.{get_or-take, get_or_append_left, length-take-le}
+use Rattle.std.proofs.{Common.{◌≡◌, ◌∙◌, ◌+◌, ◌*◌, ◌++◌, ap, arith, get_or, length, sym, take}, lemmas.List.{get_or-take, get_or_append_left, length-take-le}}
 use Rattle.x25_text.proofs.LaneLemmas.{joined_is, octet_at, octets_from, take_octets_from}
 use Rattle.x25_text.proofs.hexadecimal.joined.Goals as goal
 

@@ -1,5 +1,4 @@
-use Rattle.std.proofs.Common.{◌∙◌, ◌++◌}
-use Rattle.std.specs.Simd.Lanes.{number_l}
+use Rattle.std.{proofs.Common.{◌∙◌, ◌++◌}, specs.Simd.Lanes.{number_l}}
 use Rattle.x25_text.proofs.LaneLemmas.{lower_are, lower_of}
 use Rattle.x25_text.proofs.hexadecimal.joined_sixteen.Goals as goal
 

@@ -1,6 +1,4 @@
-use Rattle.std.proofs.Common.{◌≡◌, ◌∙◌, cond, map, nat_le, replicate, sym}
-use Rattle.std.proofs.lemmas.Simd.{zip2_of_maps, splat_is_map}
-use Rattle.std.proofs.lemmas.List.{map-id}
+use Rattle.std.proofs.{Common.{◌≡◌, ◌∙◌, cond, map, nat_le, replicate, sym}, lemmas.List.{map-id}, lemmas.Simd.{zip2_of_maps, splat_is_map}}
 use Rattle.x25_text.proofs.LineLemmas.{leading_is}
 use Rattle.x25_text.proofs.hexadecimal.leading.Goals as goal
 

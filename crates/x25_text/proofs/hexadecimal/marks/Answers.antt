@@ -1,9 +1,6 @@
-use Rattle.std.proofs.Common.{ℕ, ◌≡◌, ◌∙◌, ap, map, nat_le, refl, replicate, sym}
+use Rattle.std.proofs.{Common.{ℕ, ◌≡◌, ◌∙◌, ap, map, nat_le, refl, replicate, sym}, lemmas.List.{map-id}, lemmas.Simd.{zip2_of_maps, splat_is_map}}
 use Rattle.std.specs.List.{list_all}
-use Rattle.std.proofs.lemmas.Simd.{zip2_of_maps, splat_is_map}
-use Rattle.std.proofs.lemmas.List.{map-id}
-use Rattle.x25_text.proofs.LaneLemmas.{fits_each, sel_of_maps, tops_of_map}
-use Rattle.x25_text.proofs.TestedLemmas.{marks_tested}
+use Rattle.x25_text.proofs.{LaneLemmas.{fits_each, sel_of_maps, tops_of_map}, TestedLemmas.{marks_tested}}
 use Rattle.x25_text.proofs.hexadecimal.marks.Goals as goal
 
 pub returns : goal.returns

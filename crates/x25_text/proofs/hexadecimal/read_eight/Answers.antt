@@ -1,10 +1,7 @@
-use Rattle.std.proofs.Common.{◌≡◌, ◌∙◌, ◌*◌, Some, ap, arith, drop, length, nat_lt, sym, take, true, w8}
-use Rattle.std.specs.List.{list_all}
-use Rattle.std.proofs.lemmas.List.{length-map, take_all}
-use Rattle.std.proofs.lemmas.Simd.{chunk-fits, length-chunk}
+use Rattle.std.proofs.{Common.{◌≡◌, ◌∙◌, ◌*◌, Some, ap, arith, drop, length, nat_lt, sym, take, true, w8}, lemmas.List.{length-map, take_all}}
+use Rattle.std.{proofs.lemmas.Simd.{chunk-fits, length-chunk}, specs.List.{list_all}}
+use Rattle.x25_text.proofs.{BlockLemmas.{before_block, stored_block}, LaneLemmas.{block_fault, block_read, fits_each}}
 use Rattle.x25_text.specs.Hexadecimal.{paired, value_of}
-use Rattle.x25_text.proofs.BlockLemmas.{before_block, stored_block}
-use Rattle.x25_text.proofs.LaneLemmas.{block_fault, block_read, fits_each}
 use Rattle.x25_text.proofs.hexadecimal.read_eight.Goals as goal
 
 pub returns-then-are_digits-clause-octets : goal.returns-then-are_digits-clause-octets

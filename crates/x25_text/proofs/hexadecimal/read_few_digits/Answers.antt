@@ -1,9 +1,6 @@
-use Rattle.std.proofs.Common.{ℕ, ◌≡◌, ◌∙◌, ◌<◌, ◌-◌, Bool, true, false, List, Option, Some, None, arith, get_or, length, sym}
-use Rattle.std.specs.Prelude.{if◌then◌else◌}
+use Rattle.std.{proofs.Common.{ℕ, ◌≡◌, ◌∙◌, ◌<◌, ◌-◌, Bool, true, false, List, Option, Some, None, arith, get_or, length, sym}, specs.Prelude.{if◌then◌else◌}}
+use Rattle.x25_text.proofs.{BlockLemmas.{reads_last, reads_more, reads_none}, LaneLemmas.{block_read}, TestedLemmas.{digits_tested}}
 use Rattle.x25_text.specs.Hexadecimal.{octets_of}
-use Rattle.x25_text.proofs.BlockLemmas.{reads_last, reads_more, reads_none}
-use Rattle.x25_text.proofs.LaneLemmas.{block_read}
-use Rattle.x25_text.proofs.TestedLemmas.{digits_tested}
 use Rattle.x25_text.proofs.hexadecimal.read_few_digits.Goals as goal
 
 all_read : (read : Option (List ℕ)) (all : Bool) (octets there : List ℕ) → read ≡ (if all then Some octets else None) → read ≡ Some there → read ≡ Some octets

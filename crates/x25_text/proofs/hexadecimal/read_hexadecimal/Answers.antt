@@ -1,6 +1,5 @@
 use Rattle.std.proofs.Common.{◌≡◌, ◌∙◌, ◌+◌, ◌-◌, ◌*◌, arith, length, subst}
-use Rattle.x25_text.proofs.BlockLemmas.{Reads, reads_fault, reads_last, reads_more, reads_none}
-use Rattle.x25_text.proofs.PairLemmas.{decode_read}
+use Rattle.x25_text.proofs.{BlockLemmas.{Reads, reads_fault, reads_last, reads_more, reads_none}, PairLemmas.{decode_read}}
 use Rattle.x25_text.proofs.hexadecimal.read_hexadecimal.Goals as goal
 
 pub loop-eight-init : goal.loop-eight-init

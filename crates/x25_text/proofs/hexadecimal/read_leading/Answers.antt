@@ -1,14 +1,7 @@
-use Rattle.std.proofs.Common.{◌≡◌, ◌∙◌, ◌*◌, ◌≤◌, Some, ap, arith, drop, length, sym, take, w8}
-use Rattle.std.proofs.lemmas.List.{length-map, take-take}
-use Rattle.std.proofs.lemmas.List.Sums.{prefix_len-le-length}
-use Rattle.std.proofs.lemmas.Simd.{chunk-fits, length-chunk}
-use Rattle.std.specs.Prelude.{nat_lt}
-use Rattle.std.specs.List.{prefix_len}
+use Rattle.std.proofs.{Common.{◌≡◌, ◌∙◌, ◌*◌, ◌≤◌, Some, ap, arith, drop, length, sym, take, w8}, lemmas.List.{length-map, take-take}}
+use Rattle.std.{proofs.lemmas.List.Sums.{prefix_len-le-length}, proofs.lemmas.Simd.{chunk-fits, length-chunk}, specs.List.{prefix_len}, specs.Prelude.{nat_lt}}
+use Rattle.x25_text.proofs.{BlockLemmas.{before_block}, LaneLemmas.{fits_each}, LineLemmas.{front_all, front_read, stored_front}, TestedLemmas.{digits_leading}}
 use Rattle.x25_text.specs.Hexadecimal.{octets_of, value_of}
-use Rattle.x25_text.proofs.BlockLemmas.{before_block}
-use Rattle.x25_text.proofs.LaneLemmas.{fits_each}
-use Rattle.x25_text.proofs.LineLemmas.{front_all, front_read, stored_front}
-use Rattle.x25_text.proofs.TestedLemmas.{digits_leading}
 use Rattle.x25_text.proofs.hexadecimal.read_leading.Goals as goal
 
 pub returns-clause-digits : goal.returns-clause-digits

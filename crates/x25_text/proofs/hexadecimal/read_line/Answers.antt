@@ -1,13 +1,8 @@
 use Rattle.std.proofs.Common.{◌≡◌, ◌≤◌, ◌∙◌, ◌+◌, ◌-◌, ◌*◌, ◌/◌, Some, ap, arith, drop, length, slice_index, subst, take}
-use Rattle.std.specs.Char.{is_ascii_hexdigit}
-use Rattle.std.specs.List.{prefix_len}
-use Rattle.std.proofs.lemmas.List.{length-drop, length-take-le}
-use Rattle.std.proofs.lemmas.List.Sums.{prefix_len-le-length}
-use Rattle.std.proofs.lemmas.Option.{IfSome_then}
+use Rattle.std.proofs.lemmas.{List.{length-drop, length-take-le}, List.Sums.{prefix_len-le-length}, Option.{IfSome_then}}
+use Rattle.std.specs.{Char.{is_ascii_hexdigit}, List.{prefix_len}}
+use Rattle.x25_text.proofs.{BlockLemmas.{Reads, reads_none}, LineLemmas.{IfSome_both, digits_on, reads_on}, PairLemmas.{decode_read}}
 use Rattle.x25_text.specs.Hexadecimal.{octets_of}
-use Rattle.x25_text.proofs.BlockLemmas.{Reads, reads_none}
-use Rattle.x25_text.proofs.PairLemmas.{decode_read}
-use Rattle.x25_text.proofs.LineLemmas.{IfSome_both, digits_on, reads_on}
 use Rattle.x25_text.proofs.hexadecimal.read_line.Goals as goal
 
 pub loop-eight-init : goal.loop-eight-init

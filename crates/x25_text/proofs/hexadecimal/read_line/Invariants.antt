@@ -1,6 +1,4 @@
-use Rattle.std.proofs.Common.{◌≤◌, ◌*◌, length}
-use Rattle.std.specs.Char.{is_ascii_hexdigit}
-use Rattle.std.specs.List.{prefix_len}
+use Rattle.std.{proofs.Common.{◌≤◌, ◌*◌, length}, specs.Char.{is_ascii_hexdigit}, specs.List.{prefix_len}}
 use Rattle.x25_text.proofs.BlockLemmas.{Reads}
 use Rattle.x25_text.proofs.hexadecimal.read_line.Given as goal
 

@@ -1,7 +1,5 @@
-use Rattle.std.proofs.Common.{◌∙◌, ◌*◌, ◌+◌, ◌<◌, arith, length, slice_index}
-use Rattle.std.proofs.lemmas.List.{length-set}
-use Rattle.x25_text.proofs.DigitTable.{a_digit, no_digit}
-use Rattle.x25_text.proofs.PairLemmas.{at_end, fault_high, fault_low, next}
+use Rattle.std.proofs.{Common.{◌∙◌, ◌*◌, ◌+◌, ◌<◌, arith, length, slice_index}, lemmas.List.{length-set}}
+use Rattle.x25_text.proofs.{DigitTable.{a_digit, no_digit}, PairLemmas.{at_end, fault_high, fault_low, next}}
 use Rattle.x25_text.proofs.hexadecimal.read_pairs.Goals.{then-high-gt15-via-then-high-gt15, then-high-gt15-via-else-high-gt15+then-low-gt15}
 use Rattle.x25_text.proofs.hexadecimal.read_pairs.Goals as goal
 

@@ -1,13 +1,7 @@
-use Rattle.std.proofs.Common.{◌≡◌, ◌∙◌, ◌+◌, ◌*◌, ◌++◌, Some, ap, arith, drop, length, map, nat_lt, sym, take, true, w8}
-use Rattle.std.specs.Char.{is_ascii_hexdigit}
-use Rattle.std.specs.List.{list_all}
-use Rattle.std.proofs.Math.Seq.{take-add}
-use Rattle.std.proofs.lemmas.List.{drop-drop}
-use Rattle.std.proofs.lemmas.Simd.{chunk-fits, length-chunk}
-use Rattle.x25_text.specs.Hexadecimal.{octets_of, paired, value_of}
-use Rattle.x25_text.proofs.BlockLemmas.{before_block, both_of, octets_of-append, stored_block}
-use Rattle.x25_text.proofs.LaneLemmas.{block_read, fits_each}
-use Rattle.x25_text.proofs.TestedLemmas.{all_part, digits_tested}
+use Rattle.std.proofs.{Common.{◌≡◌, ◌∙◌, ◌+◌, ◌*◌, ◌++◌, Some, ap, arith, drop, length, map, nat_lt, sym, take, true, w8}, Math.Seq.{take-add}}
+use Rattle.std.{proofs.lemmas.List.{drop-drop}, proofs.lemmas.Simd.{chunk-fits, length-chunk}, specs.Char.{is_ascii_hexdigit}, specs.List.{list_all}}
+use Rattle.x25_text.proofs.{BlockLemmas.{before_block, both_of, octets_of-append, stored_block}, LaneLemmas.{block_read, fits_each}}
+use Rattle.x25_text.{proofs.TestedLemmas.{all_part, digits_tested}, specs.Hexadecimal.{octets_of, paired, value_of}}
 use Rattle.x25_text.proofs.hexadecimal.read_sixteen_digits.Goals as goal
 
 pub returns-clause-octets : goal.returns-clause-octets

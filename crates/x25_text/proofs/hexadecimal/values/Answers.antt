@@ -1,8 +1,5 @@
-use Rattle.std.proofs.Common.{◌≡◌, ◌∙◌, ℕ, map, refl, replicate, sym}
-use Rattle.std.proofs.lemmas.Simd.{zip2_of_maps, splat_is_map}
-use Rattle.std.proofs.lemmas.List.{map-id}
-use Rattle.x25_text.specs.Hexadecimal.{value_of}
-use Rattle.x25_text.proofs.LaneLemmas.{fits_each, same_map, sel_of_maps, tops_of_map}
+use Rattle.std.proofs.{Common.{◌≡◌, ◌∙◌, ℕ, map, refl, replicate, sym}, lemmas.List.{map-id}, lemmas.Simd.{zip2_of_maps, splat_is_map}}
+use Rattle.x25_text.{proofs.LaneLemmas.{fits_each, same_map, sel_of_maps, tops_of_map}, specs.Hexadecimal.{value_of}}
 use Rattle.x25_text.proofs.hexadecimal.values.Goals as goal
 
 pub returns : goal.returns

@@ -1,5 +1,4 @@
-use Rattle.std.proofs.Common.{◌≡◌, ◌∙◌, ◌++◌, ◌*◌, ◌+◌, ap, arith, drop, length, take}
-use Rattle.std.proofs.lemmas.Simd.{length-chunk, take_more_put_chunk}
+use Rattle.std.proofs.{Common.{◌≡◌, ◌∙◌, ◌++◌, ◌*◌, ◌+◌, ap, arith, drop, length, take}, lemmas.Simd.{length-chunk, take_more_put_chunk}}
 use Rattle.x25_text.proofs.ShownLemmas.{length_shown}
 use Rattle.x25_text.proofs.hexadecimal.write_eight.Goals as goal
 

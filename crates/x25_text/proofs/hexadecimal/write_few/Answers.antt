@@ -1,7 +1,5 @@
-use Rattle.std.proofs.Common.{◌∙◌, ◌-◌, Result, Ok, Err, arith, length}
-use Rattle.std.specs.Prelude.{IsOk, OnOk}
-use Rattle.x25_text.proofs.DigitLemmas.{encode_lower_is}
-use Rattle.x25_text.proofs.ShownLemmas.{shows_last, shows_more, shows_none}
+use Rattle.std.{proofs.Common.{◌∙◌, ◌-◌, Result, Ok, Err, arith, length}, specs.Prelude.{IsOk, OnOk}}
+use Rattle.x25_text.proofs.{DigitLemmas.{encode_lower_is}, ShownLemmas.{shows_last, shows_more, shows_none}}
 use Rattle.x25_text.proofs.hexadecimal.write_few.Goals as goal
 
 from_ok : {X E : Type 0} (r : Result X E) (P : Type 0) → OnOk r P → IsOk r → P

@@ -1,5 +1,4 @@
-use Rattle.std.proofs.Common.{ℕ, ◌+◌, ◌∙◌, List, [], ◌∷◌, ◌++◌, map, take, ap, sym, arith}
-use Rattle.std.proofs.lemmas.List.{length-set, map_more, take_more_set}
+use Rattle.std.proofs.{Common.{ℕ, ◌+◌, ◌∙◌, List, [], ◌∷◌, ◌++◌, map, take, ap, sym, arith}, lemmas.List.{length-set, map_more, take_more_set}}
 use Rattle.x25_text.proofs.packet_text.push_digits.Goals as goal
 
 abbrev shown : List ℕ → List ℕ

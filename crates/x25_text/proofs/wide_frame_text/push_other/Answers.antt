@@ -1,7 +1,5 @@
-use Rattle.std.proofs.Common.{◌∙◌, ◌++◌, [], ap, append_assoc, codes, sym}
-use Rattle.std.specs.Prelude.{unwrap_or}
-use Rattle.x25_text.specs.WideFrameText.{other_head, other_information_text}
-use Rattle.x25_text.proofs.HeadLemmas.{headed}
+use Rattle.std.{proofs.Common.{◌∙◌, ◌++◌, [], ap, append_assoc, codes, sym}, specs.Prelude.{unwrap_or}}
+use Rattle.x25_text.{proofs.HeadLemmas.{headed}, specs.WideFrameText.{other_head, other_information_text}}
 use Rattle.x25_text.proofs.wide_frame_text.push_other.Goals as goal
 
 pub returns-then-push_other_head-clause-text : goal.returns-then-push_other_head-clause-text

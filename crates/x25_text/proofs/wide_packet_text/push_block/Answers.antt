@@ -1,8 +1,5 @@
-use Rattle.std.proofs.Common.{ℕ, List, ◌<◌, ◌≤◌, arith, drop, false, length, subst, sym, take}
-use Rattle.std.proofs.Math.Nat.{min-le_left}
-use Rattle.std.proofs.lemmas.List.{length-take}
-use Rattle.x25_packet.specs.Block.{AreAddresses, plain_block}
-use Rattle.x25_packet.specs.Digits.{halves_of}
+use Rattle.std.proofs.{Common.{ℕ, List, ◌<◌, ◌≤◌, arith, drop, false, length, subst, sym, take}, Math.Nat.{min-le_left}, lemmas.List.{length-take}}
+use Rattle.x25_packet.specs.{Block.{AreAddresses, plain_block}, Digits.{halves_of}}
 use Rattle.x25_text.proofs.wide_packet_text.push_block.Goals as goal
 
 few : (n : ℕ) (halves : List ℕ) → n < 16 → length (take n halves) ≤ 15

@@ -1,6 +1,5 @@
 use Rattle.std.proofs.Common.{ℕ, ◌≡◌, ◌<◌, ◌+◌, ◌∙◌, false, List, [], ◌∷◌, ◌++◌, length, map, take, get_or, ap, sym, append_assoc, arith}
-use Rattle.std.specs.Fmt.{digit_glyph}
-use Rattle.std.proofs.lemmas.List.{map_more}
+use Rattle.std.{proofs.lemmas.List.{map_more}, specs.Fmt.{digit_glyph}}
 use Rattle.x25_text.proofs.wide_packet_text.push_each_half.Goals as goal
 
 abbrev shown : List ℕ → List ℕ

@@ -1,5 +1,4 @@
-use Rattle.std.proofs.Common.{◌≡◌, ◌+◌, ℕ, List, ◌++◌, false, length, map, take}
-use Rattle.std.specs.Fmt.{digit_glyph}
+use Rattle.std.{proofs.Common.{◌≡◌, ◌+◌, ℕ, List, ◌++◌, false, length, map, take}, specs.Fmt.{digit_glyph}}
 use Rattle.x25_text.proofs.wide_packet_text.push_each_half.Given as goal
 
 -- the first half octets are appended

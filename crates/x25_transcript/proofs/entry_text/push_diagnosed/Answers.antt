@@ -1,5 +1,4 @@
-use Rattle.std.proofs.Common.{◌≡◌, ◌++◌, List, ℕ, OnOk, codes, decimal, subst}
-use Rattle.std.proofs.lemmas.List.{append_assoc}
+use Rattle.std.proofs.{Common.{◌≡◌, ◌++◌, List, ℕ, OnOk, codes, decimal, subst}, lemmas.List.{append_assoc}}
 use Rattle.x25_transcript.proofs.entry_text.push_diagnosed.Goals as goal
 
 pub returns : goal.returns

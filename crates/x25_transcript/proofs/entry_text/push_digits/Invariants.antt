@@ -1,5 +1,4 @@
-use Rattle.std.proofs.Common.{◌≡◌, ◌++◌, take, decimal}
-use Rattle.std.specs.List.{flat_map}
+use Rattle.std.{proofs.Common.{◌≡◌, ◌++◌, take, decimal}, specs.List.{flat_map}}
 use Rattle.x25_transcript.proofs.entry_text.push_digits.Given as goal
 
 -- the first digits are appended

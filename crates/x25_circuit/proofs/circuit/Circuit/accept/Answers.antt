@@ -1,25 +1,16 @@
-use Rattle.std.proofs.Common.{rules, ◌≡◌, Option, IfSome, true, sym, refl, subst, ap, None, Some, Err, false, ◌∙◌, lit≤}
-use Rattle.std.proofs.lemmas.Result.{err_from_is_err_and}
-use denote.Ref.{Bor}
-use Rattle.x25_packet.specs.Facilities.{IsFacilityField}
-use Rattle.x25_circuit.specs.declared.params.Params.{Params}
-use Rattle.x25_circuit.specs.declared.state.State.TheVariants.{Open}
-use Rattle.x25_circuit.specs.Circuit.{entered, outgoing}
-use Rattle.x25_circuit.specs.code.FitsCircuit.{FitsCircuit}
+use Rattle.x25_circuit.proofs.Names.{rules, ◌≡◌, Option, IfSome, true, sym, refl, subst, ap, None, Some, Err, false, ◌∙◌, lit≤, err_from_is_err_and, entered}
+use Rattle.x25_circuit.proofs.Names.{outgoing, Proposal, may_answer, may_propose, FitsCircuit, NoMemory, Params, Open, IsFacilityField}
+use Rattle.x25_circuit.proofs.AskLemmas.{all_err, err_is, is_done, is_refused, lacks}
+use Rattle.x25_circuit.proofs.{ParamsLemmas.{field_is_allowed}, TableLemmas.{accept_at, answer_accepts}, TalkLemmas.{kept_circuit, with_transfer, no_field}}
 use Rattle.x25_circuit.specs.Request.{plain_answer, params_answered}
-use Rattle.x25_circuit.specs.Params.{Proposal, may_answer, may_propose}
-use Rattle.x25_circuit.specs.declared.error.CircuitError.TheVariants.{NoMemory}
-use Rattle.x25_circuit.proofs.AskLemmas.{all_err, err_is, is_done, lacks}
-use Rattle.x25_circuit.proofs.TableLemmas.{accept_at, answer_accepts}
-use Rattle.x25_circuit.proofs.TalkLemmas.{kept_circuit, with_transfer, no_field}
-use Rattle.x25_circuit.proofs.ParamsLemmas.{field_is_allowed}
+use denote.Ref.{Bor}
 use Rattle.x25_circuit.proofs.circuit.Circuit.accept.Goals as goal
 
 pub returns-in_err-flow : goal.returns-in_err-flow
 returns-in_err-flow c = record {
   outcome = λ d x fits.
       let p = err_from_is_err_and c.from_residual.result c.from_residual.ensures.1 in
-      rw (c.in_err-flow.ensures.refused d x fits) (p.1 ∙ ap Err p.2);
+      rw (is_refused _ _ (c.in_err-flow.ensures.refusal d x fits)) (p.1 ∙ ap Err p.2);
   range = search rules;
   control = search rules;
   keeps = search rules;

@@ -1,7 +1,4 @@
-use Rattle.std.proofs.Common.{ap, sym, subst, ◌∙◌}
-use Rattle.x25_circuit.specs.Calling.{Pulled}
-use Rattle.x25_circuit.specs.code.PartialMessage.{ShownPartial}
-use Rattle.x25_circuit.specs.code.FitsCircuit.{FitsCircuit}
+use Rattle.x25_circuit.proofs.Names.{ap, sym, subst, ◌∙◌, Pulled, FitsCircuit, ShownPartial}
 use Rattle.x25_circuit.proofs.PullLemmas.{own_talk, pulls_empty, advances_next, advances_packet}
 use Rattle.x25_circuit.proofs.circuit.Circuit.advance.Goals as goal
 

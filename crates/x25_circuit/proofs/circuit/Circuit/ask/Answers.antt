@@ -1,5 +1,4 @@
-use Rattle.std.proofs.Common.{refl, sym, ◌∙◌}
-use Rattle.x25_circuit.proofs.AskLemmas.{asked, asked_or_lacks, lacked, not_memory, not_refused}
+use Rattle.x25_circuit.proofs.{AskLemmas.{asked, asked_or_lacks, lacked, not_memory, not_refused}, Names.{refl, sym, ◌∙◌}}
 use Rattle.x25_circuit.proofs.circuit.Circuit.ask.Goals as goal
 
 pub returns-in-Call-clause-outcome : goal.returns-in-Call-clause-outcome

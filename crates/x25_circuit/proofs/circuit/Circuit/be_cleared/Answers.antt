@@ -1,4 +1,4 @@
-use Rattle.std.proofs.Common.{refl, ap, ◌∙◌, suc, add-one}
+use Rattle.x25_circuit.proofs.Names.{refl, ap, ◌∙◌, suc, add-one}
 use Rattle.x25_circuit.proofs.circuit.Circuit.be_cleared.Goals as goal
 
 pub returns : goal.returns

@@ -1,4 +1,4 @@
-use Rattle.std.proofs.Common.{ap, ◌∙◌, suc, add-one}
+use Rattle.x25_circuit.proofs.Names.{ap, ◌∙◌, suc, add-one}
 use Rattle.x25_circuit.proofs.circuit.Circuit.be_reset.Goals as goal
 
 pub returns : goal.returns

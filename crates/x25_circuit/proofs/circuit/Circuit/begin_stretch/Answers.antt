@@ -1,7 +1,4 @@
-use Rattle.std.proofs.Common.{subst, Bool}
-use Rattle.x25_circuit.specs.declared.params.Params.{Params}
-use Rattle.x25_circuit.specs.Circuit.{entered}
-use Rattle.x25_circuit.specs.code.FitsCircuit.{FitsCircuit}
+use Rattle.x25_circuit.proofs.Names.{subst, Bool, entered, FitsCircuit, Params}
 use Rattle.x25_circuit.proofs.circuit.Circuit.begin_stretch.Goals as goal
 
 pub returns-clause-fits : goal.returns-clause-fits

@@ -1,17 +1,7 @@
-use Rattle.std.proofs.Common.{rules, ◌≡◌, refl, Bool, Err, ap, sym, subst, ◌∙◌, lit≤, true}
-use Rattle.std.proofs.lemmas.Result.{err_from_is_err_and}
-use Rattle.x25_packet.specs.Facilities.{IsFacilityField}
-use Rattle.x25_circuit.specs.declared.params.Params.{Params}
-use Rattle.x25_circuit.specs.declared.state.State.TheVariants.{Calling}
-use Rattle.x25_circuit.specs.Calling.{may_call, call_in, Refused}
-use Rattle.x25_circuit.specs.code.FitsCircuit.{FitsCircuit}
-use Rattle.x25_circuit.specs.Params.{may_propose}
-use Rattle.x25_circuit.specs.declared.error.CircuitError.TheVariants.{NoMemory}
-use Rattle.x25_circuit.specs.Circuit.{entered, outgoing}
-use Rattle.x25_circuit.proofs.AskLemmas.{all_err, err_is}
-use Rattle.x25_circuit.proofs.TalkLemmas.{kept_circuit, with_transfer}
-use Rattle.x25_circuit.proofs.TableLemmas.{call_at}
-use Rattle.x25_circuit.proofs.ParamsLemmas.{field_is_allowed}
+use Rattle.x25_circuit.proofs.Names.{rules, ◌≡◌, refl, Bool, Err, ap, sym, subst, ◌∙◌, lit≤, true, err_from_is_err_and, call_in, Refused, entered, outgoing}
+use Rattle.x25_circuit.proofs.{AskLemmas.{all_err, err_is, is_refused}, Names.{may_propose, FitsCircuit, NoMemory, Params, Calling, IsFacilityField}}
+use Rattle.x25_circuit.proofs.{ParamsLemmas.{field_is_allowed}, TableLemmas.{call_at}, TalkLemmas.{kept_circuit, with_transfer}}
+use Rattle.x25_circuit.specs.Calling.{may_call}
 use Rattle.x25_circuit.proofs.circuit.Circuit.call.Goals as goal
 
 pub returns-in_err-fields : goal.returns-in_err-fields
@@ -21,7 +11,7 @@ returns-in_err-fields c = record {
       let says = c.args.proposal.now.says_all in
       let refused = subst (λ (q : Params). call_in d x x.state c.args.called.now c.args.calling.now c.args.user.now (record { params = q; says_all = says })
       ≡ Refused c.in_err-fields.field-0.0)
-      c.params.ensures (c.in_err-fields.ensures.refused d x says fits) in
+      c.params.ensures (is_refused _ _ (c.in_err-fields.ensures.refusal d x says fits)) in
       rw (refused) (p.1 ∙ ap Err p.2);
   range = search rules;
   control = search rules;

@@ -1,6 +1,4 @@
-use Rattle.std.proofs.Common.{rules, ap, ◌∙◌}
-use Rattle.x25_circuit.specs.Params.{may_answer}
-use Rattle.x25_circuit.proofs.TableLemmas.{answer_in_force, answer_out_of_range}
+use Rattle.x25_circuit.proofs.{Names.{rules, ap, ◌∙◌, may_answer}, TableLemmas.{answer_in_force, answer_out_of_range}}
 use Rattle.x25_circuit.proofs.circuit.Circuit.connect.Goals as goal
 
 pub returns-in_default : goal.returns-in_default

@@ -1,7 +1,4 @@
-use Rattle.std.proofs.Common.{subst, false}
-use Rattle.x25_circuit.specs.declared.params.Params.{Params}
-use Rattle.x25_circuit.specs.Circuit.{entered}
-use Rattle.x25_circuit.specs.code.FitsCircuit.{FitsCircuit}
+use Rattle.x25_circuit.proofs.Names.{subst, false, entered, FitsCircuit, Params}
 use Rattle.x25_circuit.proofs.circuit.Circuit.end_call.Goals as goal
 
 pub returns-clause-fits : goal.returns-clause-fits

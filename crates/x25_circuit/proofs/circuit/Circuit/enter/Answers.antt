@@ -1,5 +1,4 @@
-use Rattle.std.proofs.Common.{refl, ◌∙◌}
-use Rattle.x25_circuit.specs.Circuit.{entered, outgoing}
+use Rattle.x25_circuit.proofs.Names.{refl, ◌∙◌, entered, outgoing}
 use Rattle.x25_circuit.proofs.circuit.Circuit.enter.Goals as goal
 
 pub returns-clause-fits : goal.returns-clause-fits

@@ -1,8 +1,4 @@
-use Rattle.std.proofs.Common.{rules, subst}
-use Rattle.x25_circuit.specs.declared.state.State.{State}
-use Rattle.x25_circuit.specs.Hearing.{row_clear}
-use Rattle.x25_circuit.specs.code.FitsCircuit.{FitsCircuit}
-use Rattle.x25_circuit.proofs.TableLemmas.{said_beside}
+use Rattle.x25_circuit.proofs.{Names.{rules, subst, row_clear, FitsCircuit, State}, TableLemmas.{said_beside}}
 use Rattle.x25_circuit.proofs.circuit.Circuit.hear.Goals as goal
 
 pub returns-in-Clear : goal.returns-in-Clear

@@ -1,5 +1,4 @@
-use Rattle.std.proofs.Common.{inl, inr}
-use Rattle.x25_circuit.proofs.TableLemmas.{accept_strays}
+use Rattle.x25_circuit.proofs.{Names.{inl, inr}, TableLemmas.{accept_strays}}
 use Rattle.x25_circuit.proofs.circuit.Circuit.hear_accept.Goals as goal
 
 pub returns-in-Calling : goal.returns-in-Calling

@@ -1,5 +1,4 @@
-use Rattle.std.proofs.Common.{rules, lit≤}
-use Rattle.x25_circuit.proofs.TableLemmas.{clear_told}
+use Rattle.x25_circuit.proofs.{Names.{rules, lit≤}, TableLemmas.{clear_told}}
 use Rattle.x25_circuit.proofs.circuit.Circuit.hear_clear.Goals as goal
 
 pub returns-in-Clearing : goal.returns-in-Clearing

@@ -1,5 +1,4 @@
-use Rattle.std.proofs.Common.{rules}
-use Rattle.x25_circuit.proofs.TableLemmas.{clear_conf_strays}
+use Rattle.x25_circuit.proofs.{Names.{rules}, TableLemmas.{clear_conf_strays}}
 use Rattle.x25_circuit.proofs.circuit.Circuit.hear_clear_conf.Goals as goal
 
 pub returns-in-Clearing : goal.returns-in-Clearing

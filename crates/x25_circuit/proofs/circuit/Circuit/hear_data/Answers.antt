@@ -1,11 +1,6 @@
-use Rattle.std.proofs.Common.{rules, ℕ, length, sym, ap, ◌∙◌, Some}
-use Rattle.x25_circuit.specs.Message.{Partial, piece_of, completed}
-use Rattle.std.proofs.lemmas.List.{length_push}
-use Rattle.x25_circuit.specs.Notice.{deliveries}
-use Rattle.x25_circuit.specs.Hearing.{status}
-use Rattle.x25_circuit.specs.Circuit.{incoming, outgoing}
-use Rattle.x25_circuit.proofs.TalkLemmas.{taken_size, with_transfer, same_longest, same_transfer, taken_more, taken_fits, data_ground_is, number_refused, same_number}
-use Rattle.x25_circuit.proofs.TableLemmas.{said_beside}
+use Rattle.x25_circuit.proofs.Names.{rules, ℕ, length, sym, ap, ◌∙◌, Some, length_push, incoming, outgoing, Partial, piece_of, completed}
+use Rattle.x25_circuit.{proofs.TableLemmas.{said_beside}, proofs.TalkLemmas.{number_refused}, specs.Hearing.{status}, specs.Notice.{deliveries}}
+use Rattle.x25_circuit.proofs.TalkLemmas.{same_number, taken_size, with_transfer, same_longest, same_transfer, taken_more, taken_fits, data_ground_is}
 use Rattle.x25_circuit.proofs.circuit.Circuit.hear_data.Goals as goal
 
 pub returns-then-not-ack : goal.returns-then-not-ack

@@ -1,4 +1,4 @@
-use Rattle.std.proofs.Common.{rules}
+use Rattle.x25_circuit.proofs.Names.{rules}
 use Rattle.x25_circuit.proofs.circuit.Circuit.hear_interrupt_conf.Goals as goal
 
 pub returns-then-not-self : goal.returns-then-not-self

@@ -1,5 +1,4 @@
-use Rattle.std.proofs.Common.{rules}
-use Rattle.x25_circuit.proofs.TableLemmas.{reset_strays}
+use Rattle.x25_circuit.proofs.{Names.{rules}, TableLemmas.{reset_strays}}
 use Rattle.x25_circuit.proofs.circuit.Circuit.hear_reset.Goals as goal
 
 pub returns-in-Open : goal.returns-in-Open

@@ -1,6 +1,4 @@
-use Rattle.std.proofs.Common.{rules, sym, ◌∙◌}
-use Rattle.x25_circuit.specs.Circuit.{outgoing}
-use Rattle.x25_circuit.proofs.TalkLemmas.{with_transfer, same_longest, same_transfer, peer_fits}
+use Rattle.x25_circuit.proofs.{Names.{rules, sym, ◌∙◌, outgoing}, TalkLemmas.{with_transfer, same_longest, same_transfer, peer_fits}}
 use Rattle.x25_circuit.proofs.circuit.Circuit.hear_status.Goals as goal
 
 pub returns-then-not-ack : goal.returns-then-not-ack

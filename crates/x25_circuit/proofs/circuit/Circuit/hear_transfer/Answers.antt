@@ -1,5 +1,4 @@
-use Rattle.std.proofs.Common.{rules}
-use Rattle.x25_circuit.proofs.TableLemmas.{data_strays, said_beside}
+use Rattle.x25_circuit.proofs.{Names.{rules}, TableLemmas.{data_strays, said_beside}}
 use Rattle.x25_circuit.proofs.circuit.Circuit.hear_transfer.Goals as goal
 
 pub returns-in_default : goal.returns-in_default

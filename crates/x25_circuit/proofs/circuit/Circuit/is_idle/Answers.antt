@@ -1,9 +1,5 @@
-use Rattle.std.proofs.Common.{ℕ, inl, inr, not, ◌==◌, ◌&&◌, sym, ap, ◌∙◌}
-use Rattle.x25_circuit.specs.declared.state.State.{State}
-use Rattle.x25_circuit.specs.Awaits.{awaited_in, is_any}
-use Rattle.x25_circuit.specs.Circuit.{outgoing, waits}
+use Rattle.x25_circuit.proofs.{Names.{ℕ, inl, inr, ◌==◌, sym, ap, ◌∙◌, awaited_in, is_any, outgoing, waits, State}, TableLemmas.{idle_by, busy_by, awaited}}
 use Rattle.x25_circuit.proofs.TalkLemmas.{waits_are}
-use Rattle.x25_circuit.proofs.TableLemmas.{idle_by, busy_by, awaited}
 use Rattle.x25_circuit.proofs.circuit.Circuit.is_idle.Goals as goal
 
 pub returns-in-Free-clause-value : goal.returns-in-Free-clause-value

@@ -1,8 +1,5 @@
-use Rattle.std.proofs.Common.{◌≡◌, inl, inr, true, false, subst}
+use Rattle.x25_circuit.proofs.Names.{◌≡◌, inl, inr, true, false, subst, call_in, refusal_of, Params}
 use Rattle.std.specs.Result.{result_err}
-use Rattle.x25_circuit.specs.declared.params.Params.{Params}
-use Rattle.x25_circuit.specs.Calling.{call_in}
-use Rattle.x25_circuit.specs.Request.{refusal_of}
 use Rattle.x25_circuit.proofs.circuit.Circuit.refusal.Goals as goal
 
 pub returns-in-Call : goal.returns-in-Call
@@ -28,6 +25,6 @@ returns-in-Reset c = λ d x fits. rw c.in-Reset.is (c.reset_refusal.ensures.refu
 pub returns-in-Ready : goal.returns-in-Ready
 returns-in-Ready c = λ d x fits.
     elim c.in-Ready.is [
-      | inl e ↦ rw e (c.closed.ensures.ready d x true fits)
-      | inr e ↦ rw e (c.closed.ensures.ready d x false fits)
+      | inl e ↦ rw e (c.closed.ensures.refusal d x true fits)
+      | inr e ↦ rw e (c.closed.ensures.refusal d x false fits)
     ]

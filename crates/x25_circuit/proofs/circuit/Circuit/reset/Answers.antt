@@ -1,11 +1,9 @@
-use Rattle.std.proofs.Common.{rules, ◌≡◌, ◌∙◌, true, sym, subst, refl}
-use Rattle.x25_bits.specs.declared.role.Role.{Role}
-use Rattle.x25_circuit.specs.Cause.{may_reset_for}
+use Rattle.x25_circuit.{proofs.AskLemmas.{is_refused}, proofs.Names.{rules, ◌≡◌, ◌∙◌, true, sym, subst, refl, Role}, specs.Cause.{may_reset_for}}
 use Rattle.x25_circuit.proofs.circuit.Circuit.reset.Goals as goal
 
 pub returns-in-Some : goal.returns-in-Some
 returns-in-Some c = record {
-  outcome = λ d x fits. rw (c.in-Some.ensures.refused d x c.args.diagnostic fits) refl;
+  outcome = λ d x fits. rw (is_refused _ _ (c.in-Some.ensures.refusal d x c.args.diagnostic fits)) refl;
   range = search rules;
   control = search rules;
   keeps = search rules;

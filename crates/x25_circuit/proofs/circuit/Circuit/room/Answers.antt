@@ -1,5 +1,4 @@
-use Rattle.std.proofs.Common.{◌∙◌, ℕ, ◌-◌, Bool, if◌then◌else◌, sym, ap}
-use Rattle.x25_circuit.specs.Circuit.{waits}
+use Rattle.x25_circuit.proofs.Names.{◌∙◌, ℕ, ◌-◌, Bool, if◌then◌else◌, sym, ap, waits}
 use Rattle.x25_circuit.proofs.circuit.Circuit.room.Goals as goal
 
 pub returns-then-not-is_open-clause-value : goal.returns-then-not-is_open-clause-value

@@ -1,12 +1,9 @@
-use Rattle.std.proofs.Common.{rules, sym, ap, ◌∙◌, Some, refl}
-use Rattle.x25_circuit.specs.Circuit.{outgoing}
-use Rattle.x25_circuit.proofs.TalkLemmas.{with_transfer, own_fits}
-use Rattle.x25_circuit.proofs.TableLemmas.{ready_at}
+use Rattle.x25_circuit.proofs.{AskLemmas.{is_refused}, Names.{rules, sym, ap, ◌∙◌, Some, refl, outgoing}, TableLemmas.{ready_at}, TalkLemmas.{with_transfer, own_fits}}
 use Rattle.x25_circuit.proofs.circuit.Circuit.say.Goals as goal
 
 pub returns-in-Some : goal.returns-in-Some
 returns-in-Some c = record {
-  outcome = λ d x fits. rw (c.in-Some.ensures.no_ready d x c.args.is_ready fits) refl;
+  outcome = λ d x fits. rw (is_refused _ _ (c.in-Some.ensures.refusal d x c.args.is_ready fits)) refl;
   range = search rules;
   control = search rules;
   keeps = search rules;

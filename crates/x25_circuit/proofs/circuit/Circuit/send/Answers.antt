@@ -1,13 +1,9 @@
-use Rattle.std.proofs.Common.{sym, ◌∙◌, arith, refl}
-use Rattle.x25_circuit.proofs.TableLemmas.{send_at, send_waits}
-use Rattle.x25_circuit.specs.Circuit.{outgoing}
-use Rattle.x25_circuit.proofs.TalkLemmas.{with_transfer, same_longest, waits_are}
+use Rattle.x25_circuit.proofs.{AskLemmas.{is_refused}, Names.{sym, ◌∙◌, arith, refl, outgoing}, TableLemmas.{send_at, send_waits}, TalkLemmas.{with_transfer, same_longest, waits_are}}
 use Rattle.x25_circuit.proofs.circuit.Circuit.send.Goals as goal
 
 pub returns-in-Some-clause-outcome : goal.returns-in-Some-clause-outcome
 returns-in-Some-clause-outcome c = λ d x fits.
-    let refused = c.in-Some.ensures.refused d x c.args.marks c.args.user.now (omega arith) fits in
-    rw refused refl
+    rw (is_refused _ _ (c.in-Some.ensures.refusal d x c.args.marks c.args.user.now (omega arith) fits)) refl
 
 pub returns-clause-outcome : goal.returns-clause-outcome
 returns-clause-outcome c = λ d x fits.

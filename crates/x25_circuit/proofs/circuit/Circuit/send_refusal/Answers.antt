@@ -1,7 +1,4 @@
-use Rattle.std.proofs.Common.{sym, refl, arith, ◌∙◌}
-use Rattle.x25_circuit.proofs.TableLemmas.{send_at, send_long, send_full, send_waits}
-use Rattle.x25_circuit.proofs.TalkLemmas.{waits_are}
-use Rattle.x25_circuit.specs.Circuit.{outgoing}
+use Rattle.x25_circuit.proofs.{Names.{sym, refl, arith, ◌∙◌, outgoing}, TableLemmas.{send_at, send_long, send_full, send_waits}, TalkLemmas.{waits_are}}
 use Rattle.x25_circuit.proofs.circuit.Circuit.send_refusal.Goals as goal
 
 pub returns-in-Open-clause-refusal : goal.returns-in-Open-clause-refusal
@@ -11,24 +8,8 @@ returns-in-Open-clause-refusal c = λ d x marks user same fits.
       send_long d x marks user (omega (arith, same, c.if-count-longest.true, c.longest-longest.ensures.value, fits.longest)),
     ) refl
 
-pub returns-in-Open-clause-refused : goal.returns-in-Open-clause-refused
-returns-in-Open-clause-refused c = λ d x marks user same fits.
-    rw (
-      send_at d x x.state marks user (sym fits.state ∙ c.in-Open.is),
-      send_long d x marks user (omega (arith, same, c.if-count-longest.true, c.longest-longest.ensures.value, fits.longest)),
-    ) refl
-
 pub returns-in-Open-2-clause-refusal : goal.returns-in-Open-2-clause-refusal
 returns-in-Open-2-clause-refusal c = λ d x marks user same fits.
-    let waits = waits_are (outgoing x).size c.args.self.now.transfer x.talk fits.talk in
-    rw (
-      send_at d x x.state marks user (sym fits.state ∙ c.in-Open-2.is),
-      send_full d x marks user (omega (arith, same, c.if-count-longest.false, c.longest-longest.ensures.value, fits.longest))
-          (omega (arith, waits, c.len.ensures.value, c.if-len-eq-PLACES.true)),
-    ) refl
-
-pub returns-in-Open-2-clause-refused : goal.returns-in-Open-2-clause-refused
-returns-in-Open-2-clause-refused c = λ d x marks user same fits.
     let waits = waits_are (outgoing x).size c.args.self.now.transfer x.talk fits.talk in
     rw (
       send_at d x x.state marks user (sym fits.state ∙ c.in-Open-2.is),

@@ -1,7 +1,4 @@
-use Rattle.std.proofs.Common.{arith}
-use Rattle.std.proofs.lemmas.List.{length-append}
-use Rattle.x25_circuit.specs.Circuit.{outgoing}
-use Rattle.x25_circuit.proofs.NumbersLemmas.{unconfirmed_few}
+use Rattle.x25_circuit.proofs.{Names.{arith, length-append, outgoing}, NumbersLemmas.{unconfirmed_few}}
 use Rattle.x25_circuit.proofs.circuit.Circuit.unconfirmed.Goals as goal
 
 pub returns-clause-few : goal.returns-clause-few

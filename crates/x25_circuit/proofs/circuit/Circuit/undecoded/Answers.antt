@@ -1,9 +1,4 @@
-use Rattle.std.proofs.Common.{rules, [], subst, sym}
-use Rattle.x25_circuit.specs.declared.state.State.{State}
-use Rattle.x25_circuit.specs.Hearing.{row_undecoded}
-use Rattle.x25_circuit.specs.code.FitsCircuit.{FitsCircuit}
-use Rattle.x25_circuit.specs.code.Replies.{Says}
-use Rattle.x25_circuit.proofs.TableLemmas.{undecoded_clears}
+use Rattle.x25_circuit.proofs.{Names.{rules, [], subst, sym, row_undecoded, FitsCircuit, Says, State}, TableLemmas.{undecoded_clears}}
 use Rattle.x25_circuit.proofs.circuit.Circuit.undecoded.Goals as goal
 
 pub returns-in-Open : goal.returns-in-Open

@@ -1,4 +1,4 @@
-use Rattle.std.proofs.Common.{rules, sym}
+use Rattle.x25_circuit.proofs.Names.{rules, sym}
 use Rattle.x25_circuit.proofs.circuit.Circuit.unexpected.Goals as goal
 
 pub returns : goal.returns

@@ -1,9 +1,4 @@
-use Rattle.std.proofs.Common.{sym, ap, ◌∙◌}
-use Rattle.x25_circuit.specs.Message.{wholes}
-use Rattle.x25_circuit.specs.Circuit.{outgoing}
-use Rattle.x25_circuit.specs.Queue.{waiting}
-use Rattle.x25_circuit.proofs.MessageLemmas.{wholes_all}
-use Rattle.x25_circuit.proofs.PullLemmas.{pulls_empty}
+use Rattle.x25_circuit.proofs.{MessageLemmas.{wholes_all}, Names.{sym, ap, ◌∙◌, outgoing, wholes, waiting}, PullLemmas.{pulls_empty}}
 use Rattle.x25_circuit.proofs.circuit.Circuit.waits.Goals as goal
 
 pub returns-clause-value : goal.returns-clause-value

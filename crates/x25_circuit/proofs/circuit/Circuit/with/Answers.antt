@@ -1,4 +1,4 @@
-use Rattle.std.proofs.Common.{refl, ◌∙◌}
+use Rattle.x25_circuit.proofs.Names.{refl, ◌∙◌}
 use Rattle.x25_circuit.proofs.circuit.Circuit.with.Goals as goal
 
 pub returns-clause-fits : goal.returns-clause-fits

@@ -1,5 +1,4 @@
-use Rattle.std.proofs.Common.{sym, ◌∙◌}
-use Rattle.x25_circuit.proofs.ParamsLemmas.{answer_is_allowed}
+use Rattle.x25_circuit.proofs.{Names.{sym, ◌∙◌}, ParamsLemmas.{answer_is_allowed}}
 use Rattle.x25_circuit.proofs.params.FlowControl.answered.Goals as goal
 
 pub invariant_of-result : goal.invariant_of-result

@@ -1,5 +1,4 @@
-use Rattle.std.proofs.Common.{arith}
-use Rattle.x25_circuit.proofs.ParamsLemmas.{terms_are_allowed}
+use Rattle.x25_circuit.proofs.{Names.{arith}, ParamsLemmas.{terms_are_allowed}}
 use Rattle.x25_circuit.proofs.params.FlowControl.terms.Goals as goal
 
 pub invariant_of-result : goal.invariant_of-result

@@ -1,5 +1,4 @@
-use Rattle.std.proofs.Common.{sym, ◌∙◌}
-use Rattle.x25_circuit.proofs.NumbersLemmas.{acked_unasked, acked_asked}
+use Rattle.x25_circuit.proofs.{Names.{sym, ◌∙◌}, NumbersLemmas.{acked_unasked, acked_asked}}
 use Rattle.x25_circuit.proofs.transfer.Transfer.ack.Goals as goal
 
 pub returns-then-self-eq0-clause-fits : goal.returns-then-self-eq0-clause-fits

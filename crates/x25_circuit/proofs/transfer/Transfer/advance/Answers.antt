@@ -1,11 +1,5 @@
-use Rattle.std.proofs.Common.{◌≡◌, ◌∷◌, [], ◌++◌, List, length, drop, refl, sym, ap, ◌∙◌, append_assoc, arith}
-use Rattle.std.proofs.lemmas.List.{length-map}
-use Rattle.x25_circuit.specs.Message.{Piece, piece_of, cut_all, asks, asked_in}
-use Rattle.x25_circuit.proofs.AskedLemmas.{asks_as_marked}
-use Rattle.x25_circuit.specs.Queue.{waiting}
-use Rattle.x25_circuit.specs.code.Cutter.{first_left}
-use Rattle.std.proofs.lemmas.Bool.{lt-ltb, and_from}
-use Rattle.x25_circuit.proofs.MessageLemmas.{next_piece}
+use Rattle.x25_circuit.proofs.Names.{◌≡◌, ◌∷◌, [], ◌++◌, List, length, drop, refl, sym, ap, ◌∙◌, append_assoc, arith, lt-ltb, and_from, length-map, Piece}
+use Rattle.x25_circuit.proofs.{AskedLemmas.{asks_as_marked}, MessageLemmas.{next_piece}, Names.{piece_of, cut_all, asks, asked_in, waiting, first_left}}
 use Rattle.x25_circuit.proofs.transfer.Transfer.advance.Goals as goal
 
 pub returns-clause-some : goal.returns-clause-some

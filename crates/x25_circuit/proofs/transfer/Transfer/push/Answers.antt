@@ -1,9 +1,5 @@
-use Rattle.std.proofs.Common.{rules, ◌≡◌, ◌++◌, ◌∷◌, [], List, sym, ap, ◌∙◌}
-use Rattle.x25_circuit.specs.Message.{Message, Piece, cut, cut_all}
-use Rattle.x25_circuit.specs.Queue.{waiting}
-use Rattle.x25_circuit.proofs.MessageLemmas.{cut_all_push}
-use Rattle.x25_circuit.proofs.NumbersLemmas.{asked_more}
-use Rattle.x25_circuit.proofs.TalkLemmas.{queue_fits}
+use Rattle.x25_circuit.proofs.{MessageLemmas.{cut_all_push}, Names.{rules, ◌≡◌, ◌++◌, ◌∷◌, [], List, sym, ap, ◌∙◌, Message, Piece, cut, cut_all, waiting}}
+use Rattle.x25_circuit.proofs.{NumbersLemmas.{asked_more}, TalkLemmas.{queue_fits}}
 use Rattle.x25_circuit.proofs.transfer.Transfer.push.Goals as goal
 
 pub returns-clause-fits : goal.returns-clause-fits

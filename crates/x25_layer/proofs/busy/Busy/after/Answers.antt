@@ -1,7 +1,6 @@
-use Rattle.std.proofs.Common.{rules, ◌+◌, ◌/◌, ◌^◌, ◌<◌, length, w64, arith}
-use Rattle.std.specs.Int.{trailing_zeros}
-use Rattle.x25_layer.proofs.BusyLemmas.{begins, begins_fits, goes_on, none_behind, empty_behind, empty_between, empty_to_end}
-use Rattle.x25_layer.proofs.BusyLemmas.{is_higher, is_listed, none_between, is_within}
+use Rattle.std.proofs.Common.{◌/◌}
+use Rattle.x25_layer.proofs.BusyLemmas.{begins, begins_fits, goes_on, none_behind, empty_behind, empty_between, empty_to_end, is_higher, is_listed}
+use Rattle.x25_layer.proofs.{BusyLemmas.{none_between, is_within}, Names.{rules, ◌+◌, ◌^◌, ◌<◌, length, w64, arith, trailing_zeros}}
 use Rattle.x25_layer.proofs.busy.Busy.after.Goals as goal
 
 pub loop-left-init : goal.loop-left-init

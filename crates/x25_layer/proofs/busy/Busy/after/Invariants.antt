@@ -1,5 +1,4 @@
-use Rattle.std.proofs.Common.{◌-◌, ◌^◌, ◌<◌, length}
-use Rattle.x25_layer.proofs.BusyLemmas.{IsLeft}
+use Rattle.x25_layer.proofs.{BusyLemmas.{IsLeft}, Names.{◌-◌, ◌^◌, ◌<◌, length}}
 use Rattle.x25_layer.proofs.busy.Busy.after.Given as goal
 
 abbrev pub invariant-loop-left : goal.invariant-loop-left

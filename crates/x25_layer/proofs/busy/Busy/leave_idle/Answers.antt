@@ -1,5 +1,4 @@
-use Rattle.std.proofs.Common.{length-set, sym, refl, w64, ◌∙◌}
-use Rattle.std.specs.Int.{bit_not}
+use Rattle.x25_layer.proofs.Names.{length-set, sym, refl, w64, ◌∙◌, bit_not}
 use Rattle.x25_layer.proofs.BusyLemmas.{without_within, without_unused, without_other, without_this, word_low, idle_is}
 use Rattle.x25_layer.proofs.busy.Busy.leave_idle.Goals as goal
 

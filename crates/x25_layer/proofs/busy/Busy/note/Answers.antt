@@ -1,6 +1,5 @@
-use Rattle.std.proofs.Common.{ℕ, ◌^◌, ◌∙◌, if◌then◌else◌, length-set, refl, sym, ap}
-use Rattle.x25_layer.proofs.CallLemmas.{configured}
-use Rattle.x25_layer.proofs.BusyLemmas.{with_within, with_unused, with_this, with_others, word_low, no_mask}
+use Rattle.x25_layer.proofs.Names.{ℕ, ◌^◌, ◌∙◌, if◌then◌else◌, length-set, refl, sym, ap}
+use Rattle.x25_layer.proofs.{BusyLemmas.{with_within, with_unused, with_this, with_others, word_low, no_mask}, CallLemmas.{configured}}
 use Rattle.x25_layer.proofs.busy.Busy.note.Goals as goal
 
 pub invariant_of-self-clause-within : goal.invariant_of-self-clause-within

@@ -1,10 +1,6 @@
-use Rattle.std.proofs.Common.{◌≡◌, ◌∙◌, inl, inr, ℕ, suc, ◌+◌, slice_get, sym, ap, subst, arith}
-use Rattle.std.proofs.lemmas.Bool.{cases_lt}
-use Rattle.std.proofs.lemmas.Option.{same_Some, slice_get_within}
+use Rattle.x25_layer.proofs.Names.{◌≡◌, ◌∙◌, inl, inr, ℕ, suc, ◌+◌, slice_get, sym, ap, subst, arith, cases_lt, same_Some, slice_get_within, IsOutside, IsIdle}
+use Rattle.x25_layer.proofs.{BusyLemmas.{idle_is, not_busy}, FitLemmas.{read_at}}
 use Rattle.x25_circuit.specs.declared.circuit.Circuit as circuit_code
-use Rattle.x25_layer.specs.code.Idle.{IsOutside, IsIdle}
-use Rattle.x25_layer.proofs.FitLemmas.{read_at}
-use Rattle.x25_layer.proofs.BusyLemmas.{idle_is, not_busy}
 use Rattle.x25_layer.proofs.busy.Busy.note_all.Goals as goal
 
 pub loop-circuit-preserved : goal.loop-circuit-preserved

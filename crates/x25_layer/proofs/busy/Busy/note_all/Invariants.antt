@@ -1,6 +1,5 @@
-use Rattle.std.proofs.Common.{◌≡◌, ℕ, suc, ◌<◌, Some, slice_get}
+use Rattle.x25_layer.proofs.Names.{◌≡◌, ℕ, suc, ◌<◌, Some, slice_get, IsOutside, IsIdle}
 use Rattle.x25_circuit.specs.declared.circuit.Circuit as circuit_code
-use Rattle.x25_layer.specs.code.Idle.{IsOutside, IsIdle}
 use Rattle.x25_layer.proofs.busy.Busy.note_all.Given as goal
 
 abbrev pub invariant-loop-circuit : goal.invariant-loop-circuit

@@ -1,9 +1,6 @@
-use Rattle.std.proofs.Common.{◌≡◌, ◌∙◌, sym, ap, subst, true, false}
-use Rattle.x25_circuit.specs.Request.{plain_request}
-use Rattle.x25_layer.specs.Calls.{Asks, LayerOutcome, puts_at_once}
-use Rattle.x25_layer.specs.Ranges.{is_number, is_channel}
-use Rattle.x25_layer.specs.code.Answering.{Gives}
+use Rattle.x25_layer.proofs.Names.{◌≡◌, ◌∙◌, sym, ap, subst, true, false, plain_request, Asks, LayerOutcome, puts_at_once, is_number, Gives}
 use Rattle.x25_layer.proofs.CallLemmas.{asked_goes, refuses, takes_it, on_ok, on_ok_then}
+use Rattle.x25_layer.specs.Ranges.{is_channel}
 use Rattle.x25_layer.proofs.layer.Layer.ask.Goals as goal
 
 pub returns-in-Some : goal.returns-in-Some

@@ -1,15 +1,7 @@
-use Rattle.std.proofs.Common.{ℕ, suc, ◌-◌, ◌∙◌, Err, refl, sym, ap, subst, length-set}
-use Rattle.x25_circuit.specs.declared.error.CircuitError.{CircuitError}
+use Rattle.x25_layer.proofs.Names.{ℕ, suc, ◌-◌, ◌∙◌, Err, refl, sym, ap, subst, length-set, outcome, plain_request, FitsCircuit, CircuitError, HasCountsLeft}
+use Rattle.x25_layer.proofs.{BusyLemmas.{true_false}, CallLemmas.{found_at, asks_ok, asks_err, asks_some, memory_is, err_is, layer_kept}}
+use Rattle.x25_layer.proofs.{FitLemmas.{all_changed, counts_left}, HearLemmas.{read_there, place_of}, Names.{IsOutside, IsIdle}}
 use Rattle.x25_circuit.specs.declared.circuit.Circuit as circuit_code
-use Rattle.x25_circuit.specs.Calling.{outcome}
-use Rattle.x25_circuit.specs.code.FitsCircuit.{FitsCircuit}
-use Rattle.x25_circuit.specs.Request.{plain_request}
-use Rattle.x25_layer.specs.code.Idle.{IsOutside, IsIdle}
-use Rattle.x25_layer.specs.Full.{HasCountsLeft}
-use Rattle.x25_layer.proofs.CallLemmas.{found_at, asks_ok, asks_err, asks_some, memory_is, err_is, layer_kept}
-use Rattle.x25_layer.proofs.FitLemmas.{all_changed, counts_left}
-use Rattle.x25_layer.proofs.BusyLemmas.{true_false}
-use Rattle.x25_layer.proofs.HearLemmas.{read_there, place_of}
 use Rattle.x25_layer.proofs.layer.Layer.ask_circuit.Goals as goal
 
 pub returns-in-Ok-clause-outcome : goal.returns-in-Ok-clause-outcome

@@ -1,10 +1,6 @@
-use Rattle.std.proofs.Common.{rules, ◌∙◌, Err, refl, sym, ap}
-use Rattle.x25_circuit.specs.Calling.{Outcome, outcome}
-use Rattle.x25_circuit.specs.Request.{plain_request}
-use Rattle.x25_layer.specs.declared.error.LayerError.{LayerError}
+use Rattle.x25_layer.proofs.Names.{rules, ◌∙◌, Err, refl, sym, ap, Outcome, outcome, plain_request, LayerError}
+use Rattle.x25_layer.proofs.{CallLemmas.{is_accepted, accepted, declined, put_later, same_err}, FitLemmas.{on_err}}
 use Rattle.x25_layer.specs.declared.error.LayerError.TheVariants as error
-use Rattle.x25_layer.proofs.FitLemmas.{on_err}
-use Rattle.x25_layer.proofs.CallLemmas.{is_accepted, accepted, declined, put_later, same_err}
 use Rattle.x25_layer.proofs.layer.Layer.ask_ready.Goals as goal
 
 pub returns-in_err-packet-clause-does : goal.returns-in_err-packet-clause-does

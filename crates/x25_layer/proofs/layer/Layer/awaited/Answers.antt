@@ -1,8 +1,5 @@
-use Rattle.std.proofs.Common.{◌≡◌, ◌∙◌, ℕ, suc, ◌+◌, ◌-◌, ◌<◌, Bool, if◌then◌else◌, length, sym, ap, arith}
-use Rattle.x25_circuit.specs.Awaits.{is_any}
-use Rattle.x25_layer.specs.code.FitsLayer.{awaited_up_to}
-use Rattle.x25_layer.proofs.FitLemmas.{awaited_more, read_at}
-use Rattle.x25_layer.proofs.BusyLemmas.{awaited_past}
+use Rattle.x25_layer.proofs.Names.{◌≡◌, ◌∙◌, ℕ, suc, ◌+◌, ◌-◌, ◌<◌, Bool, if◌then◌else◌, length, sym, ap, arith, is_any, awaited_up_to}
+use Rattle.x25_layer.proofs.{BusyLemmas.{awaited_past}, FitLemmas.{awaited_more, read_at}}
 use Rattle.x25_layer.proofs.layer.Layer.awaited.Goals as goal
 
 pub loop-next-preserved : goal.loop-next-preserved

@@ -1,6 +1,4 @@
-use Rattle.std.proofs.Common.{◌≡◌, ◌-◌, ◌≤◌, length}
-use Rattle.x25_layer.specs.Layer.{LayerSettings, Layer}
-use Rattle.x25_layer.specs.code.FitsLayer.{FitsLayer, awaited_up_to}
+use Rattle.x25_layer.proofs.Names.{◌≡◌, ◌-◌, ◌≤◌, length, LayerSettings, Layer, FitsLayer, awaited_up_to}
 use Rattle.x25_layer.proofs.layer.Layer.awaited.Given as goal
 
 abbrev pub invariant-loop-next : goal.invariant-loop-next

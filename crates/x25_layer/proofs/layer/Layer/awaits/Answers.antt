@@ -1,5 +1,4 @@
-use Rattle.std.proofs.Common.{◌∙◌, true}
-use Rattle.x25_layer.proofs.FitLemmas.{awaited}
+use Rattle.x25_layer.proofs.{FitLemmas.{awaited}, Names.{◌∙◌, true}}
 use Rattle.x25_layer.proofs.layer.Layer.awaits.Goals as goal
 
 pub returns-in-Some : goal.returns-in-Some

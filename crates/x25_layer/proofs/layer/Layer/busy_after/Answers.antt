@@ -1,6 +1,5 @@
 use Rattle.std.proofs.lemmas.Option.{IfSome_then}
-use Rattle.x25_layer.proofs.FitLemmas.{if_none}
-use Rattle.x25_layer.proofs.BusyLemmas.{none_awaited}
+use Rattle.x25_layer.proofs.{BusyLemmas.{none_awaited}, FitLemmas.{if_none}}
 use Rattle.x25_layer.proofs.layer.Layer.busy_after.Goals as goal
 
 pub returns-clause-between : goal.returns-clause-between

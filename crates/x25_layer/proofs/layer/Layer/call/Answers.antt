@@ -1,7 +1,5 @@
-use Rattle.std.proofs.Common.{rules, ◌≡◌, ℕ, ◌∙◌, inr, Ok, Err, sym, subst, false}
+use Rattle.x25_layer.proofs.Names.{rules, ◌≡◌, ℕ, ◌∙◌, inr, Ok, Err, sym, subst, false, Dials, LayerOutcome, Gives}
 use Rattle.std.proofs.lemmas.Result.{err_from_is_err_and}
-use Rattle.x25_layer.specs.Calls.{Dials, LayerOutcome}
-use Rattle.x25_layer.specs.code.Answering.{Gives}
 use Rattle.x25_layer.proofs.CallLemmas.{dial_goes, dial_err, dial_ok, refuses}
 use Rattle.x25_layer.proofs.layer.Layer.call.Goals as goal
 

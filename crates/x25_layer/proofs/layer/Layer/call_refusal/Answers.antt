@@ -1,7 +1,4 @@
-use Rattle.std.proofs.Common.{◌≡◌, ◌∙◌, sym, ap, false}
-use Rattle.x25_circuit.specs.Calling.{Calls, outcome}
-use Rattle.x25_layer.specs.Calls.{declined_for}
-use Rattle.x25_layer.proofs.CallLemmas.{dial_goes, refusal_goes}
+use Rattle.x25_layer.proofs.{CallLemmas.{dial_goes, refusal_goes}, Names.{◌≡◌, ◌∙◌, sym, ap, false, Calls, outcome, declined_for}}
 use Rattle.x25_layer.proofs.layer.Layer.call_refusal.Goals as goal
 
 pub returns : goal.returns

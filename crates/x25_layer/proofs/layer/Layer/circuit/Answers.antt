@@ -1,5 +1,4 @@
-use Rattle.std.proofs.Common.{◌≤◌, arith}
-use Rattle.x25_layer.proofs.FitLemmas.{looked_up}
+use Rattle.x25_layer.proofs.{FitLemmas.{looked_up}, Names.{◌≤◌, arith}}
 use Rattle.x25_layer.proofs.layer.Layer.circuit.Goals as goal
 
 pub returns-clause-fits : goal.returns-clause-fits

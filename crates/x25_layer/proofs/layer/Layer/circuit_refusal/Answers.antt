@@ -1,7 +1,4 @@
-use Rattle.std.proofs.Common.{◌∙◌, sym}
-use Rattle.x25_circuit.specs.Calling.{outcome}
-use Rattle.x25_circuit.specs.Request.{plain_request}
-use Rattle.x25_layer.proofs.CallLemmas.{refused_on, accepted_on}
+use Rattle.x25_layer.proofs.{CallLemmas.{refused_on, accepted_on}, Names.{◌∙◌, sym, outcome, plain_request}}
 use Rattle.x25_layer.proofs.layer.Layer.circuit_refusal.Goals as goal
 
 pub returns-in-Some-refusal : goal.returns-in-Some-refusal

@@ -1,6 +1,5 @@
-use Rattle.std.proofs.Common.{◌∙◌, refl, List, subst, sym}
+use Rattle.x25_layer.proofs.Names.{◌∙◌, refl, List, subst, sym, IdleBeside}
 use Rattle.x25_circuit.specs.declared.circuit.Circuit as circuit_code
-use Rattle.x25_layer.specs.code.Idle.{IdleBeside}
 use Rattle.x25_layer.proofs.layer.Layer.down.Goals as goal
 
 pub returns : goal.returns

@@ -1,8 +1,5 @@
-use Rattle.std.proofs.Common.{◌∙◌, List, length, sym, ap, subst}
-use Rattle.x25_bits.specs.declared.role.Role.TheVariants.{Dte, Dce}
+use Rattle.x25_layer.proofs.{FreeLemmas.{free_by_role}, Names.{◌∙◌, List, length, sym, ap, subst, Dte, Dce, FitsCircuits}}
 use Rattle.x25_circuit.specs.declared.circuit.Circuit as circuit_code
-use Rattle.x25_layer.specs.code.FitsLayer.{FitsCircuits}
-use Rattle.x25_layer.proofs.FreeLemmas.{free_by_role}
 use Rattle.x25_layer.proofs.layer.Layer.first_free.Goals as goal
 
 pub returns-in-Dte-clause-value : goal.returns-in-Dte-clause-value

@@ -1,6 +1,4 @@
-use Rattle.std.proofs.Common.{◌∙◌, true, sym, ap}
-use Rattle.x25_layer.specs.Calls.{where_callable}
-use Rattle.x25_layer.proofs.FreeLemmas.{callable_by}
+use Rattle.x25_layer.proofs.{FreeLemmas.{callable_by}, Names.{◌∙◌, true, sym, ap, where_callable}}
 use Rattle.x25_layer.proofs.layer.Layer.free_channel.Goals as goal
 
 pub returns-then-may_call-clause-value : goal.returns-then-may_call-clause-value

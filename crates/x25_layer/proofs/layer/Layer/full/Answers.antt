@@ -1,8 +1,7 @@
-use Rattle.std.proofs.Common.{◌≡◌, ◌∙◌, ℕ, ◌^◌, ◌-◌, ◌==◌, ◌||◌, List, length, Bool, false, sym, ap, subst, arith}
-use Rattle.x25_circuit.specs.declared.circuit.Circuit as circuit_code
-use Rattle.x25_layer.specs.code.FitsLayer.{FitsCircuits, full_up_to}
+use Rattle.x25_layer.proofs.Names.{◌≡◌, ◌∙◌, ℕ, ◌^◌, ◌-◌, ◌==◌, ◌||◌, List, length, Bool, false, sym, ap, subst, arith, FitsCircuits, full_up_to}
 use Rattle.x25_layer.proofs.FitLemmas.{none_full}
 use Rattle.x25_layer.proofs.SettleLemmas.{not_same}
+use Rattle.x25_circuit.specs.declared.circuit.Circuit as circuit_code
 use Rattle.x25_layer.proofs.layer.Layer.full.Goals as goal
 
 pub returns-else-self-2-clause-value : goal.returns-else-self-2-clause-value

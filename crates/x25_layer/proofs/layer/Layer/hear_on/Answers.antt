@@ -1,12 +1,9 @@
-use Rattle.std.proofs.Common.{rules, ◌≡◌, ◌∙◌, ℕ, suc, ◌-◌, length, length-set, true, refl, sym, subst, arith}
-use Rattle.x25_circuit.specs.declared.circuit.Circuit as circuit_code
-use Rattle.x25_circuit.specs.code.Replies.{plain_read}
-use Rattle.x25_layer.specs.Ranges.{is_number}
-use Rattle.x25_layer.specs.code.Idle.{IsOutside, IsIdle}
-use Rattle.x25_layer.specs.Full.{HasCountsLeft}
-use Rattle.x25_layer.proofs.FitLemmas.{all_changed, rest_changed, both, not_true}
+use Rattle.x25_layer.proofs.Names.{rules, ◌≡◌, ◌∙◌, ℕ, suc, ◌-◌, ◌^◌, ◌&&◌, nat_lt, length, length-set, true, refl, sym, subst, arith, clears_of, resets_of}
+use Rattle.x25_layer.proofs.Names.{plain_read, HasCountsLeft, is_number, IsOutside, IsIdle}
+use Rattle.std.proofs.lemmas.Bool.{ltb-true}
+use Rattle.x25_layer.proofs.{BusyLemmas.{idle_is, not_busy}, FitLemmas.{all_changed, rest_changed, both}}
 use Rattle.x25_layer.proofs.HearLemmas.{read_there, place_of, heard_there, told_nothing, told_something, no_message}
-use Rattle.x25_layer.proofs.BusyLemmas.{idle_is, not_busy}
+use Rattle.x25_circuit.specs.declared.circuit.Circuit as circuit_code
 use Rattle.x25_layer.proofs.layer.Layer.hear_on.Goals as goal
 
 pub hear-packet-requires-clause-clears : goal.hear-packet-requires-clause-clears
@@ -55,11 +52,21 @@ invariant_of-self-clause-still c =
     (λ out. idle_is c.hear-packet.new.self c.is_idle.result c.is_idle.ensures.value c.is_idle.ensures.none
     (not_busy _ (c.note.ensures.this (subst (λ (h : ℕ). IsOutside c.note.new.self.words.items h) on out))))
 
+are_left : (clears resets : ℕ) (v : circuit_code.Circuit) → (nat_lt clears (2 ^ 64 - 1) && nat_lt resets (2 ^ 64 - 1)) ≡ true → clears ≡ clears_of v
+    → resets ≡ resets_of v → HasCountsLeft v
+are_left clears resets v is same alike =
+    let both = both (nat_lt clears (2 ^ 64 - 1)) _ is in
+    let low = ltb-true clears (2 ^ 64 - 1) both.0 in
+    let few = ltb-true resets (2 ^ 64 - 1) both.1 in
+    record { clears = omega (arith, low, same); resets = omega (arith, few, alike) }
+
 pub invariant_of-self-clause-circuits_left : goal.invariant_of-self-clause-circuits_left
 invariant_of-self-clause-circuits_left c = λ is.
-    let known = both _ _ is in
+    let known = both c.args.self.now.counts_left _ is in
+    let counts = c.counts-clears.ensures in
     all_changed (λ (k : ℕ) (v : circuit_code.Circuit). HasCountsLeft v) c.args.self.now.circuits.items (c.from-place.result - 1)
-    c.hear-packet.new.self (c.args.self.now.circuits_left known.0) (c.is_full-is_full.ensures.left (not_true _ known.1))
+    c.hear-packet.new.self (c.args.self.now.circuits_left known.0)
+    (are_left _ _ c.hear-packet.new.self known.1 counts.clears_held counts.resets_held)
 
 pub invariant_of-self-clause-places : goal.invariant_of-self-clause-places
 invariant_of-self-clause-places c = c.note.ensures.places ∙ c.args.self.now.places

@@ -1,7 +1,4 @@
-use Rattle.std.proofs.Common.{rules, ◌∙◌, ℕ, ◌≤◌, List, length, Bool, sym, subst, arith}
-use Rattle.x25_packet.specs.Packet.{restart_conf}
-use Rattle.x25_layer.specs.Layer.{answers_in}
-use Rattle.x25_layer.specs.code.FitsLayer.{FitsLayer}
+use Rattle.x25_layer.proofs.Names.{rules, ◌∙◌, ℕ, ◌≤◌, List, length, Bool, sym, subst, arith, answers_in, FitsLayer, restart_conf}
 use Rattle.x25_layer.proofs.layer.Layer.hear_restart_conf.Goals as goal
 
 pub returns-then-self-clause-hears : goal.returns-then-self-clause-hears

@@ -1,5 +1,4 @@
-use Rattle.std.proofs.Common.{◌∙◌, true}
-use Rattle.x25_layer.proofs.FitLemmas.{opened}
+use Rattle.x25_layer.proofs.{FitLemmas.{opened}, Names.{◌∙◌, true}}
 use Rattle.x25_layer.proofs.layer.Layer.is_open.Goals as goal
 
 pub returns-in-Some : goal.returns-in-Some

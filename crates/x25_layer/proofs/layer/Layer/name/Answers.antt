@@ -1,5 +1,4 @@
-use Rattle.std.proofs.Common.{◌∙◌}
-use Rattle.x25_layer.proofs.FitLemmas.{named, counted}
+use Rattle.x25_layer.proofs.{FitLemmas.{named, counted}, Names.{◌∙◌}}
 use Rattle.x25_layer.proofs.layer.Layer.name.Goals as goal
 
 pub returns : goal.returns

@@ -1,6 +1,4 @@
-use Rattle.std.proofs.Common.{◌∙◌, Some, ap}
-use Rattle.x25_circuit.specs.declared.params.Params.{Params}
-use Rattle.x25_layer.proofs.FitLemmas.{agreed}
+use Rattle.x25_layer.proofs.{FitLemmas.{agreed}, Names.{◌∙◌, Some, ap, Params}}
 use Rattle.x25_layer.proofs.layer.Layer.params.Goals as goal
 
 pub returns : goal.returns

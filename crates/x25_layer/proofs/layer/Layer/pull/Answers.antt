@@ -1,14 +1,8 @@
-use Rattle.std.proofs.Common.{rules, ◌≡◌, ℕ, suc, ◌+◌, ◌-◌, ◌<◌, ◌≤◌, ◌∙◌, None, Some, length, set, length-set, sym, subst, arith}
-use Rattle.x25_circuit.specs.declared.circuit.Circuit as circuit_code
-use Rattle.x25_circuit.specs.Calling.{pulled}
-use Rattle.x25_layer.specs.Layer.{put_at, packet_on}
-use Rattle.x25_layer.specs.Full.{HasCountsLeft}
-use Rattle.x25_layer.specs.code.FitsLayer.{FitsCircuits}
-use Rattle.x25_layer.specs.code.Idle.{IsOutside, IsIdle}
-use Rattle.x25_layer.specs.code.Pulling.{IsPut, next_packet}
+use Rattle.x25_layer.proofs.Names.{rules, ◌≡◌, ℕ, suc, ◌+◌, ◌-◌, ◌<◌, ◌≤◌, ◌∙◌, None, Some, length, set, length-set, sym, subst, arith, pulled, HasCountsLeft}
+use Rattle.x25_layer.proofs.Names.{put_at, packet_on, FitsCircuits, IsOutside, IsIdle, IsPut, next_packet}
 use Rattle.x25_layer.proofs.FitLemmas.{counts_left, all_changed, rest_changed, read_at}
-use Rattle.x25_layer.proofs.PullLemmas.{fits_put, fits_same}
-use Rattle.x25_layer.proofs.NextLemmas.{pulls_next, kept_one, none_put, some_put, none_before, none_to}
+use Rattle.x25_layer.proofs.{NextLemmas.{pulls_next, kept_one, none_put, some_put, none_before, none_to}, PullLemmas.{fits_put, fits_same}}
+use Rattle.x25_circuit.specs.declared.circuit.Circuit as circuit_code
 use Rattle.x25_layer.proofs.layer.Layer.pull.Goals as goal
 
 pub loop-next-preserved : goal.loop-next-preserved

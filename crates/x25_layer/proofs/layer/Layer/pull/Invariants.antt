@@ -1,9 +1,4 @@
-use Rattle.std.proofs.Common.{◌≡◌, ℕ, ◌-◌, ◌<◌, ◌≤◌, None, length}
-use Rattle.x25_circuit.specs.Circuit.{Circuit}
-use Rattle.x25_layer.specs.Layer.{LayerSettings}
-use Rattle.x25_layer.specs.code.FitsLayer.{FitsCircuits}
-use Rattle.x25_layer.specs.code.Pulling.{next_packet}
-use Rattle.x25_layer.proofs.CallLemmas.{IsLike}
+use Rattle.x25_layer.proofs.{CallLemmas.{IsLike}, Names.{◌≡◌, ℕ, ◌-◌, ◌<◌, ◌≤◌, None, length, Circuit, LayerSettings, FitsCircuits, next_packet}}
 use Rattle.x25_layer.proofs.layer.Layer.pull.Given as goal
 
 -- the circuits up to a channel have none, and all are as they were

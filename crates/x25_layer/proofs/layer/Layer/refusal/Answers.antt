@@ -1,9 +1,5 @@
-use Rattle.std.proofs.Common.{◌≡◌, ◌∙◌, sym, ap, true, false}
-use Rattle.x25_circuit.specs.Calling.{outcome}
-use Rattle.x25_circuit.specs.Request.{plain_request}
-use Rattle.x25_layer.specs.Calls.{declined_for}
-use Rattle.x25_layer.specs.Ranges.{is_number, is_channel}
-use Rattle.x25_layer.proofs.CallLemmas.{asked_goes, refusal_goes}
+use Rattle.x25_layer.proofs.{CallLemmas.{asked_goes, refusal_goes}, Names.{◌≡◌, ◌∙◌, sym, ap, true, false, outcome, plain_request, declined_for, is_number}}
+use Rattle.x25_layer.specs.Ranges.{is_channel}
 use Rattle.x25_layer.proofs.layer.Layer.refusal.Goals as goal
 
 pub returns : goal.returns

@@ -1,9 +1,5 @@
-use Rattle.std.proofs.Common.{rules, ◌≡◌, ◌∙◌, ℕ, ◌≤◌, List, length, inr, Ok, sym, subst, true, false, arith}
-use Rattle.x25_bits.specs.declared.role.Role.{Role}
-use Rattle.x25_circuit.specs.Cause.{may_restart_for}
-use Rattle.x25_layer.specs.Calls.{Restarts, LayerOutcome}
-use Rattle.x25_layer.specs.code.Answering.{Gives}
-use Rattle.x25_layer.proofs.CallLemmas.{refuses, restart_goes}
+use Rattle.x25_layer.proofs.Names.{rules, ◌≡◌, ◌∙◌, ℕ, ◌≤◌, List, length, inr, Ok, sym, subst, true, false, arith, Role, may_restart_for, Restarts}
+use Rattle.x25_layer.proofs.{CallLemmas.{refuses, restart_goes}, Names.{LayerOutcome, Gives}}
 use Rattle.x25_layer.proofs.layer.Layer.restart.Goals as goal
 
 pub returns-in-Some : goal.returns-in-Some

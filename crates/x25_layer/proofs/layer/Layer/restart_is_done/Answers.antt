@@ -1,6 +1,5 @@
-use Rattle.std.proofs.Common.{◌≡◌, suc, ◌+◌, ◌∙◌, refl, arith, List, subst, sym}
+use Rattle.x25_layer.proofs.Names.{◌≡◌, suc, ◌+◌, ◌∙◌, refl, arith, List, subst, sym, IdleBeside}
 use Rattle.x25_circuit.specs.declared.circuit.Circuit as circuit_code
-use Rattle.x25_layer.specs.code.Idle.{IdleBeside}
 use Rattle.x25_layer.proofs.layer.Layer.restart_is_done.Goals as goal
 
 pub returns-clause-layer : goal.returns-clause-layer

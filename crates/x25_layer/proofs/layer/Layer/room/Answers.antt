@@ -1,6 +1,5 @@
-use Rattle.std.proofs.Common.{◌≡◌, ◌∙◌, ℕ, Bool, true, if◌then◌else◌, sym, ap, subst}
 use Rattle.x25_circuit.specs.Circuit.{message_room}
-use Rattle.x25_layer.specs.Ranges.{is_number, is_channel}
+use Rattle.x25_layer.{proofs.Names.{◌≡◌, ◌∙◌, ℕ, Bool, true, if◌then◌else◌, sym, ap, subst, is_number}, specs.Ranges.{is_channel}}
 use Rattle.x25_layer.proofs.layer.Layer.room.Goals as goal
 
 pub returns-in-Some-clause-value : goal.returns-in-Some-clause-value

@@ -1,6 +1,5 @@
-use Rattle.std.proofs.Common.{◌∙◌, refl, sym, subst, List}
+use Rattle.x25_layer.proofs.Names.{◌∙◌, refl, sym, subst, List, IdleBeside}
 use Rattle.x25_circuit.specs.declared.circuit.Circuit as circuit_code
-use Rattle.x25_layer.specs.code.Idle.{IdleBeside}
 use Rattle.x25_layer.proofs.layer.Layer.send_restart.Goals as goal
 
 pub returns-clause-layer : goal.returns-clause-layer

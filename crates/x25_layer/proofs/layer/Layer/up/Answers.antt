@@ -1,9 +1,5 @@
-use Rattle.std.proofs.Common.{◌≡◌, ◌∙◌, ℕ, ◌≤◌, length, refl, sym, ap, subst, List, arith}
-use Rattle.x25_packet.specs.Packet.{restart}
-use Rattle.x25_packet.specs.Spelling.{spelling_of}
-use Rattle.x25_layer.specs.Layer.{restart_cause}
+use Rattle.x25_layer.proofs.Names.{◌≡◌, ◌∙◌, ℕ, ◌≤◌, length, refl, sym, ap, subst, List, arith, restart_cause, IdleBeside, restart, spelling_of}
 use Rattle.x25_circuit.specs.declared.circuit.Circuit as circuit_code
-use Rattle.x25_layer.specs.code.Idle.{IdleBeside}
 use Rattle.x25_layer.proofs.layer.Layer.up.Goals as goal
 
 pub returns-clause-layer : goal.returns-clause-layer

@@ -1,7 +1,5 @@
-use Rattle.std.proofs.Common.{◌≡◌, ◌∙◌, ℕ, suc, ◌+◌, ◌-◌, ◌<◌, length, sym, ap, arith}
-use Rattle.x25_layer.specs.code.FitsLayer.{waits_up_to}
-use Rattle.x25_layer.proofs.FitLemmas.{waits_more, read_at}
-use Rattle.x25_layer.proofs.BusyLemmas.{waits_past}
+use Rattle.x25_layer.proofs.Names.{◌≡◌, ◌∙◌, ℕ, suc, ◌+◌, ◌-◌, ◌<◌, length, sym, ap, arith, waits_up_to}
+use Rattle.x25_layer.proofs.{BusyLemmas.{waits_past}, FitLemmas.{waits_more, read_at}}
 use Rattle.x25_layer.proofs.layer.Layer.waits.Goals as goal
 
 pub loop-next-preserved : goal.loop-next-preserved

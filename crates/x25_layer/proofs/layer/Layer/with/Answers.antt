@@ -1,6 +1,5 @@
-use Rattle.std.proofs.Common.{List, subst, sym, ◌∙◌}
+use Rattle.x25_layer.proofs.Names.{List, subst, sym, ◌∙◌, IdleBeside}
 use Rattle.x25_circuit.specs.declared.circuit.Circuit as circuit_code
-use Rattle.x25_layer.specs.code.Idle.{IdleBeside}
 use Rattle.x25_layer.proofs.layer.Layer.with.Goals as goal
 
 pub invariant_of-result-clause-still : goal.invariant_of-result-clause-still

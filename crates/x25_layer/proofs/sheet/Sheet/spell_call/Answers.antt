@@ -1,6 +1,4 @@
-use Rattle.std.proofs.Common.{arith}
-use Rattle.x25_packet.specs.Packet.{call}
-use Rattle.x25_layer.proofs.LengthLemmas.{spelled_long}
+use Rattle.x25_layer.proofs.{LengthLemmas.{spelled_long}, Names.{arith, call}}
 use Rattle.x25_layer.proofs.sheet.Sheet.spell_call.Goals as goal
 
 pub unwrap-requires : goal.unwrap-requires

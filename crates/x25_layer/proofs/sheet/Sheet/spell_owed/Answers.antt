@@ -1,6 +1,4 @@
-use Rattle.std.proofs.Common.{◌≤◌, length, sym, subst, ℕ, List}
-use Rattle.x25_packet.specs.Packet.{plain}
-use Rattle.x25_layer.proofs.LengthLemmas.{spelled_short}
+use Rattle.x25_layer.proofs.{LengthLemmas.{spelled_short}, Names.{◌≤◌, length, sym, subst, ℕ, List, plain}}
 use Rattle.x25_layer.proofs.sheet.Sheet.spell_owed.Goals as goal
 
 pub returns-clause-short : goal.returns-clause-short

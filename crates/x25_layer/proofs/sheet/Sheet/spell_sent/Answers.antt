@@ -1,7 +1,5 @@
-use Rattle.std.proofs.Common.{◌≤◌, ◌∙◌, ap, length, refl, sym, subst, ℕ, List, Option, Some}
-use Rattle.x25_packet.specs.Packet.{plain, accept, call, interrupt}
-use Rattle.x25_circuit.specs.declared.requested.Requested.{Requested}
-use Rattle.x25_circuit.specs.code.Replies.{IsSendable, plain_sent}
+use Rattle.x25_layer.proofs.Names.{◌≤◌, ◌∙◌, ap, length, refl, sym, subst, ℕ, List, Option, Some, plain_sent, Requested, plain, accept, call, interrupt}
+use Rattle.x25_circuit.specs.code.Replies.{IsSendable}
 use Rattle.x25_layer.proofs.LengthLemmas.{spelled_short}
 use Rattle.x25_layer.proofs.sheet.Sheet.spell_sent.Goals as goal
 

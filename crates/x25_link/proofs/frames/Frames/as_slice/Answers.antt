@@ -1,6 +1,5 @@
-use Rattle.std.proofs.Common.{ℕ, ◌≡◌, List, map, take, sym, ap, ◌∙◌, vec_capacity, Vec, Global}
-use Rattle.std.proofs.lemmas.List.{take-map}
-use Rattle.std.proofs.lemmas.List.Elements.{All-take}
+use Rattle.x25_link.proofs.Names.{ℕ, ◌≡◌, List, map, take, sym, ap, ◌∙◌, vec_capacity, Vec, Global}
+use Rattle.std.proofs.lemmas.{List.{take-map}, List.Elements.{All-take}}
 use Rattle.x25_link.proofs.frames.Frames.as_slice.Goals as goal
 
 pub returns-clause-frames : goal.returns-clause-frames

@@ -1,7 +1,6 @@
-use Rattle.std.proofs.Common.{rules, ◌≡◌, ◌+◌, ◌<◌, ℕ, List, [], ◌∷◌, ◌++◌, length, map, take, ap, ◌∙◌, arith, Vec, Global}
-use Rattle.std.proofs.lemmas.List.{length-map, length-take-le, map-set, take_more_set}
+use Rattle.x25_link.proofs.Names.{rules, ◌≡◌, ◌+◌, ◌<◌, ℕ, List, [], ◌∷◌, ◌++◌, length, map, take, ap, ◌∙◌, arith, Vec, Global, length-take-le, spelling_of}
+use Rattle.std.proofs.lemmas.List.{length-map, map-set, take_more_set}
 use Rattle.x25_frame.specs.Frame.{plain}
-use Rattle.x25_frame.specs.Spelling.{spelling_of}
 use Rattle.x25_link.proofs.frames.Frames.push.Goals as goal
 
 pub returns : goal.returns

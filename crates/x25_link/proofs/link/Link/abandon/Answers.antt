@@ -1,9 +1,5 @@
-use Rattle.std.proofs.Common.{rules, sym, ◌∙◌, [], arith, ap, length, refl}
-use Rattle.x25_link.specs.declared.phase.Reason.TheVariants.{Counts}
-use Rattle.x25_link.specs.Hearing.{LinkStep, leaves}
-use Rattle.x25_link.specs.Link.{alone}
-use Rattle.x25_link.proofs.AckedLemmas.{closed_same}
-use Rattle.x25_link.proofs.LinkLemmas.{begins, closed_state, closed_out}
+use Rattle.x25_link.proofs.Names.{rules, sym, ◌∙◌, [], arith, ap, length, refl, Counts, LinkStep, leaves, alone}
+use Rattle.x25_link.proofs.{AckedLemmas.{closed_same}, LinkLemmas.{begins, closed_state, closed_out}}
 use Rattle.x25_link.proofs.link.Link.abandon.Goals as goal
 
 pub returns : goal.returns

@@ -1,8 +1,5 @@
-use Rattle.std.proofs.Common.{rules, sym, ◌∙◌, [], ap, length, arith}
-use Rattle.x25_link.specs.Hearing.{LinkStep}
-use Rattle.x25_link.specs.Link.{alone, fires}
-use Rattle.x25_link.proofs.AckedLemmas.{closed_same}
-use Rattle.x25_link.proofs.LinkLemmas.{begins, closed_state, closed_out, fires_settled, fires_calm}
+use Rattle.x25_link.proofs.Names.{rules, sym, ◌∙◌, [], ap, length, arith, LinkStep, alone, fires}
+use Rattle.x25_link.proofs.{AckedLemmas.{closed_same}, LinkLemmas.{begins, closed_state, closed_out, fires_settled, fires_calm}}
 use Rattle.x25_link.proofs.link.Link.probe.Goals as goal
 
 pub returns : goal.returns

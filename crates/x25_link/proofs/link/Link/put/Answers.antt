@@ -1,10 +1,6 @@
-use Rattle.std.proofs.Common.{ℕ, List, ◌<◌, ◌++◌, length, map, arith, sym, ap, subst, ◌∙◌, refl}
-use Rattle.x25_frame.specs.Spelling.{spelling_of}
-use Rattle.x25_link.specs.Link.{put_step}
-use Rattle.x25_link.specs.code.FitsLink.{ShownLink, FitsWhole}
-use Rattle.x25_link.proofs.EndLemmas.{with_packet, ended_settled, ended_calm}
-use Rattle.x25_link.proofs.LinkLemmas.{put_fits}
-use Rattle.x25_link.proofs.PlaceLemmas.{some_left}
+use Rattle.x25_link.proofs.{EndLemmas.{with_packet, ended_settled, ended_calm}, LinkLemmas.{put_fits}}
+use Rattle.x25_link.proofs.{Names.{ℕ, List, ◌<◌, ◌++◌, length, map, arith, sym, ap, subst, ◌∙◌, refl, spelling_of}, PlaceLemmas.{some_left}}
+use Rattle.x25_link.specs.{Link.{put_step}, code.FitsLink.{ShownLink, FitsWhole}}
 use Rattle.x25_link.proofs.link.Link.put.Goals as goal
 
 pub returns-clause-state : goal.returns-clause-state

@@ -1,8 +1,5 @@
-use Rattle.std.proofs.Common.{rules, sym, ◌∙◌, [], ap, length, arith, refl}
-use Rattle.x25_link.specs.Hearing.{LinkStep}
-use Rattle.x25_link.specs.Link.{alone, relinks}
-use Rattle.x25_link.proofs.AckedLemmas.{closed_same}
-use Rattle.x25_link.proofs.LinkLemmas.{begins, closed_state, closed_out}
+use Rattle.x25_link.proofs.{AckedLemmas.{closed_same}, LinkLemmas.{begins, closed_state, closed_out}}
+use Rattle.x25_link.{proofs.Names.{rules, sym, ◌∙◌, [], ap, length, arith, refl, LinkStep, alone}, specs.Link.{relinks}}
 use Rattle.x25_link.proofs.link.Link.relink.Goals as goal
 
 pub returns : goal.returns

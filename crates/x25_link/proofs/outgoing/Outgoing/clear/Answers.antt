@@ -1,10 +1,6 @@
-use Rattle.std.proofs.Common.{◌≡◌, ◌+◌, ℕ, List, length, ap, subst, ◌∙◌, arith}
+use Rattle.x25_link.proofs.{Names.{◌≡◌, ◌+◌, ℕ, List, length, ap, subst, ◌∙◌, arith, Held, Fits, sending_of}, OutgoingLemmas.{nothing_left}}
+use Rattle.x25_link.{proofs.PlaceLemmas.{popped, goes, less_short, less_long, longs_few}, specs.code.Places.{longs}}
 use Rattle.x25_window.specs.Sender.{fresh}
-use Rattle.x25_window.specs.code.Held.{Held, Fits}
-use Rattle.x25_link.specs.code.Places.{longs}
-use Rattle.x25_link.specs.code.OutgoingHeld.{sending_of}
-use Rattle.x25_link.proofs.OutgoingLemmas.{nothing_left}
-use Rattle.x25_link.proofs.PlaceLemmas.{popped, goes, less_short, less_long, longs_few}
 use Rattle.x25_link.proofs.outgoing.Outgoing.clear.Goals as goal
 
 pub give-requires-clause-short : goal.give-requires-clause-short

@@ -1,4 +1,4 @@
-use Rattle.std.proofs.Common.{◌≡◌, ◌+◌, ◌≤◌, length}
+use Rattle.x25_link.proofs.Names.{◌≡◌, ◌+◌, ◌≤◌, length}
 use Rattle.x25_link.proofs.outgoing.Outgoing.clear.Given as goal
 
 -- nothing is sent any more, and so many packets at least don't wait any more

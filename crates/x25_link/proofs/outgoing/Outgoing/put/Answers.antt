@@ -1,14 +1,8 @@
-use Rattle.std.specs.Prelude.{◌||◌}
-use Rattle.std.proofs.Common.{◌≡◌, ◌≤◌, Bool, false, length, subst, refl, ℕ, List, [], ◌∷◌, ◌++◌, sym, ap, ◌∙◌, arith}
-use Rattle.x25_frame.specs.Frame.{PlainFrame}
-use Rattle.x25_frame.specs.Spelling.{spelling_of}
-use Rattle.x25_link.specs.Outgoing.{added}
-use Rattle.x25_link.specs.code.OutgoingHeld.{sending_of}
-use Rattle.x25_link.proofs.OutgoingLemmas.{parts, part_length, added_fits, full_shut, rests, next_is, new_fits, sent_length, new_frame, next_open, below_of, shut_by}
-use Rattle.x25_window.specs.code.Held.{Held}
-use Rattle.x25_link.proofs.PlaceLemmas.{pushed, more_short, more_long, sent_short, sent_long}
-use Rattle.x25_link.proofs.EndLemmas.{full_closed, true_false}
+use Rattle.x25_link.proofs.Names.{◌||◌, ◌≡◌, ◌≤◌, Bool, false, length, subst, refl, ℕ, List, [], ◌∷◌, ◌++◌, sym, ap, ◌∙◌, arith, PlainFrame, spelling_of, added}
 use Rattle.std.proofs.lemmas.Bool.{or_parts}
+use Rattle.x25_link.proofs.{EndLemmas.{full_closed, true_false}, Names.{sending_of, Held}, OutgoingLemmas.{shut_by}}
+use Rattle.x25_link.proofs.OutgoingLemmas.{parts, part_length, added_fits, full_shut, rests, next_is, new_fits, sent_length, new_frame, next_open, below_of}
+use Rattle.x25_link.proofs.PlaceLemmas.{pushed, more_short, more_long, sent_short, sent_long}
 use Rattle.x25_link.proofs.outgoing.Outgoing.put.Goals as goal
 
 pub returns-then-held-is_full-clause-step : goal.returns-then-held-is_full-clause-step

@@ -1,9 +1,6 @@
-use Rattle.std.proofs.Common.{ℕ, ◌+◌, List, length, ap, ◌∙◌, arith}
-use Rattle.std.proofs.lemmas.List.{length-drop}
-use Rattle.x25_window.specs.Sender.{acknowledged}
-use Rattle.x25_window.specs.code.Held.{Held}
-use Rattle.x25_link.proofs.OutgoingLemmas.{one_released}
+use Rattle.x25_link.proofs.{Names.{ℕ, ◌+◌, List, length, ap, ◌∙◌, arith, length-drop, Held}, OutgoingLemmas.{one_released}}
 use Rattle.x25_link.proofs.PlaceLemmas.{goes, less_short, less_long, longs_few, first_of}
+use Rattle.x25_window.specs.Sender.{acknowledged}
 use Rattle.x25_link.proofs.outgoing.Outgoing.release.Goals as goal
 
 pub loop-packet-preserved : goal.loop-packet-preserved

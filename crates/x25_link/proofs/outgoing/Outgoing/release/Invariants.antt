@@ -1,6 +1,5 @@
-use Rattle.std.proofs.Common.{ℕ, ◌+◌, ◌≡◌, List, length}
+use Rattle.x25_link.proofs.Names.{ℕ, ◌+◌, ◌≡◌, List, length, Fits}
 use Rattle.x25_window.specs.Sender.{Sending, acknowledged}
-use Rattle.x25_window.specs.code.Held.{Fits}
 use Rattle.x25_link.proofs.outgoing.Outgoing.release.Given as goal
 
 -- so many packets are acknowledged, and the others are held

@@ -1,10 +1,5 @@
-use Rattle.std.proofs.Common.{length, ℕ, List, [], ◌∷◌, ◌++◌, take, ap, ◌∙◌, sym, arith}
-use Rattle.std.proofs.lemmas.Bool.{le-ltb}
-use Rattle.x25_frame.specs.Frame.{PlainFrame}
-use Rattle.x25_frame.specs.Spelling.{spelling_of}
-use Rattle.x25_link.specs.code.OutgoingHeld.{sending_of}
+use Rattle.x25_link.proofs.Names.{length, ℕ, List, [], ◌∷◌, ◌++◌, take, ap, ◌∙◌, sym, arith, le-ltb, PlainFrame, spelling_of, sending_of, Held}
 use Rattle.x25_link.proofs.OutgoingLemmas.{parts, whole, again_frame, next_is, new_fits, sent_length, new_frame, below_of, advanced_items}
-use Rattle.x25_window.specs.code.Held.{Held}
 use Rattle.x25_link.proofs.PlaceLemmas.{popped, moves}
 use Rattle.x25_link.proofs.outgoing.Outgoing.send_next.Goals as goal
 

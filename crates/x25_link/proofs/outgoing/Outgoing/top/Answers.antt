@@ -1,6 +1,4 @@
-use Rattle.std.proofs.Common.{ap, ◌∙◌, ◌%◌}
-use Rattle.x25_link.specs.code.OutgoingHeld.{sending_of}
-use Rattle.x25_link.proofs.OutgoingLemmas.{sent_length}
+use Rattle.x25_link.proofs.{Names.{ap, ◌∙◌, ◌%◌, sending_of}, OutgoingLemmas.{sent_length}}
 use Rattle.x25_link.proofs.outgoing.Outgoing.top.Goals as goal
 
 pub returns : goal.returns

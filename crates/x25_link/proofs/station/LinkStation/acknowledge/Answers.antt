@@ -1,9 +1,6 @@
-use Rattle.std.proofs.Common.{ℕ, List, sym, ap, ◌∙◌, arith}
 use Rattle.circular_buffer.specs.Buffer.{Buffer}
 use Rattle.std.proofs.lemmas.Bool.{lt-leb}
-use Rattle.x25_link.specs.code.OutgoingHeld.{sending_of}
-use Rattle.x25_link.proofs.OutgoingLemmas.{sent_length}
-use Rattle.x25_link.proofs.FitsLemmas.{risen, not_risen}
+use Rattle.x25_link.proofs.{FitsLemmas.{risen, not_risen}, Names.{ℕ, List, sym, ap, ◌∙◌, arith, sending_of}, OutgoingLemmas.{sent_length}}
 use Rattle.x25_link.proofs.station.LinkStation.acknowledge.Goals as goal
 
 pub returns-in_default-clause-valid : goal.returns-in_default-clause-valid

@@ -1,10 +1,4 @@
-use Rattle.std.proofs.Common.{◌≡◌, sym, ◌∙◌, subst, true}
-use Rattle.x25_link.specs.declared.phase.Phase.{Phase}
-use Rattle.x25_link.specs.declared.phase.Phase.TheVariants.{Up}
-use Rattle.x25_link.specs.code.Fits.{FitsSide}
-use Rattle.x25_link.specs.Station.{with_near}
-use Rattle.x25_link.specs.Link.{asks_again}
-use Rattle.x25_link.proofs.FitsLemmas.{recovery_fits}
+use Rattle.x25_link.proofs.{FitsLemmas.{recovery_fits}, Names.{◌≡◌, sym, ◌∙◌, subst, true, Phase, Up, FitsSide, with_near, asks_again}}
 use Rattle.x25_link.proofs.station.LinkStation.ask_again.Goals as goal
 
 pub returns-in-Up-clause-step : goal.returns-in-Up-clause-step

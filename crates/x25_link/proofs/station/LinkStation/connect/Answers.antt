@@ -1,6 +1,4 @@
-use Rattle.x25_link.specs.declared.phase.Phase.TheVariants.{Waiting}
-use Rattle.x25_link.specs.Station.{with_near}
-use Rattle.x25_link.proofs.FitsLemmas.{phase_fits}
+use Rattle.x25_link.proofs.{FitsLemmas.{phase_fits}, Names.{Waiting, with_near}}
 use Rattle.x25_link.proofs.station.LinkStation.connect.Goals as goal
 
 pub returns-clause-step : goal.returns-clause-step

@@ -1,10 +1,6 @@
-use Rattle.std.proofs.Common.{◌≡◌, Some, None, if◌then◌else◌, sym, ap, ◌∙◌, refl}
-use Rattle.x25_link.specs.declared.phase.Phase.TheVariants.{Closed}
-use Rattle.x25_link.specs.declared.phase.Reason.TheVariants.{Local}
-use Rattle.x25_link.specs.Station.{is_up, with_near, with_nothing}
-use Rattle.x25_link.proofs.AckedLemmas.{none_left}
-use Rattle.x25_link.proofs.station.LinkStation.disconnect.Goals as goal
+use Rattle.x25_link.proofs.{AckedLemmas.{none_left}, Names.{◌≡◌, Some, None, if◌then◌else◌, sym, ap, ◌∙◌, refl, Closed, Local, is_up, with_near, with_nothing}}
 use Rattle.x25_link.proofs.station.LinkStation.disconnect.Goals.{then-is_up, else-is_up}
+use Rattle.x25_link.proofs.station.LinkStation.disconnect.Goals as goal
 
 pub returns-clause-step : goal.returns-clause-step
 returns-clause-step c = λ d before t fits.

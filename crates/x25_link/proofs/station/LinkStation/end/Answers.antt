@@ -1,11 +1,8 @@
-use Rattle.std.proofs.Common.{◌≡◌, ◌+◌, true, false, refl, arith}
-use Rattle.x25_link.specs.Station.{pumped, owes_ready}
-use Rattle.x25_link.specs.code.Fits.{FitsSide}
-use Rattle.x25_link.proofs.FitsLemmas.{pumped_more, pumped_all, owes_is}
-use Rattle.x25_link.proofs.station.LinkStation.end.Goals as goal
+use Rattle.x25_link.proofs.{FitsLemmas.{pumped_more, pumped_all, owes_is}, Names.{◌≡◌, true, false, refl, arith, pumped, owes_ready, FitsSide}}
 use Rattle.x25_link.proofs.station.LinkStation.end.Goals.{else-loop-frame-test, then-loop-frame-test+then-not-pump_once}
 use Rattle.x25_link.proofs.station.LinkStation.end.Goals.{else-is_up-via-then-is_up+then-self+else-not-is_busy, else-is_up-via-then-is_up+else-self}
 use Rattle.x25_link.proofs.station.LinkStation.end.Goals.{else-is_up-via-else-is_up}
+use Rattle.x25_link.proofs.station.LinkStation.end.Goals as goal
 
 pub loop-frame-init : goal.loop-frame-init
 unfolding pumped

@@ -1,6 +1,4 @@
-use Rattle.std.proofs.Common.{ℕ, ◌+◌, ◌≤◌, List, length}
-use Rattle.x25_link.specs.Station.{LinkSettings, Side, pumped}
-use Rattle.x25_link.specs.code.Fits.{FitsSide}
+use Rattle.x25_link.proofs.Names.{ℕ, ◌+◌, ◌≤◌, List, length, LinkSettings, Side, pumped, FitsSide}
 use Rattle.x25_link.proofs.station.LinkStation.end.Given as goal
 
 abbrev pub invariant-loop-frame : goal.invariant-loop-frame

@@ -1,9 +1,5 @@
-use Rattle.std.proofs.Common.{◌≡◌, ◌+◌, true, false, refl, ap, ◌∙◌, arith}
-use Rattle.std.specs.Prelude.{nat_lt}
-use Rattle.std.proofs.lemmas.Bool.{lt-ltb, le-ltb}
-use Rattle.x25_link.specs.Station.{with_near}
-use Rattle.x25_link.proofs.FitsLemmas.{tries_fits}
-use Rattle.x25_link.proofs.AckedLemmas.{none_fired}
+use Rattle.x25_link.proofs.Names.{◌≡◌, ◌+◌, true, false, refl, ap, ◌∙◌, arith, nat_lt, lt-ltb, le-ltb, with_near}
+use Rattle.x25_link.proofs.{AckedLemmas.{none_fired}, FitsLemmas.{tries_fits}}
 use Rattle.x25_link.proofs.station.LinkStation.fire.Goals as goal
 
 pub returns-then-self-clause-step : goal.returns-then-self-clause-step

@@ -1,8 +1,4 @@
-use Rattle.std.proofs.Common.{sym, refl, ◌∙◌}
-use Rattle.x25_frame.specs.Frame.{ua}
-use Rattle.x25_link.specs.Station.{sends}
-use Rattle.x25_link.proofs.AckedLemmas.{none_left}
-use Rattle.x25_link.proofs.LinkLemmas.{hears_up}
+use Rattle.x25_link.proofs.{AckedLemmas.{none_left}, LinkLemmas.{hears_up}, Names.{sym, refl, ◌∙◌, ua, sends}}
 use Rattle.x25_link.proofs.station.LinkStation.hear.Goals as goal
 
 pub returns-in-Sabm-clause-step : goal.returns-in-Sabm-clause-step

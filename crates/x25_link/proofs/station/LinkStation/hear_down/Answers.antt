@@ -1,7 +1,4 @@
-use Rattle.std.proofs.Common.{refl, ◌∙◌}
-use Rattle.x25_frame.specs.Frame.{ua}
-use Rattle.x25_link.specs.Station.{sends}
-use Rattle.x25_link.proofs.AckedLemmas.{none_left}
+use Rattle.x25_link.proofs.{AckedLemmas.{none_left}, Names.{refl, ◌∙◌, ua, sends}}
 use Rattle.x25_link.proofs.station.LinkStation.hear_down.Goals as goal
 
 pub returns-in-Sabm-clause-step : goal.returns-in-Sabm-clause-step

@@ -1,12 +1,8 @@
-use Rattle.std.proofs.Common.{ℕ, ◌≡◌, false, ap, sym, refl, ◌∙◌}
-use Rattle.std.specs.Prelude.{nat_lt}
-use Rattle.x25_link.specs.code.Fits.{FitsStation, FitsSide}
-use Rattle.x25_link.specs.Hearing.{acknowledged, is_taken, takes, answers}
-use Rattle.x25_link.proofs.AckedLemmas.{answers_same, passed_same}
-use Rattle.x25_link.proofs.FitsLemmas.{received, taken_fits, busy_passes, other_passes, wanted_taken}
+use Rattle.x25_link.proofs.Names.{ℕ, ◌≡◌, false, ap, sym, refl, ◌∙◌, nat_lt, FitsStation, FitsSide, acknowledged, is_taken, takes, answers}
+use Rattle.x25_link.proofs.{AckedLemmas.{answers_same, passed_same}, FitsLemmas.{received, taken_fits, busy_passes, other_passes, wanted_taken}}
+use Rattle.x25_link.proofs.station.LinkStation.hear_i.Goals.{then-is_busy-via-then-is_busy, then-is_busy-via-else-is_busy+then-not-accept, then-p-via-then-p}
+use Rattle.x25_link.proofs.station.LinkStation.hear_i.Goals.{then-p-via-else-p+then-not-pump_once, then-p, else-p+else-not-pump_once}
 use Rattle.x25_link.proofs.station.LinkStation.hear_i.Goals as goal
-use Rattle.x25_link.proofs.station.LinkStation.hear_i.Goals.{then-is_busy-via-then-is_busy, then-is_busy-via-else-is_busy+then-not-accept}
-use Rattle.x25_link.proofs.station.LinkStation.hear_i.Goals.{then-p-via-then-p, then-p-via-else-p+then-not-pump_once, then-p, else-p+else-not-pump_once}
 
 pub returns-in_default-clause-step : goal.returns-in_default-clause-step
 returns-in_default-clause-step c = λ d before t fits.

@@ -1,8 +1,4 @@
-use Rattle.std.proofs.Common.{ℕ, ap, sym, refl, ◌∙◌}
-use Rattle.std.specs.Prelude.{nat_lt}
-use Rattle.x25_link.specs.Hearing.{acknowledged, peer_is}
-use Rattle.x25_link.proofs.AckedLemmas.{polls_same}
-use Rattle.x25_link.proofs.FitsLemmas.{peer_fits}
+use Rattle.x25_link.proofs.{AckedLemmas.{polls_same}, FitsLemmas.{peer_fits}, Names.{ℕ, ap, sym, refl, ◌∙◌, nat_lt, acknowledged, peer_is}}
 use Rattle.x25_link.proofs.station.LinkStation.hear_ready.Goals as goal
 
 pub returns-in_default-clause-step : goal.returns-in_default-clause-step

@@ -1,8 +1,5 @@
-use Rattle.std.proofs.Common.{ℕ, ap, sym, refl, false, ◌∙◌}
-use Rattle.std.specs.Prelude.{nat_lt}
-use Rattle.x25_link.specs.Hearing.{acknowledged, peer_is, goes_back}
-use Rattle.x25_link.proofs.AckedLemmas.{polls_same}
-use Rattle.x25_link.proofs.FitsLemmas.{peer_fits, back_fits}
+use Rattle.x25_link.proofs.Names.{ℕ, ap, sym, refl, false, ◌∙◌, nat_lt, acknowledged, peer_is, goes_back}
+use Rattle.x25_link.proofs.{AckedLemmas.{polls_same}, FitsLemmas.{peer_fits, back_fits}}
 use Rattle.x25_link.proofs.station.LinkStation.hear_rej.Goals as goal
 
 pub returns-in_default-clause-step : goal.returns-in_default-clause-step

@@ -1,5 +1,4 @@
-use Rattle.std.proofs.Common.{◌≡◌, true, sym, ◌∙◌, refl}
-use Rattle.x25_link.proofs.AckedLemmas.{none_left}
+use Rattle.x25_link.proofs.{AckedLemmas.{none_left}, Names.{◌≡◌, true, sym, ◌∙◌, refl}}
 use Rattle.x25_link.proofs.station.LinkStation.hear_waiting.Goals as goal
 
 pub returns-in-Ua-true-clause-step : goal.returns-in-Ua-true-clause-step

@@ -1,5 +1,4 @@
-use Rattle.std.proofs.Common.{refl, ◌∙◌}
-use Rattle.x25_link.proofs.AckedLemmas.{none_left}
+use Rattle.x25_link.proofs.{AckedLemmas.{none_left}, Names.{refl, ◌∙◌}}
 use Rattle.x25_link.proofs.station.LinkStation.leave.Goals as goal
 
 pub returns : goal.returns

@@ -1,6 +1,4 @@
-use Rattle.std.proofs.Common.{sym, ◌∙◌, true}
-use Rattle.x25_link.specs.Station.{with_near}
-use Rattle.x25_link.proofs.FitsLemmas.{rejecting}
+use Rattle.x25_link.proofs.{FitsLemmas.{rejecting}, Names.{sym, ◌∙◌, true, with_near}}
 use Rattle.x25_link.proofs.station.LinkStation.pass_over.Goals as goal
 
 pub returns-then-not-self-clause-step : goal.returns-then-not-self-clause-step

@@ -1,6 +1,4 @@
-use Rattle.std.proofs.Common.{sym, ap, ◌∙◌}
-use Rattle.x25_link.specs.Station.{is_up}
-use Rattle.x25_link.proofs.FitsLemmas.{sends_fits, may_send_is}
+use Rattle.x25_link.proofs.{FitsLemmas.{sends_fits, may_send_is}, Names.{sym, ap, ◌∙◌, is_up}}
 use Rattle.x25_link.proofs.station.LinkStation.pump_once.Goals as goal
 
 pub returns-clause-step : goal.returns-clause-step

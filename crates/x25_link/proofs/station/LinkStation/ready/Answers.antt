@@ -1,8 +1,4 @@
-use Rattle.std.proofs.Common.{sym, true, false}
-use Rattle.x25_frame.specs.Frame.{rr}
-use Rattle.x25_link.specs.Station.{sends, with_near}
-use Rattle.x25_link.specs.code.Fits.{FitsSide}
-use Rattle.x25_link.proofs.FitsLemmas.{said, made_more}
+use Rattle.x25_link.proofs.{FitsLemmas.{said, made_more}, Names.{sym, true, false, rr, sends, with_near, FitsSide}}
 use Rattle.x25_link.proofs.station.LinkStation.ready.Goals as goal
 
 pub returns-then-is_busy-clause-step : goal.returns-then-is_busy-clause-step

@@ -1,5 +1,4 @@
-use Rattle.x25_link.specs.Station.{sends}
-use Rattle.x25_link.specs.Hearing.{reject_of}
+use Rattle.x25_link.proofs.Names.{sends, reject_of}
 use Rattle.x25_link.proofs.station.LinkStation.reject.Goals as goal
 
 pub returns-clause-step : goal.returns-clause-step

@@ -1,5 +1,4 @@
-use Rattle.x25_link.specs.declared.phase.Reason.TheVariants.{Local}
-use Rattle.x25_link.specs.Hearing.{LinkStep, leaves}
+use Rattle.x25_link.proofs.Names.{Local, LinkStep, leaves}
 use Rattle.x25_link.proofs.station.LinkStation.relink.Goals as goal
 
 pub returns-clause-step : goal.returns-clause-step

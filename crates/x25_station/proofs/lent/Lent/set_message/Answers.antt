@@ -1,5 +1,5 @@
-use Rattle.std.proofs.Common.{append-nil, arith, ◌∙◌}
-use Rattle.std.proofs.lemmas.List.{take_min}
+use Rattle.x25_station.proofs.Names.{arith, ◌∙◌, take_min}
+use Rattle.std.proofs.Common.{append-nil}
 use Rattle.x25_station.proofs.lent.Lent.set_message.Goals as goal
 
 pub returns : goal.returns

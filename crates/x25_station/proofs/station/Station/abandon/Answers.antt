@@ -1,13 +1,6 @@
-use Rattle.std.proofs.Common.{arith, ◌≡◌, length, [], ◌++◌, map, ap, ◌∙◌}
-use Rattle.x25_link.specs.Hearing.{LinkStep}
-use Rattle.x25_link.specs.Link.{abandon_step}
-use Rattle.x25_station.specs.Entry.{entries_down}
-use Rattle.x25_station.specs.Config.{link_settings, layer_settings}
-use Rattle.x25_station.specs.Step.{Step, receives}
-use Rattle.x25_station.proofs.DownLemmas.{fits_down, frames_down, entries_noted_down}
-use Rattle.x25_station.proofs.AskLemmas.{taken_link}
-use Rattle.x25_station.proofs.OutcomeLemmas.{still_meant}
-use Rattle.x25_station.proofs.TookLemmas.{gives_up, gave_up_acknowledged}
+use Rattle.x25_station.proofs.Names.{arith, ◌≡◌, length, [], ◌++◌, ap, ◌∙◌, LinkStep, abandon_step, link_settings, layer_settings, entries_down, Step, receives}
+use Rattle.x25_station.proofs.{AskLemmas.{taken_link}, DownLemmas.{fits_down, frames_down, entries_noted_down}}
+use Rattle.x25_station.proofs.{OutcomeLemmas.{still_meant}, TookLemmas.{gives_up, gave_up_acknowledged}}
 use Rattle.x25_station.proofs.station.Station.abandon.Goals as goal
 
 pub invariant_of-self : goal.invariant_of-self

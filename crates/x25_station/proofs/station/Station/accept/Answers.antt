@@ -1,5 +1,4 @@
-use Rattle.x25_given.specs.Given.{given_with}
-use Rattle.x25_station.proofs.DoesLemmas.{alike}
+use Rattle.x25_station.proofs.{DoesLemmas.{alike}, Names.{given_with}}
 use Rattle.x25_station.proofs.station.Station.accept.Goals as goal
 
 pub returns-in-Some : goal.returns-in-Some

@@ -1,14 +1,7 @@
-use Rattle.std.proofs.Common.{◌≡◌, Bool, true, Option, Some, None, sym, subst, ap, ◌∙◌}
-use Rattle.x25_circuit.specs.declared.params.Params.{Params}
-use Rattle.x25_circuit.specs.Params.{Proposal, in_full}
-use Rattle.x25_circuit.specs.Calling.{Accepts}
-use Rattle.x25_layer.specs.Calls.{Asks}
-use Rattle.x25_station.specs.declared.config.Manner.{Manner}
-use Rattle.x25_station.specs.Command.{answer_in_brief, answer_said}
-use Rattle.x25_station.specs.Config.{layer_settings}
-use Rattle.x25_station.specs.Step.{asks}
+use Rattle.x25_station.proofs.Names.{◌≡◌, Bool, true, Option, Some, None, sym, subst, ap, ◌∙◌, Accepts, Proposal, Params, Asks, layer_settings, asks, Manner}
+use Rattle.x25_circuit.specs.Params.{in_full}
 use Rattle.x25_station.proofs.EitherLemmas.{asked_nowhere, said_asked}
-use Rattle.x25_station.proofs.SaidLemmas.{made, none_of, not_there, said_so, there_is}
+use Rattle.x25_station.{proofs.SaidLemmas.{made, none_of, not_there, said_so, there_is}, specs.Command.{answer_in_brief, answer_said}}
 use Rattle.x25_station.proofs.station.Station.answer.Goals as goal
 
 pub returns-in-Some : goal.returns-in-Some

@@ -1,16 +1,8 @@
-use Rattle.std.proofs.Common.{Some, None, refl, ap, ◌∙◌, sym}
-use Rattle.x25_circuit.specs.Request.{plain_request}
-use Rattle.x25_layer.specs.Calls.{Asks}
-use Rattle.x25_given.specs.Given.{given_with}
-use Rattle.x25_station.specs.declared.step.Step as code_step
-use Rattle.x25_station.specs.Config.{layer_settings}
-use Rattle.x25_station.specs.Step.{Outcome, asks}
-use Rattle.x25_station.proofs.PullLemmas.{goes_on}
-use Rattle.x25_station.proofs.EitherLemmas.{allowed_asked, suits_asked, meant_asked, did_asked, enters_asked, declines_first, declines_then, declines_last}
-use Rattle.x25_station.proofs.EitherLemmas.{meant_declined, only_first, only_then, only_last}
-use Rattle.x25_station.proofs.GivingLemmas.{none_of}
-use Rattle.x25_station.proofs.DriveLemmas.{judged_for}
+use Rattle.x25_station.proofs.{DriveLemmas.{judged_for}, EitherLemmas.{suits_asked, meant_asked, did_asked, enters_asked}, GivingLemmas.{none_of}}
+use Rattle.x25_station.proofs.EitherLemmas.{declines_first, declines_then, declines_last, meant_declined, only_first, only_then, only_last, allowed_asked}
+use Rattle.x25_station.proofs.{Names.{Some, None, refl, ap, ◌∙◌, sym, plain_request, given_with, Asks, layer_settings, Outcome, asks}, PullLemmas.{goes_on}}
 use Rattle.x25_station.proofs.TakeLemmas.{takes_longest, has_places}
+use Rattle.x25_station.specs.declared.step.Step as code_step
 use Rattle.x25_station.proofs.station.Station.ask.Goals as goal
 
 pub returns-then-not-may_ask-clause-does : goal.returns-then-not-may_ask-clause-does

@@ -1,6 +1,5 @@
-use Rattle.std.proofs.Common.{ℕ, Bool, ◌||◌, nat_lt, ap, sym, ◌∙◌}
+use Rattle.x25_station.proofs.Names.{ℕ, Bool, ◌||◌, nat_lt, ap, sym, ◌∙◌, layer_settings}
 use Rattle.x25_layer.specs.code.FitsLayer.{awaited_up_to}
-use Rattle.x25_station.specs.Config.{layer_settings}
 use Rattle.x25_station.proofs.station.Station.awaits_answers.Goals as goal
 
 pub returns-then-is_restarting : goal.returns-then-is_restarting

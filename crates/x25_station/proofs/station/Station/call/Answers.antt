@@ -1,10 +1,4 @@
-use Rattle.std.proofs.Common.{ap, ◌∙◌}
-use Rattle.x25_circuit.specs.Params.{in_brief}
-use Rattle.x25_layer.specs.Calls.{Dials}
-use Rattle.x25_given.specs.Given.{given_with}
-use Rattle.x25_station.specs.Step.{asks}
-use Rattle.x25_station.proofs.DoesLemmas.{alike}
-use Rattle.x25_station.proofs.EitherLemmas.{said_asked}
+use Rattle.x25_station.proofs.{DoesLemmas.{alike}, EitherLemmas.{said_asked}, Names.{ap, ◌∙◌, in_brief, given_with, Dials, asks}}
 use Rattle.x25_station.proofs.station.Station.call.Goals as goal
 
 pub returns : goal.returns

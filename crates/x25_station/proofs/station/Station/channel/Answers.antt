@@ -1,6 +1,4 @@
-use Rattle.std.proofs.Common.{ℕ, ◌==◌, ap, ◌∙◌}
-use Rattle.x25_station.specs.Config.{layer_settings}
-use Rattle.x25_station.proofs.RoomLemmas.{room_is_what_is_taken}
+use Rattle.x25_station.proofs.{Names.{ℕ, ◌==◌, ap, ◌∙◌, layer_settings}, RoomLemmas.{room_is_what_is_taken}}
 use Rattle.x25_station.proofs.station.Station.channel.Goals as goal
 
 pub returns-clause-awaits : goal.returns-clause-awaits

@@ -1,4 +1,4 @@
-use Rattle.x25_station.specs.Config.{layer_settings}
+use Rattle.x25_station.proofs.Names.{layer_settings}
 use Rattle.x25_station.proofs.station.Station.channels.Goals as goal
 
 pub returns : goal.returns

@@ -1,8 +1,4 @@
-use Rattle.std.proofs.Common.{false, refl, ap, map, ◌∙◌}
-use Rattle.x25_station.specs.Config.{link_settings}
-use Rattle.x25_station.proofs.ClockLemmas.{timed, always, not_ever}
-use Rattle.x25_station.proofs.TimerLemmas.{asked_none}
-use Rattle.x25_station.proofs.DoesLemmas.{retimed}
+use Rattle.x25_station.proofs.{ClockLemmas.{timed, always, not_ever}, DoesLemmas.{retimed}, Names.{false, refl, link_settings}, TimerLemmas.{asked_none}}
 use Rattle.x25_station.proofs.station.Station.command.Goals as goal
 
 pub returns-clause-does : goal.returns-clause-does

@@ -1,12 +1,8 @@
-use Rattle.std.proofs.Common.{Some, None, refl, ap, ◌∙◌, sym}
-use Rattle.x25_layer.specs.Calls.{Dials}
-use Rattle.x25_given.specs.Given.{given_with}
-use Rattle.x25_station.specs.declared.step.Step as code_step
-use Rattle.x25_station.specs.Config.{layer_settings}
-use Rattle.x25_station.proofs.EitherLemmas.{allowed_asked, meant_asked, did_asked, enters_dialled, declines_first, declines_then, declines_last, meant_declined}
-use Rattle.x25_station.proofs.GivingLemmas.{none_of}
 use Rattle.x25_station.proofs.DriveLemmas.{judged_for}
+use Rattle.x25_station.proofs.EitherLemmas.{allowed_asked, meant_asked, did_asked, enters_dialled, declines_first, declines_then, declines_last, meant_declined}
+use Rattle.x25_station.proofs.{GivingLemmas.{none_of}, Names.{Some, None, refl, ap, ◌∙◌, sym, given_with, Dials, layer_settings}}
 use Rattle.x25_station.proofs.TakeLemmas.{takes_longest, has_places}
+use Rattle.x25_station.specs.declared.step.Step as code_step
 use Rattle.x25_station.proofs.station.Station.dial.Goals as goal
 
 pub returns-then-not-may_dial : goal.returns-then-not-may_dial

@@ -1,6 +1,5 @@
-use Rattle.std.proofs.Common.{ℕ, Bool, sym, ap, ◌∙◌, ◌&&◌, ◌==◌}
+use Rattle.x25_station.proofs.Names.{ℕ, Bool, sym, ap, ◌∙◌, ◌&&◌, ◌==◌, link_settings, layer_settings}
 use Rattle.x25_layer.specs.code.FitsLayer.{waits_up_to}
-use Rattle.x25_station.specs.Config.{link_settings, layer_settings}
 use Rattle.x25_station.proofs.station.Station.idle.Goals as goal
 
 pub returns-then-idle : goal.returns-then-idle

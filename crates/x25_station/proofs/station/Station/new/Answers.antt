@@ -1,6 +1,4 @@
-use Rattle.std.proofs.Common.{refl, arith}
-use Rattle.x25_station.specs.Config.{settings_from}
-use Rattle.x25_station.specs.Station.{new_station}
+use Rattle.x25_station.{proofs.Names.{refl, arith}, specs.Config.{settings_from}, specs.Station.{new_station}}
 use Rattle.x25_station.proofs.station.Station.new.Goals as goal
 
 pub invariant_of-result : goal.invariant_of-result

@@ -1,6 +1,4 @@
-use Rattle.std.proofs.Common.{ap, ◌∙◌}
-use Rattle.x25_station.specs.declared.config.Manner.{Manner}
-use Rattle.x25_station.proofs.SaidLemmas.{made, said_so}
+use Rattle.x25_station.proofs.{Names.{ap, ◌∙◌, Manner}, SaidLemmas.{made, said_so}}
 use Rattle.x25_station.proofs.station.Station.proposal.Goals as goal
 
 pub returns : goal.returns

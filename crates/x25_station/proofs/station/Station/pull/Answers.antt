@@ -1,7 +1,4 @@
-use Rattle.std.proofs.Common.{◌∙◌, ap}
-use Rattle.x25_station.specs.Config.{link_settings}
-use Rattle.x25_station.specs.Pulling.{pulled}
-use Rattle.x25_station.specs.Timer.{pulled_timer, runs}
+use Rattle.x25_station.{proofs.Names.{◌∙◌, ap, link_settings, pulled_timer, runs}, specs.Pulling.{pulled}}
 use Rattle.x25_station.proofs.station.Station.pull.Goals as goal
 
 pub returns-clause-timer : goal.returns-clause-timer

@@ -1,14 +1,7 @@
-use Rattle.std.proofs.Common.{arith, refl, ap, map, ◌∙◌}
-use Rattle.x25_layer.specs.Calls.{PullsAll}
+use Rattle.x25_station.proofs.{AskLemmas.{answers, refuses, still_fits}, DoesLemmas.{did_request, declines_request}, EnteredLemmas.{pull_enters}}
+use Rattle.x25_station.proofs.{Names.{arith, refl, ap, ◌∙◌, PullsAll, layer_settings, requests}, OutcomeLemmas.{leaves_some, still_meant}}
+use Rattle.x25_station.proofs.{PullLemmas.{goes_on, never_lacks}, TakeLemmas.{takes_longest, has_places}}
 use Rattle.x25_station.specs.declared.step.Step as code_step
-use Rattle.x25_station.specs.Config.{layer_settings}
-use Rattle.x25_station.specs.Step.{requests}
-use Rattle.x25_station.proofs.OutcomeLemmas.{leaves_some, still_meant}
-use Rattle.x25_station.proofs.AskLemmas.{answers, refuses, still_fits}
-use Rattle.x25_station.proofs.DoesLemmas.{did_request, declines_request}
-use Rattle.x25_station.proofs.EnteredLemmas.{pull_enters}
-use Rattle.x25_station.proofs.PullLemmas.{goes_on, never_lacks}
-use Rattle.x25_station.proofs.TakeLemmas.{takes_longest, has_places}
 use Rattle.x25_station.proofs.station.Station.pull_asked.Goals as goal
 
 pub pull-requires-clause-longest : goal.pull-requires-clause-longest

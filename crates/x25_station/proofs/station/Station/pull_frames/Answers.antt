@@ -1,10 +1,6 @@
-use Rattle.std.proofs.Common.{◌∙◌, ◌++◌, map, ap}
 use Rattle.x25_frame.specs.Spelling.{spelling_of}
-use Rattle.x25_layer.specs.Calls.{PullsAll}
-use Rattle.x25_station.specs.Config.{layer_settings}
+use Rattle.x25_station.proofs.{Names.{◌∙◌, ◌++◌, map, ap, PullsAll, layer_settings}, OutcomeLemmas.{still_meant}, PullLemmas.{pulls_fit, pulls_made}}
 use Rattle.x25_station.specs.Pulling.{pulled}
-use Rattle.x25_station.proofs.OutcomeLemmas.{still_meant}
-use Rattle.x25_station.proofs.PullLemmas.{pulls_fit, pulls_made}
 use Rattle.x25_station.proofs.station.Station.pull_frames.Goals as goal
 
 pub invariant_of-self : goal.invariant_of-self

@@ -1,15 +1,6 @@
-use Rattle.std.proofs.Common.{◌≡◌, ◌-◌, ◌≤◌, length, option_copied, arith, ap, sym, ◌∙◌}
-use Rattle.x25_link.specs.declared.phase.Notes.{Notes}
-use Rattle.x25_link.specs.Hearing.{LinkStep}
-use Rattle.x25_link.specs.Link.{take_step}
-use Rattle.x25_link.specs.code.FitsLink.{FitsWhole, up_of}
+use Rattle.x25_station.proofs.Names.{◌≡◌, ◌-◌, ◌≤◌, length, option_copied, arith, ap, sym, ◌∙◌, LinkStep, take_step, FitsWhole, up_of, Notes, link_settings}
 use Rattle.x25_layer.specs.Full.{IsNotFull}
-use Rattle.x25_station.specs.Receiving.{CanPut, kept_of}
-use Rattle.x25_station.specs.Config.{link_settings, layer_settings}
-use Rattle.x25_station.specs.Station.{all_put}
-use Rattle.x25_station.specs.Step.{receives}
-use Rattle.x25_station.proofs.FrameLemmas.{few_heard}
-use Rattle.x25_station.proofs.OutcomeLemmas.{still_meant}
+use Rattle.x25_station.proofs.{FrameLemmas.{few_heard}, Names.{layer_settings, CanPut, kept_of, all_put, receives}, OutcomeLemmas.{still_meant}}
 use Rattle.x25_station.proofs.TakeLemmas.{up_can_put, handed_can_put, handed_was_up, put_by_meaning, least_by_meaning, up_by_meaning, few_made, if_some}
 use Rattle.x25_station.proofs.TookLemmas.{abandoned, not_abandoned, not_full, and_left, put_behind, took_fits, took_sends, took_enters, took_acknowledged}
 use Rattle.x25_station.proofs.station.Station.receive.Goals as goal
@@ -22,38 +13,38 @@ abandon-acknowledged-requires-clause-full c = λ c' s fits. abandoned c' s (c.is
     (c.full.ensures.value (layer_settings c') s.layer fits.layer) c.if-is_up-full.true
 
 pub follow-requires-clause-up : goal.follow-requires-clause-up
-follow-requires-clause-up c = λ is. put_by_meaning _ c.take-heard.new.self _ c.args.self.now.meant (λ c' s fits.
+follow-requires-clause-up c = λ is. put_by_meaning _ c.hear-heard.new.self _ c.args.self.now.meant (λ c' s fits.
     let lk = link_settings c' in
-    up_can_put c.notes_what_changes.ensures.take c' c.take-heard.new.self c.args.octets.now s.link (c.take-heard.ensures.state lk s.link fits.link)
-    c.take-heard.ensures.few (sym (ap (λ (n : Notes). n.up) ((c.take-heard.ensures.heard lk s.link fits.link).notes)) ∙ is))
+    up_can_put c.notes_what_changes.ensures.take c' c.hear-heard.new.self c.args.octets.now s.link (c.hear-heard.ensures.state lk s.link fits.link)
+    c.hear-heard.ensures.few (sym (ap (λ (n : Notes). n.up) ((c.hear-heard.ensures.heard lk s.link fits.link).notes)) ∙ is))
 
 pub follow-requires-clause-put : goal.follow-requires-clause-put
-follow-requires-clause-put c = if_some c.take-heard.result.packet (λ x. CanPut c.take-heard.new.self)
-    (λ p is. put_by_meaning _ c.take-heard.new.self _ c.args.self.now.meant (λ c' s fits.
+follow-requires-clause-put c = if_some c.hear-heard.result.packet (λ x. CanPut c.hear-heard.new.self)
+    (λ p is. put_by_meaning _ c.hear-heard.new.self _ c.args.self.now.meant (λ c' s fits.
     let lk = link_settings c' in
-    handed_can_put c.notes_what_changes.ensures.take c.notes_what_changes.ensures.take_hands_up c' c.take-heard.new.self c.args.octets.now s.link p.now
-    (c.take-heard.ensures.state lk s.link fits.link) c.take-heard.ensures.few
-    (sym ((c.take-heard.ensures.heard lk s.link fits.link).packet) ∙ ap option_copied is)))
+    handed_can_put c.notes_what_changes.ensures.take c.notes_what_changes.ensures.take_hands_up c' c.hear-heard.new.self c.args.octets.now s.link p.now
+    (c.hear-heard.ensures.state lk s.link fits.link) c.hear-heard.ensures.few
+    (sym ((c.hear-heard.ensures.heard lk s.link fits.link).packet) ∙ ap option_copied is)))
 
 pub follow-requires-clause-left : goal.follow-requires-clause-left
-follow-requires-clause-left c = if_some c.take-heard.result.packet (λ x. IsNotFull c.args.self.now.layer) (λ p is.
+follow-requires-clause-left c = if_some c.hear-heard.result.packet (λ x. IsNotFull c.args.self.now.layer) (λ p is.
     c.full.ensures.left (not_full c.is_up.result c.full.result
     (c.is_up.ensures.value ∙ up_by_meaning _ _ (up_of c.args.self.now.link) c.args.self.now.meant (λ c' s fits.
     let lk = link_settings c' in
     handed_was_up c.notes_what_changes.ensures.take_hands_up c' c.args.self.now.link c.args.octets.now s.link p.now fits.link
-    (sym ((c.take-heard.ensures.heard lk s.link fits.link).packet) ∙ ap option_copied is))) c.if-is_up-full.false))
+    (sym ((c.hear-heard.ensures.heard lk s.link fits.link).packet) ∙ ap option_copied is))) c.if-is_up-full.false))
 
 pub invariant_of-self-2 : goal.invariant_of-self-2
 invariant_of-self-2 c = record {
   meant = still_meant _ _ _ _ c.args.self.now.meant (λ c' s fits.
       let lk = link_settings c' in
       let k : LinkStep = take_step lk c.args.octets.now s.link in
-      let heard = c.take-heard.ensures.heard lk s.link fits.link in
-      let whole : FitsWhole c.take-heard.new.self (kept_of lk k.side) =
-      record { link = c.take-heard.ensures.state lk s.link fits.link; kept = c.take-heard.ensures.frames lk s.link fits.link } in (
+      let heard = c.hear-heard.ensures.heard lk s.link fits.link in
+      let whole : FitsWhole c.hear-heard.new.self (kept_of lk k.side) =
+      record { link = c.hear-heard.ensures.state lk s.link fits.link; kept = c.hear-heard.ensures.frames lk s.link fits.link } in (
         c',
         (receives c' s c.args.octets.now).near,
-        took_fits c' fits.same s c.args.octets.now (option_copied c.take-heard.result.packet) c.take-heard.result.notes c.follow.new.link
+        took_fits c' fits.same s c.args.octets.now (option_copied c.hear-heard.result.packet) c.hear-heard.result.notes c.follow.new.link
             c.swap_frames.new.self c.follow.new.layer
             (not_abandoned c' s (c.is_up.ensures.state (link_settings c') s.link fits.link) (c.full.ensures.value (layer_settings c') s.layer fits.layer)
             c.if-is_up-full.false) (heard.packet, heard.notes)
@@ -68,10 +59,10 @@ returns-clause-does c = record {
   state = λ c' s fits.
       let lk = link_settings c' in
       let k : LinkStep = take_step lk c.args.octets.now s.link in
-      let heard = c.take-heard.ensures.heard lk s.link fits.link in
-      let whole : FitsWhole c.take-heard.new.self (kept_of lk k.side) =
-      record { link = c.take-heard.ensures.state lk s.link fits.link; kept = c.take-heard.ensures.frames lk s.link fits.link } in
-      took_fits c' fits.same s c.args.octets.now (option_copied c.take-heard.result.packet) c.take-heard.result.notes c.follow.new.link c.swap_frames.new.self
+      let heard = c.hear-heard.ensures.heard lk s.link fits.link in
+      let whole : FitsWhole c.hear-heard.new.self (kept_of lk k.side) =
+      record { link = c.hear-heard.ensures.state lk s.link fits.link; kept = c.hear-heard.ensures.frames lk s.link fits.link } in
+      took_fits c' fits.same s c.args.octets.now (option_copied c.hear-heard.result.packet) c.hear-heard.result.notes c.follow.new.link c.swap_frames.new.self
       c.follow.new.layer (not_abandoned c' s (c.is_up.ensures.state (link_settings c') s.link fits.link)
       (c.full.ensures.value (layer_settings c') s.layer fits.layer) c.if-is_up-full.false) (heard.packet, heard.notes)
       (c.follow.ensures.puts.link c' s.layer k.side fits.layer whole) (c.follow.ensures.puts.layer c' s.layer k.side fits.layer whole)
@@ -80,21 +71,21 @@ returns-clause-does c = record {
   frames = λ c' s fits.
       let lk = link_settings c' in
       let k : LinkStep = take_step lk c.args.octets.now s.link in
-      let heard = c.take-heard.ensures.heard lk s.link fits.link in
-      let whole : FitsWhole c.take-heard.new.self (kept_of lk k.side) =
-      record { link = c.take-heard.ensures.state lk s.link fits.link; kept = c.take-heard.ensures.frames lk s.link fits.link } in
+      let heard = c.hear-heard.ensures.heard lk s.link fits.link in
+      let whole : FitsWhole c.hear-heard.new.self (kept_of lk k.side) =
+      record { link = c.hear-heard.ensures.state lk s.link fits.link; kept = c.hear-heard.ensures.frames lk s.link fits.link } in
       let link = c.follow.ensures.puts.link c' s.layer k.side fits.layer whole in
       c.swap_frames.ensures.frames
-      ∙ took_sends c' fits.same s c.args.octets.now (option_copied c.take-heard.result.packet) c.take-heard.result.notes
+      ∙ took_sends c' fits.same s c.args.octets.now (option_copied c.hear-heard.result.packet) c.hear-heard.result.notes
       _ (not_abandoned c' s (c.is_up.ensures.state (link_settings c') s.link fits.link) (c.full.ensures.value (layer_settings c') s.layer fits.layer)
       c.if-is_up-full.false) (heard.packet, heard.notes) link.kept;
   entries = λ c' s fits.
       let lk = link_settings c' in
       let k : LinkStep = take_step lk c.args.octets.now s.link in
-      let heard = c.take-heard.ensures.heard lk s.link fits.link in
-      let whole : FitsWhole c.take-heard.new.self (kept_of lk k.side) =
-      record { link = c.take-heard.ensures.state lk s.link fits.link; kept = c.take-heard.ensures.frames lk s.link fits.link } in
-      took_enters c' fits.same s c.args.octets.now (option_copied c.take-heard.result.packet) c.take-heard.result.notes
+      let heard = c.hear-heard.ensures.heard lk s.link fits.link in
+      let whole : FitsWhole c.hear-heard.new.self (kept_of lk k.side) =
+      record { link = c.hear-heard.ensures.state lk s.link fits.link; kept = c.hear-heard.ensures.frames lk s.link fits.link } in
+      took_enters c' fits.same s c.args.octets.now (option_copied c.hear-heard.result.packet) c.hear-heard.result.notes
       _ (not_abandoned c' s (c.is_up.ensures.state (link_settings c') s.link fits.link) (c.full.ensures.value (layer_settings c') s.layer fits.layer)
       c.if-is_up-full.false) (heard.packet, heard.notes)
       (c.follow.ensures.entries c' s.layer k.side fits.layer whole);
@@ -105,9 +96,9 @@ returns-clause-does c = record {
       let most : length c.follow.new.link.frames ≤ 9 = least_by_meaning _ _ (length c.follow.new.link.frames) 9 c.args.self.now.meant (λ c' s fits.
       let lk = link_settings c' in
       let k : LinkStep = take_step lk c.args.octets.now s.link in
-      let whole : FitsWhole c.take-heard.new.self (kept_of lk k.side) =
-      record { link = c.take-heard.ensures.state lk s.link fits.link; kept = c.take-heard.ensures.frames lk s.link fits.link } in
-      let step = put_behind c' c.args.self.now.manner.wide s k (option_copied c.take-heard.result.packet) c.take-heard.result.notes in
+      let whole : FitsWhole c.hear-heard.new.self (kept_of lk k.side) =
+      record { link = c.hear-heard.ensures.state lk s.link fits.link; kept = c.hear-heard.ensures.frames lk s.link fits.link } in
+      let step = put_behind c' c.args.self.now.manner.wide s k (option_copied c.hear-heard.result.packet) c.hear-heard.result.notes in
       let link = c.follow.ensures.puts.link c' s.layer k.side fits.layer whole in
       let few = few_heard lk c.args.octets.now s.link step.put (c.holds_few.ensures.window lk c.args.self.now.link s.link fits.link)
       (c.holds_few.ensures.stand lk c.args.self.now.link s.link fits.link).place_low in
@@ -120,7 +111,7 @@ returns-clause-does c = record {
 pub returns-clause-timer : goal.returns-clause-timer
 returns-clause-timer c = λ c' s fits.
     let lk = link_settings c' in
-    let heard = c.take-heard.ensures.heard lk s.link fits.link in
+    let heard = c.hear-heard.ensures.heard lk s.link fits.link in
     let does = returns-clause-does c in
     c.timer_behind-out-2.ensures c' s (receives c' s c.args.octets.now) (c.timer_runs-ran.ensures lk s.link fits.link) (does.state c' s fits)
     (does.entries c' s fits)

@@ -1,15 +1,7 @@
-use Rattle.std.proofs.Common.{refl, arith, [], ◌∷◌, ◌++◌, ap, ◌∙◌}
-use Rattle.x25_layer.specs.Calls.{Restarts}
-use Rattle.x25_station.specs.Entry.{restart_asked}
+use Rattle.x25_station.proofs.Names.{refl, arith, [], ◌∷◌, ◌++◌, ap, ◌∙◌, Restarts, layer_settings, restart_asked, Outcome, requests}
+use Rattle.x25_station.proofs.{AskLemmas.{answers, refuses, still_fits}, DoesLemmas.{did_request, declines_request}, EnteredLemmas.{restart_enters}}
+use Rattle.x25_station.proofs.{OutcomeLemmas.{leaves_some, still_meant}, PullLemmas.{goes_on, never_lacks}, TakeLemmas.{takes_longest, has_places}}
 use Rattle.x25_station.specs.declared.step.Step as code_step
-use Rattle.x25_station.specs.Config.{layer_settings}
-use Rattle.x25_station.specs.Step.{Outcome, requests}
-use Rattle.x25_station.proofs.OutcomeLemmas.{leaves_some, still_meant}
-use Rattle.x25_station.proofs.AskLemmas.{answers, refuses, still_fits}
-use Rattle.x25_station.proofs.DoesLemmas.{did_request, declines_request}
-use Rattle.x25_station.proofs.EnteredLemmas.{restart_enters}
-use Rattle.x25_station.proofs.PullLemmas.{goes_on, never_lacks}
-use Rattle.x25_station.proofs.TakeLemmas.{takes_longest, has_places}
 use Rattle.x25_station.proofs.station.Station.restart.Goals as goal
 
 pub restart-requires-clause-longest : goal.restart-requires-clause-longest

@@ -1,7 +1,4 @@
-use Rattle.std.proofs.Common.{◌∙◌, ap, false}
-use Rattle.x25_station.specs.Config.{link_settings}
-use Rattle.x25_station.specs.Timer.{timer_of}
-use Rattle.x25_station.proofs.ClockLemmas.{goes_on}
+use Rattle.x25_station.proofs.{ClockLemmas.{goes_on}, Names.{◌∙◌, ap, false, link_settings, timer_of}}
 use Rattle.x25_station.proofs.station.Station.reuse.Goals as goal
 
 pub returns-clause-timer : goal.returns-clause-timer

@@ -1,6 +1,5 @@
-use Rattle.std.proofs.Common.{Bool, if◌then◌else◌, ap, sym, ◌∙◌}
+use Rattle.x25_station.proofs.Names.{Bool, if◌then◌else◌, ap, sym, ◌∙◌, link_settings, layer_settings}
 use Rattle.x25_layer.specs.Layer.MessageRoom.{room_at}
-use Rattle.x25_station.specs.Config.{link_settings, layer_settings}
 use Rattle.x25_station.proofs.station.Station.room.Goals as goal
 
 pub returns-clause-value : goal.returns-clause-value

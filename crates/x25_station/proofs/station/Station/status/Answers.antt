@@ -1,5 +1,4 @@
-use Rattle.std.proofs.Common.{Bool, not, ap₂, ◌&&◌}
-use Rattle.x25_station.specs.Config.{link_settings, layer_settings}
+use Rattle.x25_station.proofs.Names.{Bool, not, ap₂, ◌&&◌, link_settings, layer_settings}
 use Rattle.x25_station.proofs.station.Station.status.Goals as goal
 
 pub returns-clause-is_at_rest : goal.returns-clause-is_at_rest

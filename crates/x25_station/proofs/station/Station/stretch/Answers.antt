@@ -1,7 +1,4 @@
-use Rattle.std.proofs.Common.{sym, ◌∙◌}
-use Rattle.x25_layer.specs.laws.Transcript.{name_of}
-use Rattle.x25_station.specs.Config.{layer_settings}
-use Rattle.x25_station.proofs.ToldLemmas.{open_named, closed_none}
+use Rattle.x25_station.proofs.{Names.{sym, ◌∙◌, name_of, layer_settings}, ToldLemmas.{open_named, closed_none}}
 use Rattle.x25_station.proofs.station.Station.stretch.Goals as goal
 
 pub returns-then-not-is_open : goal.returns-then-not-is_open

@@ -1,7 +1,4 @@
-use Rattle.std.proofs.Common.{◌∙◌, true, false, ap, sym}
-use Rattle.x25_station.specs.Config.{link_settings}
-use Rattle.x25_station.specs.Timer.{is_anew, runs, timer_of}
-use Rattle.x25_station.proofs.ClockLemmas.{anew_by}
+use Rattle.x25_station.proofs.{ClockLemmas.{anew_by}, Names.{◌∙◌, true, false, ap, sym, link_settings, is_anew, runs, timer_of}}
 use Rattle.x25_station.proofs.station.Station.timer_behind.Goals as goal
 
 pub returns-then-not-timer_runs : goal.returns-then-not-timer_runs

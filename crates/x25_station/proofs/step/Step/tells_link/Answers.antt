@@ -1,6 +1,4 @@
-use Rattle.std.proofs.Common.{ap}
-use Rattle.x25_station.specs.Timer.{tells_link}
-use Rattle.x25_station.proofs.ClockLemmas.{link_here, link_behind, link_nowhere, of_link, not_of_link}
+use Rattle.x25_station.proofs.{ClockLemmas.{link_here, link_behind, link_nowhere, of_link, not_of_link}, Names.{ap, tells_link}}
 use Rattle.x25_station.proofs.step.Step.tells_link.Goals as goal
 
 pub loop-entry-init : goal.loop-entry-init

@@ -1,6 +1,4 @@
-use Rattle.std.proofs.Common.{◌≡◌, drop}
-use Rattle.x25_station.specs.Timer.{tells_link}
-use Rattle.x25_station.proofs.ClockLemmas.{up}
+use Rattle.x25_station.proofs.{ClockLemmas.{up}, Names.{◌≡◌, drop, tells_link}}
 use Rattle.x25_station.proofs.step.Step.tells_link.Given as goal
 
 -- what is left tells it, where any entry does

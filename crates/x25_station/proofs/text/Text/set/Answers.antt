@@ -1,5 +1,4 @@
-use Rattle.std.proofs.Common.{arith}
-use Rattle.std.proofs.lemmas.List.{take_min}
+use Rattle.x25_station.proofs.Names.{arith, take_min}
 use Rattle.x25_station.proofs.text.Text.set.Goals as goal
 
 pub returns : goal.returns

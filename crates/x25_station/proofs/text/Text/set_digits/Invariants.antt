@@ -1,4 +1,5 @@
-use Rattle.std.proofs.Common.{◌≡◌, take, vec_capacity}
+use Rattle.x25_station.proofs.Names.{◌≡◌, take}
+use Rattle.std.proofs.Common.{vec_capacity}
 use Rattle.x25_station.proofs.text.Text.set_digits.Given as goal
 
 abbrev pub invariant-loop-place : goal.invariant-loop-place

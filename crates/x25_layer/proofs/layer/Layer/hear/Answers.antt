@@ -1,17 +1,9 @@
-use Rattle.std.proofs.Common.{rules, ℕ, ◌≡◌, ◌<◌, ◌∙◌, All, Bool, IfOk, is_some, refl, sym, ap, arith}
+use Rattle.x25_layer.proofs.Names.{rules, ℕ, ◌≡◌, ◌<◌, ◌∙◌, All, Bool, IfOk, is_some, refl, sym, ap, arith, plain_read, LayerSettings, Layer, LayerAnswer}
+use Rattle.x25_layer.proofs.Names.{answer_to, hears_on, spelled, FitsLayer, plain, HasChannel, longest_user, read_in}
 use Rattle.std.proofs.lemmas.List.Elements.{All-from_get_or}
-use Rattle.x25_packet.specs.Packet.{plain}
-use Rattle.x25_packet.specs.Spelling.{HasChannel, longest_user}
-use Rattle.x25_packet.specs.Taking.{read_in}
-use Rattle.x25_layer.specs.Layer.{LayerSettings, Layer, LayerAnswer}
-use Rattle.x25_layer.specs.code.FitsLayer.{FitsLayer}
-use Rattle.x25_layer.specs.code.Answering.{spelled}
-use Rattle.x25_circuit.specs.code.Replies.{plain_read}
-use Rattle.x25_layer.specs.Receiving.{answer_to, layer_hears, hears_on}
-use Rattle.x25_layer.proofs.CallLemmas.{layer_same}
-use Rattle.x25_layer.proofs.HearLemmas.{fits_as, hears_none, hears_read, heard_from}
-use Rattle.x25_layer.proofs.layer.Layer.packet.Goals as goal
-use Rattle.x25_layer.proofs.layer.Layer.packet.Goals.{in_default-read-via-in-Ok+in_default, in_default-read-via-in_default}
+use Rattle.x25_layer.proofs.{CallLemmas.{layer_same}, HearLemmas.{fits_as, hears_none, hears_read, heard_from}}
+use Rattle.x25_layer.{proofs.layer.Layer.hear.Goals.{in_default-read-via-in-Ok+in_default, in_default-read-via-in_default}, specs.Receiving.{layer_hears}}
+use Rattle.x25_layer.proofs.layer.Layer.hear.Goals as goal
 
 -- ---- fewer than three octets
 

@@ -1,11 +1,6 @@
-use Rattle.std.proofs.Common.{rules, arith, ap, length, sym, ◌∙◌}
-use Rattle.x25_frame.specs.Reading.{frame_of}
-use Rattle.x25_link.specs.Hearing.{LinkStep, other}
-use Rattle.x25_link.specs.Link.{alone, hears}
-use Rattle.x25_link.proofs.AckedLemmas.{closed_same}
-use Rattle.x25_link.proofs.EndLemmas.{ended_settled, ended_calm}
-use Rattle.x25_link.proofs.LinkLemmas.{begins}
-use Rattle.x25_link.proofs.link.Link.take.Goals as goal
+use Rattle.x25_link.proofs.Names.{rules, arith, ap, length, sym, ◌∙◌, frame_of, LinkStep, other, alone, hears}
+use Rattle.x25_link.proofs.{AckedLemmas.{closed_same}, EndLemmas.{ended_settled, ended_calm}, LinkLemmas.{begins}}
+use Rattle.x25_link.proofs.link.Link.hear.Goals as goal
 
 pub end-requires : goal.end-requires
 end-requires c = omega (arith, c.hear-heard.ensures.one, ap length c.clear.ensures)
