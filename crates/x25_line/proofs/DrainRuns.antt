@@ -244,8 +244,7 @@ module _ (reads : ReadsSpelled) (laws : HealingLaws) {c d : LinkSettings} (joine
   count (Far Deliver ∷ es) w are fit enough finds =
       let f = far_falls w fit enough finds.0 in
       omega (arith, f.less, count es _ are.1 f.fit f.enough finds.1)
-  count (Near a ∷ es) w are fit enough finds = absurd are.0
-  count (Far a ∷ es) w are fit enough finds = absurd are.0
+  count (event ∷ es) w are fit enough finds = absurd are.0
 
   -- some deliveries drain the line
   abbrev Drains : Sessions → Type 0

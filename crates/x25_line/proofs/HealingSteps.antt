@@ -206,8 +206,7 @@ pub deliveries_keep : (P : Sessions → Type 0) (c d : LinkSettings) → ((w : S
 deliveries_keep P c d near far [] w are h = h
 deliveries_keep P c d near far (Near Deliver ∷ es) w are h = deliveries_keep P c d near far es (acts c Deliver w) are.1 (near w h)
 deliveries_keep P c d near far (Far Deliver ∷ es) w are h = deliveries_keep P c d near far es (swapped (acts d Deliver (swapped w))) are.1 (far w h)
-deliveries_keep P c d near far (Near a ∷ es) w are h = absurd are.0
-deliveries_keep P c d near far (Far a ∷ es) w are h = absurd are.0
+deliveries_keep P c d near far (event ∷ es) w are h = absurd are.0
 
 -- what is put may be read at the other end
 pub reads_put : ReadsSpelled → {c d : LinkSettings} → AreJoined c d → (given : List (List ℕ)) (session : ℕ) (es : List Entry) (fs gs : List PlainFrame)

@@ -1,16 +1,15 @@
 -- What is seen of a command that a station accepts, and of a firing of its timer T1.
-use Rattle.std.proofs.Common.{◌≡◌, ◌+◌, ◌==◌, nat_lt, List, Bool, true, false, if◌then◌else◌, Option, Some, None, refl, sym, ap, subst}
-use Rattle.x25_packet.specs.Packet.{PlainPacket}
-use Rattle.x25_given.specs.Given.{PlainGiven}
-use Rattle.x25_link.specs.declared.error.LinkError.{LinkError}
-use Rattle.x25_link.specs.{declared.phase.Phase.{Phase}, declared.phase.Phase.TheVariants.{Down, Up}, Hearing.{quiet, leaves}}
-use Rattle.x25_link.specs.Link.{alone, closed_by, asks_again, timer_step, connect_refusal, relink_refusal}
+use Rattle.x25_peer.proofs.Names.{◌≡◌, ◌==◌, List, Bool, true, false, if◌then◌else◌, Option, Some, None, refl, sym, ap, subst, PlainPacket, PlainGiven}
+use Rattle.x25_peer.proofs.Names.{LinkError, timer_step, LayerRequest, Settings, layer_settings, link_settings, StationEntry, Station, Step, LinkSettings}
+use Rattle.x25_peer.proofs.Names.{LinkStation, is_up}
+use Rattle.std.proofs.Common.{◌+◌, nat_lt}
 use Rattle.x25_circuit.specs.Calling.{Sends}
-use Rattle.x25_layer.specs.{Layer.{Layer}, Calls.{LayerRequest, Asks, LayerOutcome, Accepted, Declined, layer_outcome}, laws.Rounds.{Refuses, went}}
-use Rattle.x25_station.specs.{declared.error.StationError.{StationError}, Config.{Settings, layer_settings, link_settings}, Command.{may_ask}}
-use Rattle.x25_station.specs.{Entry.{StationEntry}, Giving.{suits, is_taken, view_given, not_taken}, Station.{Station, view_of}}
-use Rattle.x25_station.specs.Step.{Step, Outcome, Did, Refused, unless, requests, did, entries_of_outcome, gave, gives, where_asked}
-use Rattle.x25_link.specs.{declared.phase.Reason.TheVariants.{Retries}, Outgoing.{waits}, Station.{LinkSettings, LinkStation, is_up, with_near}}
+use Rattle.x25_layer.specs.{Calls.{Asks, LayerOutcome, Accepted, Declined, layer_outcome}, Layer.{Layer}, laws.Rounds.{Refuses, went}}
+use Rattle.x25_link.specs.{Hearing.{quiet, leaves}, Link.{alone, closed_by, asks_again, connect_refusal, relink_refusal}, Outgoing.{waits}, Station.{with_near}}
+use Rattle.x25_link.specs.declared.phase.{Phase.{Phase}, Phase.TheVariants.{Down, Up}, Reason.TheVariants.{Retries}}
+use Rattle.x25_station.specs.{Command.{may_ask}, Giving.{suits, is_taken, view_given, not_taken}, Station.{view_of}}
+use Rattle.x25_station.specs.Step.{Outcome, Did, Refused, unless, requests, did, entries_of_outcome, gave, gives, where_asked}
+use Rattle.x25_station.specs.declared.error.StationError.{StationError}
 use Rattle.x25_layer.specs.declared.error.LayerError.TheVariants as layer_error
 use Rattle.x25_station.specs.declared.error.StationError.TheVariants as error
 

@@ -1,3 +1,4 @@
+pub mod Names
 pub mod Granted
 pub mod ReadLemmas
 pub mod sessions

@@ -1,11 +1,10 @@
 -- What packets are read as, and what a link's peer sends and hears.
-use Rattle.std.proofs.Common.{◌≡◌, ℕ, ◌≤◌, List, [], ◌∷◌, ◌++◌, length, drop, Bool, true, false, Some, None, Result, Ok, refl, sym, ap, subst, ◌∙◌}
-use Rattle.std.proofs.{Common.{append_assoc, arith}, lemmas.List.{length-append, drop_all}}
-use Rattle.x25_packet.specs.Packet.{PlainPacket}
-use Rattle.x25_line.specs.{laws.Said.{Said, Tells, Odd}, laws.Peer.{Peer, MaySay, MayMake, hearing, taking}}
-use Rattle.x25_station.specs.{Config.{Settings}, Entry.{StationEntry, in_layer, notice_in, layer_entries, layer_notices}, laws.ReadLaw.{AreReadable}}
-use Rattle.x25_peer.specs.laws.BesideSessions.{read_by, ReadAs}
-use Rattle.x25_peer.proofs.sessions.LinkSteps.{AreReadBack}
+use Rattle.x25_peer.proofs.Names.{◌≡◌, ℕ, ◌≤◌, List, [], ◌∷◌, ◌++◌, length, drop, Bool, true, false, Some, None, Ok, refl, sym, ap, subst, ◌∙◌, append_assoc}
+use Rattle.x25_peer.proofs.Names.{arith, PlainPacket, Said, Tells, Peer, Settings, StationEntry, layer_entries, layer_notices, AreReadable, ReadAs}
+use Rattle.std.proofs.{Common.{Result}, lemmas.List.{length-append, drop_all}}
+use Rattle.x25_line.specs.laws.{Peer.{MaySay, MayMake, hearing, taking}, Said.{Odd}}
+use Rattle.x25_peer.{proofs.sessions.LinkSteps.{AreReadBack}, specs.laws.BesideSessions.{read_by}}
+use Rattle.x25_station.specs.Entry.{in_layer, notice_in}
 
 -- ---- lists
 

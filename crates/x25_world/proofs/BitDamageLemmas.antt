@@ -1,9 +1,9 @@
 -- Damage to the bits of the line is damage to the octets, and is refused for no other ground than its own.
 use Rattle.x25_world.proofs.Names.{◌≡◌, ◌∙◌, ℕ, ◌<◌, nat_lt, Bool, true, false, not, List, length, None, Result, Ok, Err, IfErr, refl, ap, is_sealed}
-use Rattle.x25_world.proofs.Names.{is_visible, Cfg, WorldError, World, Damages, happens, refusal_of, damaged, ShownWorld, FitsWorld, IsRefusal}
+use Rattle.x25_world.proofs.Names.{is_visible, Cfg, WorldError, World, Damages, happens, refusal_of, damaged, ShownWorld, FitsWorld, IsRefusal, end_of, line_of}
 use Rattle.std.{proofs.Common.{lt-ltb}, proofs.lemmas.Bool.{or_right}, specs.Prelude.{◌||◌}}
-use Rattle.x25_bits.specs.{Role.{end_of}, declared.direction.Direction.{Direction}, declared.direction.Direction.TheVariants.{ToDce, ToDte}}
-use Rattle.x25_world.{proofs.WorldLemmas.{only_memory}, specs.BitDamage.{RefusesBits}, specs.code.ShownWorld.{line_of}}
+use Rattle.x25_bits.specs.declared.direction.{Direction.{Direction}, Direction.TheVariants.{ToDce, ToDte}}
+use Rattle.x25_world.{proofs.WorldLemmas.{only_memory}, specs.BitDamage.{RefusesBits}}
 use Rattle.x25_world.specs.declared.error.WorldError.TheVariants as error
 
 shown : (octets : List ℕ) → is_sealed octets ≡ false → is_visible octets ≡ true

@@ -3,10 +3,10 @@ use Rattle.x25_world.proofs.Names.{◌≡◌, ℕ, List, [], ◌∷◌, ◌++◌
 use Rattle.x25_world.proofs.Names.{eqb-true, cond_both, PlainPacket, restart, restart_conf, channel_of, Circuit, is_open, answers, Done, Calls, outcome}
 use Rattle.x25_world.proofs.Names.{LayerSettings, Layer, answers_on, drops, answers_in, layer_answers, LayerRequest, Dials, Restarts, PullsAll, LayerOutcome}
 use Rattle.x25_world.proofs.Names.{Accepted, where_room, outcome_on, dialled, free_channel, outcome_in, layer_outcome, layer_pulled, LayerError, Entry}
-use Rattle.x25_world.proofs.Names.{requested, pulled_in, moves_in, entries_asked, OwnMove, Requests, Pulls, Takes, as_move, alone, own_moves}
+use Rattle.x25_world.proofs.Names.{requested, pulled_in, moves_in, entries_asked, OwnMove, Pulls, Takes, as_move, alone, own_moves}
 use Rattle.x25_circuit.specs.{Calling.{Outcome, Refused}, Cause.{may_restart_for}}
 use Rattle.x25_layer.specs.{Calls.{Asks, Declined, puts_at_once, if_at_once, outcome_ready}, Layer.{put_at, restarting_from}, Ranges.{is_channel}}
-use Rattle.x25_layer.specs.laws.{Apart.{GoesDown, coming}, TwoLayers.{entries_told}}
+use Rattle.x25_layer.specs.laws.{Apart.{Requests, GoesDown, coming}, TwoLayers.{entries_told}}
 use Rattle.x25_world.proofs.Continues.{never, AfterPacket, AfterCall, stays_heard, stays_called, packet_heard, AfterOutcome, outcome_called, pulled_called}
 use Rattle.x25_world.proofs.sessions.SessionTrace.{TakesNone}
 use Rattle.x25_circuit.specs.declared.error.CircuitError.TheVariants as circuit_error

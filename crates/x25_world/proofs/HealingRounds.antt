@@ -5,13 +5,13 @@ use Rattle.x25_world.proofs.Names.{Outcome, Did, Refused, commands, LinkStation,
 use Rattle.x25_world.proofs.Names.{WorldOutcome, Happened, Declined, of_station, swapped_back, Event, happens, after, run, AreInOctets, IsBeginning, Throughout}
 use Rattle.x25_world.proofs.Names.{PullsLeaveNone, UnpulledWaitForUsers, receipt, all_received, firing, next_end, arrivals, deliveries, one_if, if_accepted}
 use Rattle.x25_world.proofs.Names.{behind, received_in, IsDrained, AreReceiptsAndRequests, FreeThroughout, HealsWithPuts, RestShows, ShownWorld, FitsRun}
-use Rattle.std.{proofs.lemmas.Bool.{not-true}, specs.Prelude.{is_none, is_some, not, option_map}}
+use Rattle.x25_world.proofs.Names.{is_none, Requests, is_at_rest, TellingWorld, GoesBy, each_append, ArrivesByHealing, RestShowsAll, both_tried, pull_round}
+use Rattle.std.{proofs.lemmas.Bool.{not-true}, specs.Prelude.{is_some, not, option_map}}
 use Rattle.x25_link.specs.Link.{is_idle}
-use Rattle.x25_station.specs.{Command.{Requests}, Station.Told.{is_at_rest}}
-use Rattle.x25_world.proofs.{HealingSchedule.{count_append, tried_is, Begun, goes_on, rest_is}, Names.{TellingWorld, GoesBy, each_append}}
-use Rattle.x25_world.{proofs.WorldLemmas.{run_append, accepted_append, octets_append}, specs.Healing.{ArrivesByHealing, AllArrives, RestShowsAll}}
-use Rattle.x25_world.specs.Healing.{both_tried, pull_round, unless_empty, pull_rounds, fire_and_pull, healing, received_by, BothMayHeal, HaveArrived}
-use Rattle.x25_world.specs.{code.FitsHealing.{most_times}, code.FitsWorld.{Leaves}, laws.WaitClaims.{pull_at, AllWaitForUsers, HasNoneToPull}}
+use Rattle.x25_world.proofs.HealingSchedule.{count_append, tried_is, Begun, goes_on, rest_is}
+use Rattle.x25_world.proofs.{Names.{pull_rounds, fire_and_pull, healing, most_times, pull_at}, WorldLemmas.{run_append, accepted_append, octets_append}}
+use Rattle.x25_world.specs.{Healing.{AllArrives, unless_empty, received_by, BothMayHeal, HaveArrived}, code.FitsWorld.{Leaves}}
+use Rattle.x25_world.specs.laws.WaitClaims.{AllWaitForUsers, HasNoneToPull}
 
 -- ---- rounds
 

@@ -3,10 +3,9 @@ use Rattle.x25_world.proofs.Names.{◌≡◌, ℕ, zero, suc, ◌+◌, ◌-◌, 
 use Rattle.x25_world.proofs.Names.{refl, sym, ap, ap₂, ◌∙◌, subst, arith, append_assoc, append-nil, length-append, Role, Dte, Dce, Cfg, settings_from, World}
 use Rattle.x25_world.proofs.Names.{AtEnd, mirrored, WorldOutcome, Happened, Declined, swapped_back, delivered, Event, happens, refusal_of, after, run}
 use Rattle.x25_world.proofs.Names.{WorldError, receipt, all_received, next_end, arrivals, deliveries, one_if, if_accepted, behind, received_in, ShownWorld}
+use Rattle.x25_world.proofs.Names.{FitsWorld, IsRefusal, TellingWorld, GoesBy, telling, Tells, GoesPartly, plain_told, Entered}
 use Rattle.std.proofs.Common.{◌≢◌}
-use Rattle.x25_world.proofs.{Names.{FitsWorld, IsRefusal, TellingWorld, GoesBy}, WorldLemmas.{run_append, accepted_append}}
-use Rattle.x25_world.specs.{Healing.{arrivals_from}, code.FitsHealing.{telling, Tells, GoesPartly}, code.PlainTold.{plain_told}}
-use Rattle.x25_world.specs.declared.told.Entered.{Entered}
+use Rattle.x25_world.{proofs.WorldLemmas.{run_append, accepted_append}, specs.Healing.{arrivals_from}}
 use Rattle.x25_world.specs.declared.error.WorldError.TheVariants as error
 
 -- ---- lists of events

@@ -4,13 +4,14 @@ use Rattle.x25_world.proofs.Names.{Dte, Dce, other, is_up, LinkStation, LinkSett
 use Rattle.x25_world.proofs.Names.{HasAllOf, first_name, counted, own_run, started, Cfg, StationEntry, link_up, link_down, layer_entries, Station, Connects}
 use Rattle.x25_world.proofs.Names.{Relinks, WorldError, World, Act, Commands, Event, WorldOutcome, Happened, Declined, refusal_of, happens, after, run}
 use Rattle.x25_world.proofs.Names.{established, station_at, entries_at, IsUpAtMostOnce, AreInOctets, link_of, Asks, at_end, all_at, SessionLaws, Progress}
+use Rattle.x25_world.proofs.Names.{none_begun, after_entry, after_entries, session_at, last_session, IsLawful, IsNamed, ArrivesAll, NoneConnects}
 use Rattle.x25_line.specs.laws.{SessionEvents.{IsUnasked, NoneBeginUnasked}, StationClaims.{AcceptsNoConnectAt}}
-use Rattle.x25_world.proofs.{Established.{just_set_up}, Known.{IsConfigured}, Names.{none_begun, after_entry, after_entries, session_at, last_session}}
+use Rattle.x25_world.proofs.{Established.{just_set_up}, Known.{IsConfigured}}
 use Rattle.x25_world.proofs.sessions.{SessionJoined.{HaveAll, IsEnd, HasMet, PairIsInOrder, SessionsJoined}, SessionKnown.{met_in_order, nothing_in_order}}
 use Rattle.x25_world.proofs.sessions.{SessionReaches.{SessionsReach, Leads, reach_on, known_sessions}, SessionRuns.{next}, SessionTrace.{Done, layer_of, own}}
 use Rattle.x25_world.proofs.sessions.claims.{SessionArrives.{all_arrive, open_stretches_meet}, SessionLawful.{own_lawful, are_named}}
-use Rattle.x25_world.proofs.sessions.claims.SessionMeets.{begun_both, meet_in_step}
-use Rattle.x25_world.specs.laws.{Claims.{ups_in, handed_at, IsLawful, IsNamed, ArrivesAll, IsNoConnect, NoneConnects}, Sessions.{progress_at}}
+use Rattle.x25_world.{proofs.sessions.claims.SessionMeets.{begun_both, meet_in_step}, specs.laws.Claims.{ups_in, handed_at, IsNoConnect}}
+use Rattle.x25_world.specs.laws.Sessions.{progress_at}
 use Rattle.x25_line.specs.laws.Stations as line
 use Rattle.x25_line.specs.laws.Sessions as links
 

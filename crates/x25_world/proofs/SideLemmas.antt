@@ -1,13 +1,13 @@
 -- What an end did is its act by the definition, and its refusal is due.
 use Rattle.x25_world.proofs.Names.{◌≡◌, ℕ, true, false, ◌&&◌, if◌then◌else◌, List, [], ◌∷◌, ◌++◌, map, Some, None, slice_get, Result, Ok, Err, OnOk, OnErr}
-use Rattle.x25_world.proofs.Names.{IfErr, ◌⊎◌, inl, inr, refl, ap, sym, ◌∙◌, remove, Role, Dte, Dce, spelling_of, awaits_ua, Cfg, StationError, StationEntry}
+use Rattle.x25_world.proofs.Names.{IfErr, ◌⊎◌, inl, inr, refl, ap, sym, ◌∙◌, Role, Dte, Dce, spelling_of, awaits_ua, Cfg, StationError, StationEntry}
 use Rattle.x25_world.proofs.Names.{FitsStation, Settings, settings_from, Step, Outcome, Did, Refused, fires, receives, WorldError, World, WorldOutcome}
 use Rattle.x25_world.proofs.Names.{Happened, Declined, after_step, of_station, delivered, on_line, is_on_line, fired, refusal_of, entered, ShownLine}
-use Rattle.std.proofs.lemmas.List.{append-nil}
+use Rattle.std.{proofs.lemmas.List.{append-nil}, specs.List.{remove}}
 use Rattle.x25_bits.specs.Role.{other}
 use Rattle.x25_station.specs.code.FitsStation.{Leaves, Sends, Enters, Refuses}
-use Rattle.x25_world.{proofs.Names.{HasHappened}, specs.Error.{error_of}, specs.code.FitsWorld.{FitsSide}}
-use Rattle.x25_world.specs.code.ShownLine.{line_to, with_line_to, with_room_of, put_by, TakesFew}
+use Rattle.x25_world.{proofs.Names.{HasHappened, line_to, put_by}, specs.Error.{error_of}, specs.code.FitsWorld.{FitsSide}}
+use Rattle.x25_world.specs.code.ShownLine.{with_line_to, with_room_of, TakesFew}
 use Rattle.x25_station.specs.declared.error.StationError.TheVariants as station
 use Rattle.x25_station.specs.declared.station.Station as code
 use Rattle.x25_station.specs.declared.step.Step as code_step

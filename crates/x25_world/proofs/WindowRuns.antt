@@ -2,8 +2,7 @@
 use Rattle.x25_world.proofs.Names.{◌≡◌, ℕ, ◌<◌, ◌⊎◌, inl, inr, List, [], ◌∷◌, ◌++◌, Bool, true, false, ◌||◌, refl, sym, ap, ap₂, ◌∙◌, subst, arith, Dte, Dce}
 use Rattle.x25_world.proofs.Names.{StationEnd, SessionEnd, Sessions, begun_by, Cfg, ConnectKeeps, World, Event, run, established, AreInOctets, IsUpOnce}
 use Rattle.x25_line.proofs.sessions.SessionsForgotten.{Alike}
-use Rattle.x25_line.specs.laws.{Line.{Line}, StationClaims.{IsSetUpOnce}}
-use Rattle.x25_line.specs.laws.WholeNumbers.{machine_run, machine_happens, MachineGoesAlong, OnceStaysOnce}
+use Rattle.x25_line.specs.laws.{Line.{Line}, StationClaims.{IsSetUpOnce}, WholeNumbers.{machine_run, machine_happens, MachineGoesAlong, OnceStaysOnce}}
 use Rattle.x25_world.proofs.{Established.{just_set_up}, Known.{IsConfigured, is_configured}}
 use Rattle.x25_world.proofs.{Names.{link_of, SessionLaws, both_put, links_by, Lasts, runs_alike, LinkSettings}, SetUpOnce.{ups_are_begun, are_first}}
 use Rattle.x25_world.proofs.sessions.{SessionJoined.{SessionsJoined}, SessionReaches.{joined_at}, SessionRuns.{next, begin_joined}}

@@ -6,8 +6,8 @@ use Rattle.x25_world.proofs.Names.{fires, WorldError, World, mirrored, Event, Ac
 use Rattle.x25_world.proofs.Names.{after_step, of_station, delivered, on_line, is_on_line, acts, tapped, entered, swapped_back, AtEnd, happens, after}
 use Rattle.x25_world.proofs.Names.{refusal_of, run, AreAccepted, connected, start, ActsInOctets, AreInOctets, IsUpOnce, IsUpAtMostOnce, ShownLine, ShownWorld}
 use Rattle.std.proofs.{Common.{IfOk}, Math.Seq.{drop-append_seam}, lemmas.List.{append-nil, drop_all}}
-use Rattle.x25_world.{proofs.Established.{connected_tells}, proofs.Names.{FitsWorld, FitsRun, HasHappened}, specs.World.{acts_at}}
-use Rattle.x25_world.specs.code.{FitsWorld.{EachRunHolds, Claims, and_then, HasActed, HasActedAt, RefusesConfig}, ShownWorld.{shown_with, line_from}}
+use Rattle.x25_world.{proofs.Established.{connected_tells}, proofs.Names.{FitsWorld, FitsRun, HasHappened, shown_with}, specs.World.{acts_at}}
+use Rattle.x25_world.specs.code.{FitsWorld.{EachRunHolds, Claims, and_then, HasActed, HasActedAt, RefusesConfig}, ShownWorld.{line_from}}
 use Rattle.x25_station.specs.declared.station.Station as code
 use Rattle.x25_world.specs.declared.error.WorldError.TheVariants as error
 

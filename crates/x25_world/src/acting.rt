@@ -132,20 +132,20 @@ fn deliver(at: Role, near: &mut Station, line: &mut Line, out: &mut Step) -> Res
         return refuse(near, out, WorldError::Empty);
     };
     near.receive(frame.octets.as_slice(), out);
-    line.keep(frame);
     put(at, line, &mut out.frames);
+    line.keep(frame);
     Ok(())
 }
 
-// Copies of the frames of a step come on the line, in room that there is, and none is left in it.
+// The frames of a step come on the line, in room that there is, and none is left in it.
 #[inline(always)]
 fn put(at: Role, line: &mut Line, frames: &mut Frames)
     requires { length frames.old ≤ line.old.room }
     ensures empty { frames.new ≡ [] }
     ensures line { line.new ≡ put_by line.old at frames.old }
 {
-    for octets in frames.as_slice() {
-        line.put(at, octets);
+    for place in 0..frames.len() {
+        line.put(at, frames, place);
     }
     frames.clear();
 }

@@ -1,6 +1,6 @@
 ghost use Rattle.std.specs.Prelude.{◌≡◌, ◌+◌, ◌*◌, ◌<◌, ◌≤◌, ◌++◌, max, [], length, map, remove, OnOk, OnErr, ◌∷◌};
 ghost use Rattle.std.specs.Prelude.{option_copied, option_map, nat_le, vec_len, vec_capacity, IfOk};
-ghost use Rattle.std.specs.Prelude.{slice_get};
+ghost use Rattle.std.specs.Prelude.{slice_get, take, drop, IfSome};
 ghost use Rattle.x25_line.specs.laws.Loss.{replaced};
 ghost use Rattle.x25_world.specs.code.ShownLine.{ShownLine, line_to, with_line_to, with_room_of};
 ghost use Rattle.x25_world.specs.code.ShownLine.{put_by, TakesFew};
@@ -10,13 +10,17 @@ use std::alloc::{AllocError, Global};
 use std::collections::VecDeque;
 use std::marker::Model;
 use x25_bits::{Role, with_octets};
+use x25_link::Frames;
 use x25_station::MOST_FRAMES;
 
 /// The most octets of a frame: those of a packet, address, control and frame check sequence.
 const LONGEST_FRAME: usize = 4103;
 
-/// Of how many frames that left the line the memory is kept.
-const MOST_LEFT: usize = 25;
+/// The most blanks.
+const MOST_BLANKS: usize = 30;
+
+/// Of how many frames that left the line the memory is kept beside the blanks.
+const MOST_LEFT: usize = 4;
 
 /// A frame on the line, in memory for its octets, or for those of the longest frame.
 #[derive(Drop)]
@@ -25,15 +29,14 @@ pub(crate) struct Laid {
     ghost memory: { vec_capacity octets ≤ max (vec_len octets) 4103 },
 }
 
-// Memory for the longest frame.
+// Memory for the longest frame. What stands there is of no use.
 #[derive(Drop)]
 struct Blank {
     octets: Vec<u8>,
-    ghost empty: { octets.items ≡ [] },
     ghost room: { vec_capacity octets ≡ 4103 },
 }
 
-// Memory of a frame that left the line.
+// Memory of a frame that left the line, of its own length.
 #[derive(Drop)]
 struct Left {
     octets: Vec<u8>,
@@ -43,8 +46,8 @@ struct Left {
 
 /// The line between two ends in both directions.
 ///
-/// Its frames are copies of those that an end sent. They come in memory of frames that left, or of their own length,
-/// and where there is none in blanks, made before the end sends them.
+/// Its frames come in the memory that an end sent them in, for which a blank is given, while there are more of these
+/// than a step may need: or else in copies, in memory of frames that left, or of their own length.
 #[derive(Drop)]
 pub struct Line {
     to_dce: VecDeque<Laid>,
@@ -72,7 +75,7 @@ impl Model for Line {
 
     ghost invariant = { λ l. (deque_len l.to_dce + l.room ≤ deque_capacity l.to_dce) ×
         (deque_len l.to_dte + l.room ≤ deque_capacity l.to_dte) × (l.room ≤ vec_len l.blanks) ×
-        (vec_capacity l.blanks ≤ 9) × (vec_capacity l.left ≤ 25) };
+        (vec_capacity l.blanks ≤ 30) × (vec_capacity l.left ≤ 4) };
 }
 
 impl Line {
@@ -129,16 +132,17 @@ impl Line {
         Ok(())
     }
 
-    /// A copy of a frame that an end sent comes on the line, in room that there is.
+    /// The frame at this place comes on the line, in room that there is. What stands there then is of no use.
     #[inline(always)]
-    pub fn put(&mut self, from: Role, octets: &[u8])
+    pub fn put(&mut self, from: Role, frames: &mut Frames, place: usize)
         requires room { 0 < self.old.room }
-        requires short { length octets.now ≤ 4103 }
-        ensures { self.new ≡ put_by self.old from (octets.now ∷ []) }
+        requires place { place < length frames.old }
+        ensures line { self.new ≡ put_by self.old from (take 1 (drop place frames.old)) }
+        ensures rest { drop (place + 1) frames.new ≡ drop (place + 1) frames.old }
+        ensures count { length frames.new ≡ length frames.old }
     {
         self.room -= 1;
-        let memory = memory(&mut self.blanks, &mut self.left, self.alloc, octets.len());
-        let own = with_octets(memory, octets);
+        let own = own(&mut self.blanks, &mut self.left, self.alloc, frames, place);
         match from {
             Role::Dte => lay(&mut self.to_dce, own),
             Role::Dce => lay(&mut self.to_dte, own),
@@ -179,10 +183,11 @@ impl Line {
     pub(crate) fn keep(&mut self, frame: Laid)
         ensures { self.new ≡ self.old }
     {
-        let Laid { mut octets } = frame;
-        if octets.capacity() <= LONGEST_FRAME && self.left.len() < self.left.capacity() {
-            octets.clear();
-            self.left.push_reserved(Left { octets });
+        let Laid { octets } = frame;
+        if octets.capacity() == LONGEST_FRAME && self.blanks.len() < self.blanks.capacity() {
+            self.blanks.push_reserved(Blank { octets });
+        } else {
+            keep_short(&mut self.left, octets);
         }
     }
 
@@ -211,40 +216,78 @@ impl Line {
     }
 }
 
-// Makes blanks, as many as a step may need. Err: no memory.
+// Makes blanks where there are fewer than a step may need. Err: no memory.
 fn make_blanks(blanks: &mut Vec<Blank>, alloc: Global) -> Result<(), AllocError>
-    requires places { vec_capacity blanks.old ≤ 9 }
+    requires places { vec_capacity blanks.old ≤ 30 }
     ensures enough { OnOk result (9 ≤ vec_len blanks.new) }
     ensures no_fewer { vec_len blanks.old ≤ vec_len blanks.new }
-    ensures few { vec_capacity blanks.new ≤ 9 }
+    ensures few { vec_capacity blanks.new ≤ 30 }
 {
-    blanks.reserve_exact(MOST_FRAMES - blanks.len())?;
-    while blanks.len() < MOST_FRAMES {
+    if blanks.len() >= MOST_FRAMES {
+        return Ok(());
+    }
+    blanks.reserve_exact(MOST_BLANKS - blanks.len())?;
+    while blanks.len() < MOST_BLANKS {
         let octets = Vec::with_capacity(alloc, LONGEST_FRAME)?;
         blanks.push_reserved(Blank { octets });
     }
     Ok(())
 }
 
-// Memory for so many octets: of the frame that left last, where that is enough, or of its own, or else a blank.
-fn memory(blanks: &mut Vec<Blank>, left: &mut Vec<Left>, alloc: Global, length: usize) -> Vec<u8>
+// The octets of the frame at this place: in its memory, for which a blank is given, where there are more blanks than a
+// step may need or there is no memory for a copy, else a copy.
+#[inline(always)]
+fn own(
+    blanks: &mut Vec<Blank>,
+    left: &mut Vec<Left>,
+    alloc: Global,
+    frames: &mut Frames,
+    place: usize,
+) -> Vec<u8>
     requires some { 0 < vec_len blanks.old }
-    requires short { length ≤ 4103 }
+    requires place { place < length frames.old }
     ensures one { vec_len blanks.old ≤ vec_len blanks.new + 1 }
     ensures places { vec_capacity blanks.new ≡ vec_capacity blanks.old }
     ensures places_left { vec_capacity left.new ≡ vec_capacity left.old }
-    ensures empty { result.items ≡ [] }
-    ensures enough { length ≤ vec_capacity result }
+    ensures frame { take 1 (drop place frames.old) ≡ result.items ∷ [] }
     ensures few { vec_capacity result ≤ 4103 }
+    ensures rest { drop (place + 1) frames.new ≡ drop (place + 1) frames.old }
+    ensures count { length frames.new ≡ length frames.old }
+{
+    if blanks.len() <= MOST_FRAMES
+        && let Some(own) = copy(left, alloc, &frames.as_slice()[place])
+    {
+        return own;
+    }
+    frames.exchange(place, blanks.pop().unwrap().octets)
+}
+
+// A copy of a frame, in the memory of the one that left last, where that is enough, or of its own. None: no memory.
+fn copy(left: &mut Vec<Left>, alloc: Global, frame: &[u8]) -> Option<Vec<u8>>
+    requires short { length frame.now ≤ 4103 }
+    ensures places { vec_capacity left.new ≡ vec_capacity left.old }
+    ensures octets { IfSome result (λ own. own.items ≡ frame.now) }
+    ensures few { IfSome result (λ own. vec_capacity own ≤ 4103) }
 {
     if let Some(Left { octets }) = left.pop()
-        && octets.capacity() >= length
+        && octets.capacity() >= frame.len()
     {
-        return octets;
+        return Some(with_octets(octets, frame));
     }
-    match Vec::with_capacity(alloc, length) {
-        Ok(octets) => octets,
-        Err(AllocError) => blanks.pop().unwrap().octets,
+    match Vec::with_capacity(alloc, frame.len()) {
+        Ok(octets) => Some(with_octets(octets, frame)),
+        Err(AllocError) => None,
+    }
+}
+
+// Memory that isn't for the longest frame serves again, where there is a place for it.
+fn keep_short(left: &mut Vec<Left>, octets: Vec<u8>)
+    ensures { vec_capacity left.new ≡ vec_capacity left.old }
+{
+    let mut octets = octets;
+    if octets.capacity() <= LONGEST_FRAME && left.len() < left.capacity() {
+        octets.clear();
+        left.push_reserved(Left { octets });
     }
 }
 
@@ -279,7 +322,6 @@ fn grow(queue: &mut VecDeque<Laid>) -> Result<(), AllocError>
 }
 
 // The frame at this place is taken out, with no move of others where it is the first.
-#[inline(always)]
 fn take_off(queue: &mut VecDeque<Laid>, place: usize) -> Option<Laid>
     ensures frame { result ≡ slice_get queue.old.items place }
     ensures items { queue.new.items ≡ remove queue.old.items place }

@@ -156,7 +156,6 @@ module _ {d : LinkSettings} (k : Kind d) where
             (k.does.takes_disc e es w.met b h.all w.out (spelling_of d.role (ua f)) closes.0 f closes.1 (alone_reads k.reads d (ua f) tt) (came_in Up in_it)))))
         | inr none ↦ (absurd (omega (arith, (left_by r (window_of d.window s)).0, ap by_disc ending, none)))
       ]
-      ends_seen Dm never ending ends = left_seen never ends (gone step.side.out ends.frames)
       ends_seen FrmrSent never ending ends =
           let f = ends.frames.0 in
           let why = ends.frames.1 in
@@ -165,10 +164,9 @@ module _ {d : LinkSettings} (k : Kind d) where
           (put_one w.out (frmr f why) step.side.out ends.frames.2
           (rw in_it (k.does.faults e es w.met b h.all w.out (spelling_of d.role (frmr f why)) f why (ap (ending_of r) facts.same ∙ ending)
           (k.reads d.role d.longest (frmr f why) _ (record { in_range = tt; carries = three; within = tt; spelling = refl })) (came_in Up in_it))))
-      ends_seen FrmrGot never ending ends = left_seen never ends (gone step.side.out ends.frames)
       ends_seen Reset never ending ends = absurd (never refl)
       ends_seen Local never ending ends = absurd (omega (arith, (left_by r (window_of d.window s)).2, ap by_local ending))
-      ends_seen Counts never ending ends = left_seen never ends (gone step.side.out ends.frames)
+      ends_seen reason never ending ends = left_seen never ends (gone step.side.out ends.frames)
 
       pub up_seen : sabm_of (said r) ≡ 0 → S (after_step d w es met [] step)
       up_seen no_sabm = go (ending_of r (window_of d.window s)) refl (k.rests.laws.window.take d e.octets s (record { up = up; sound = facts.sound }) r refl)

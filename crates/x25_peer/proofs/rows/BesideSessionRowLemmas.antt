@@ -1,17 +1,16 @@
 -- The worked rows of a station beside a peer, by computing.
-use Rattle.std.proofs.Common.{◌≡◌, ◌∙◌, ap, ℕ, suc, true, List, [], ◌∷◌, Ok, refl}
+use Rattle.x25_peer.proofs.Names.{◌≡◌, ◌∙◌, ap, ℕ, suc, true, List, [], ◌∷◌, Ok, refl, timer_step, connect_step, now, link_settings, Step, led_by, follows}
+use Rattle.x25_peer.proofs.Names.{BesideSessions, links}
 use Rattle.x25_bits.specs.{FrameCheck.{fcs_of, number_of, divided, low_bits, add, divisor}, FrameCheck.Sealed.{is_sealed}}
 use Rattle.x25_bits.specs.declared.role.Role.TheVariants.{Dte, Dce}
 use Rattle.x25_frame.specs.{Frame.{sabm, ua}, Reading.{frame_of}}
-use Rattle.x25_link.specs.{Station.{pumped}, Link.{timer_step, connect_step}}
-use Rattle.x25_line.specs.laws.Peer.{taking, hearing}
-use Rattle.x25_line.specs.{laws.PeerSessions.{begins, now, with_now, nothing, put}, laws.Sessions.{letters}}
-use Rattle.x25_line.specs.laws.Loss.{nothing as none_lost, gone, hurt, deeper}
-use Rattle.x25_line.specs.{laws.Ends.{Out, Asking, letter, listens, moves, leaves, asks, loses, hears, takes_ua, takes_sabm}, laws.Said.{said}}
-use Rattle.x25_station.specs.{Config.{link_settings}, Entry.{connect_asked}, Step.{Step, led_by, follows}}
-use Rattle.x25_peer.specs.laws.BesideSessions.{BesideSessions, start, links, acted, took, Connects, Fires, Takes, Loses, Links, ReachedBeside, at_start, here}
-use Rattle.x25_peer.specs.laws.BesideSessions.{elsewhere}
+use Rattle.x25_line.specs.laws.Ends.{Out, Asking, letter, listens, moves, leaves, asks, loses, hears, takes_ua, takes_sabm}
+use Rattle.x25_line.specs.laws.{Loss.{nothing as none_lost, gone, hurt, deeper}, Peer.{taking, hearing}, PeerSessions.{begins, with_now, nothing, put}}
+use Rattle.x25_line.specs.laws.{Said.{said}, Sessions.{letters}}
+use Rattle.x25_link.specs.Station.{pumped}
+use Rattle.x25_peer.specs.laws.BesideSessions.{start, acted, took, Connects, Fires, Takes, Loses, Links, ReachedBeside, at_start, here, elsewhere}
 use Rattle.x25_peer.specs.rows.BesideSessionRows.{dte, sabm_octets, sent, LostSabmGoesAgain, DamagedUaIsMissing, LeavingPeerAsks}
+use Rattle.x25_station.specs.Entry.{connect_asked}
 
 -- ---- octets on the line
 

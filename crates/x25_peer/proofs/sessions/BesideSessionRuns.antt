@@ -1,17 +1,15 @@
 -- All that happens to a station and a peer over sessions, and what holds of it.
-use Rattle.std.proofs.{Common.{◌≡◌, ◌⊎◌, inl, inr, ℕ, ◌≤◌, [], ◌++◌, length, drop, true, refl, sym, ap, subst, ◌∙◌, arith}, lemmas.Bool.{and_parts}}
-use Rattle.x25_link.specs.Station.{is_up}
-use Rattle.x25_line.specs.{laws.Sessions.{Meeting}, laws.SessionClaims.{SomeMet}, laws.PeerSessions.{In, now, at_start}}
-use Rattle.x25_handshakes.specs.{laws.Handshake.{At}, laws.PeerLayer.{PeerChannels}}
-use Rattle.x25_layer.specs.{Layer.{goes_up}, laws.Transcript.{name_of}, laws.Quiet.{AreNoFaults}, laws.TwoLayers.{End, started}}
-use Rattle.x25_layer.specs.laws.PeerClaims.{peer_call, peer_stretch, peer_name, of_call, StretchIsInOrder, CallIsInOrder, OpenHaveArrived}
-use Rattle.x25_station.specs.{Config.{Settings, link_settings, layer_settings}, Entry.{layer_entries}, laws.ReadLaw.{IsReachedByOctets}}
-use Rattle.x25_peer.specs.laws.BesideSessions.{ReadAs, Own, BesideSessions, their_now, their_layer, links, start, ReachedBeside}
+use Rattle.x25_peer.proofs.Names.{◌≡◌, ◌⊎◌, inl, inr, ℕ, ◌≤◌, [], ◌++◌, length, drop, true, refl, sym, ap, subst, ◌∙◌, arith, is_up, Meeting, SomeMet, now, At}
+use Rattle.x25_peer.proofs.Names.{PeerChannels, End, Settings, link_settings, layer_settings, layer_entries, IsReachedByOctets, ReadAs, Own, BesideSessions}
+use Rattle.std.proofs.lemmas.Bool.{and_parts}
+use Rattle.x25_layer.specs.{Layer.{goes_up}, laws.PeerClaims.{peer_call, peer_stretch, peer_name, of_call, StretchIsInOrder, CallIsInOrder, OpenHaveArrived}}
+use Rattle.x25_layer.specs.laws.{Quiet.{AreNoFaults}, Transcript.{name_of}, TwoLayers.{started}}
+use Rattle.x25_line.proofs.ends.Meetings.{all_map}
+use Rattle.x25_line.specs.laws.PeerSessions.{In, at_start}
+use Rattle.x25_peer.proofs.{Names.{links, all_some}, ReadLemmas.{none_left}, sessions.Meetings.{CanMeet, all_both, met_can_meet, could_meet_some}}
+use Rattle.x25_peer.proofs.sessions.{PeerActs.{is_elsewhere}, Standing.{Below, Stands}, StationActs.{station_does}}
 use Rattle.x25_peer.specs.laws.BesideSessionClaims.{WithAnyPeer, MeetInStep, IsInOrder, MetAreInOrder, UnmetAreToldNothing, EachMeetsLatest, UpIsLatest}
-use Rattle.x25_peer.specs.laws.BesideSessionClaims.{IdleHasArrived, FindsNoError}
-use Rattle.x25_peer.proofs.{ReadLemmas.{none_left}, sessions.Meetings.{CanMeet, all_both, met_can_meet, could_meet_some}}
-use Rattle.x25_peer.proofs.sessions.{Standing.{Below, Stands}, StationActs.{station_does}, PeerActs.{is_elsewhere}}
-use Rattle.x25_line.proofs.ends.Meetings.{all_map, all_some}
+use Rattle.x25_peer.specs.laws.{BesideSessionClaims.{IdleHasArrived, FindsNoError}, BesideSessions.{their_now, their_layer, start, ReachedBeside}}
 use Rattle.x25_layer.specs.laws.PeerJoined as layer_peer
 use Rattle.x25_layer.specs.laws.PeerClaims as layer_claims
 use Rattle.x25_station.specs.laws.ReadLaw as reached

@@ -1,20 +1,18 @@
 -- The near one of two links with their sessions: a step of its own, and the octets that a station hands down to it behind that.
-use Rattle.std.proofs.Common.{◌≡◌, ℕ, ◌==◌, ◌≤◌, Ok, List, [], ◌∷◌, ◌++◌, length, map, Bool, true, false, if◌then◌else◌, Option, Some, None, option_to_list}
-use Rattle.std.proofs.{Common.{refl, sym, ap, ap₂, ◌∙◌, subst, append_assoc, append-nil}, lemmas.Bool.{le-leb, cond_both}}
-use Rattle.std.specs.Prelude.{remove}
-use Rattle.x25_frame.specs.Frame.{PlainFrame}
-use Rattle.x25_packet.specs.{Packet.{PlainPacket}, Taking.{read_in}}
-use Rattle.x25_given.specs.{Given.{PlainGiven, may_give}, Writing.{write}}
-use Rattle.x25_link.specs.{declared.error.LinkError.{LinkError}, declared.phase.Phase.{Phase}, declared.phase.Phase.TheVariants.{Down}}
-use Rattle.x25_link.specs.Station.{LinkSettings, LinkStation, Side, is_up, with_nothing}
-use Rattle.x25_link.specs.{Link.{put_refusal, put_step, take_step, timer_step, connect_step, abandon_step, probe_refusal, relink_step}, laws.NoteLaw.{PutTells}}
-use Rattle.x25_link.specs.laws.SetUp.{RelinkIsTwoSteps}
-use Rattle.x25_line.specs.laws.Sessions.{Entry, Meeting, Sessions, acts, after_step, delivered, sent_in, extended, begun_by, unless}
+use Rattle.x25_peer.proofs.Names.{◌≡◌, ℕ, ◌==◌, ◌≤◌, Ok, List, [], ◌∷◌, ◌++◌, length, Bool, true, false, if◌then◌else◌, Option, Some, None, refl, sym, ap, ap₂}
+use Rattle.x25_peer.proofs.Names.{◌∙◌, subst, append_assoc, append-nil, remove, PlainFrame, PlainPacket, PlainGiven, LinkError, LinkSettings, LinkStation}
+use Rattle.x25_peer.proofs.Names.{is_up, timer_step, connect_step, Entry, Meeting, Sessions, acts, extended, begun_by, Settings, link_settings, Step}
+use Rattle.x25_peer.proofs.Names.{AreReadable, LinkStep}
+use Rattle.std.proofs.{Common.{map, option_to_list}, lemmas.Bool.{le-leb, cond_both}}
+use Rattle.x25_given.specs.{Given.{may_give}, Writing.{write}}
 use Rattle.x25_line.proofs.sessions.SessionSays.{sent_append}
-use Rattle.x25_station.specs.{Config.{Settings, link_settings, longest_packet}, Giving.{all_given}, Station.{behind, put_on, all_put}, Step.{Step}}
-use Rattle.x25_station.specs.{laws.GivenLaw.{AreTaken, PutsGiven, GivesOctets, GivenIsRead}, laws.JoinLaw.{AreAccepted, PutsBehind}}
-use Rattle.x25_station.specs.laws.ReadLaw.{AreOctets, AreReadable}
-use Rattle.x25_link.specs.{declared.phase.Reason.TheVariants.{Counts}, Hearing.{LinkStep}}
+use Rattle.x25_line.specs.laws.Sessions.{after_step, delivered, sent_in, unless}
+use Rattle.x25_link.specs.{Link.{put_refusal, put_step, take_step, abandon_step, probe_refusal, relink_step}, Station.{Side, with_nothing}}
+use Rattle.x25_link.specs.declared.phase.{Phase.{Phase}, Phase.TheVariants.{Down}, Reason.TheVariants.{Counts}}
+use Rattle.x25_link.specs.laws.{NoteLaw.{PutTells}, SetUp.{RelinkIsTwoSteps}}
+use Rattle.x25_packet.specs.Taking.{read_in}
+use Rattle.x25_station.specs.{Config.{longest_packet}, Giving.{all_given}, Station.{behind, put_on, all_put}}
+use Rattle.x25_station.specs.laws.{GivenLaw.{AreTaken, PutsGiven, GivesOctets, GivenIsRead}, JoinLaw.{AreAccepted, PutsBehind}, ReadLaw.{AreOctets}}
 use Rattle.x25_packet.specs.Spelling as packet
 use Rattle.x25_line.specs.laws.Stations as line
 

@@ -1,8 +1,9 @@
 -- Sessions that meet one to one.
-use Rattle.std.proofs.Common.{◌≡◌, ℕ, suc, ◌+◌, ◌==◌, ◌<◌, ◌⊎◌, inl, inr, List, [], ◌∷◌, Bool, true, false, refl, sym, subst, ◌∙◌, if◌then◌else◌, eq-eqb}
-use Rattle.std.proofs.{Common.{arith}, lemmas.Bool.{eqb-true}}
-use Rattle.x25_line.specs.{laws.Sessions.{Meeting, meets}, laws.Said.{Said, Tells}, laws.SessionClaims.{Each, SomeMet, IsNoEarlier, InStep}}
-use Rattle.x25_line.proofs.ends.Meetings.{all_map, all_some, all_no_earlier}
+use Rattle.x25_peer.proofs.Names.{◌≡◌, ℕ, suc, ◌==◌, ◌⊎◌, inl, inr, List, [], ◌∷◌, Bool, true, false, refl, sym, subst, ◌∙◌, if◌then◌else◌, eq-eqb, arith}
+use Rattle.x25_peer.proofs.Names.{eqb-true, Meeting, meets, Said, Tells, SomeMet, all_some}
+use Rattle.std.proofs.Common.{◌+◌, ◌<◌}
+use Rattle.x25_line.proofs.ends.Meetings.{all_map, all_no_earlier}
+use Rattle.x25_line.specs.laws.SessionClaims.{Each, IsNoEarlier, InStep}
 
 -- these two sessions met each other, or none
 abbrev pub CanMeet : ℕ → ℕ → List Meeting → Type 0

@@ -1,24 +1,18 @@
 -- What happens on the line and at the peer, beside a station over sessions.
-use Rattle.std.proofs.Common.{◌≡◌, ℕ, zero, suc, ◌==◌, ◌≤◌, ◌⊎◌, inl, inr, List, [], ◌∷◌, ◌++◌, map, length, drop, Bool, true, false, if◌then◌else◌, Ok}
-use Rattle.std.proofs.{Common.{refl, sym, ap, subst, ◌∙◌, append_assoc, append-nil, arith}, Math.Path.{fun_ext}, lemmas.Bool.{eqb-true}}
-use Rattle.std.proofs.lemmas.List.{drop-append-le}
-use Rattle.std.specs.Prelude.{remove}
-use Rattle.x25_packet.specs.Packet.{PlainPacket}
-use Rattle.x25_link.specs.Station.{LinkSettings}
-use Rattle.x25_line.specs.{laws.Stations.{is_visible}, laws.Sessions.{Entry, Meeting, Sessions, turned, meets, with_octets}, laws.Peer.{Peer, fresh_peer}}
-use Rattle.x25_line.specs.laws.PeerSessions.{PeerEnd, PeerSessions, now, with_now, begins, ReachedInSessions, goes_on, HandsDown, IsSeenIn, both_ends}
-use Rattle.x25_line.specs.laws.Ends.{Stand, In, Letter, Two, heard, Ends, near_now, fresh_where, begins as begins_by, Moves, hears, takes_ua, takes_sabm}
-use Rattle.x25_line.specs.{laws.Ends.{Does, sends, listens, moves}, laws.Said.{Said, Tells}, laws.SessionClaims.{Each}}
-use Rattle.x25_line.specs.laws.Loss.{LessAt, Less, replaced, nothing, gone, hurt, deeper}
-use Rattle.x25_handshakes.specs.{laws.Handshake.{At}, laws.PeerLayer.{PeerChannels}}
-use Rattle.x25_layer.specs.{laws.TwoLayers.{End}, laws.PeerJoined.{PeerMoves}}
-use Rattle.x25_station.specs.{Config.{Settings, link_settings}, laws.ReadLaw.{IsReachedByOctets}}
-use Rattle.x25_peer.specs.laws.BesideSessions.{read_by, ReadAs, Theirs, BesideSessions, in_session, links, their_now, their_layer, layer_went}
-use Rattle.x25_peer.specs.laws.BesideSessions.{Elsewhere, Loses, Links, Comes, LayerMoves}
+use Rattle.x25_peer.proofs.Names.{◌≡◌, ℕ, suc, ◌==◌, ◌≤◌, ◌⊎◌, inl, inr, List, [], ◌∷◌, ◌++◌, length, drop, Bool, true, false, if◌then◌else◌, Ok, refl, sym, ap}
+use Rattle.x25_peer.proofs.Names.{subst, ◌∙◌, append_assoc, append-nil, arith, eqb-true, remove, PlainPacket, LinkSettings, Entry, Meeting, Sessions, meets}
+use Rattle.x25_peer.proofs.Names.{Peer, PeerEnd, PeerSessions, now, ReachedInSessions, both_ends, Said, Tells, At, PeerChannels, End, Settings, link_settings}
+use Rattle.x25_peer.proofs.Names.{IsReachedByOctets, ReadAs, Theirs, BesideSessions, in_session, links}
+use Rattle.std.proofs.{Common.{zero, map}, Math.Path.{fun_ext}, lemmas.List.{drop-append-le}}
+use Rattle.x25_layer.specs.laws.PeerJoined.{PeerMoves}
+use Rattle.x25_line.specs.laws.Ends.{Stand, In, Letter, Two, heard, Ends, near_now, fresh_where, begins as begins_by, Moves, hears, takes_ua, takes_sabm, Does}
+use Rattle.x25_line.specs.laws.{Ends.{sends, listens, moves}, Loss.{LessAt, Less, replaced, nothing, gone, hurt, deeper}, Peer.{fresh_peer}}
+use Rattle.x25_line.specs.laws.{PeerSessions.{with_now, begins, goes_on, HandsDown, IsSeenIn}, SessionClaims.{Each}, Sessions.{turned, with_octets}}
+use Rattle.x25_line.specs.laws.Stations.{is_visible}
 use Rattle.x25_peer.proofs.{ReadLemmas.{ReadFirst, read_append, ok_same, said_same, made_more}, sessions.Meetings.{CanMeet}}
-use Rattle.x25_peer.proofs.sessions.SessionLinks.{Reach, acts_reach}
+use Rattle.x25_peer.proofs.sessions.{SessionLinks.{Reach, acts_reach}, Standing.{up_few}}
 use Rattle.x25_peer.proofs.sessions.Standing.{Below, in_here, in_other, in_cases, both_cases, up_in, PairReached, IsRead, AreAnew, Stands, way, taken_begins}
-use Rattle.x25_peer.proofs.sessions.Standing.{up_few}
+use Rattle.x25_peer.specs.laws.BesideSessions.{read_by, their_now, their_layer, layer_went, Elsewhere, Loses, Links, Comes, LayerMoves}
 use Rattle.x25_line.specs.laws.Stations as line
 use Rattle.x25_line.specs.laws.PeerSessions as peers
 use Rattle.x25_layer.specs.laws.PeerJoined as layer_peer

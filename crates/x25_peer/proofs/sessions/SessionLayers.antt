@@ -1,14 +1,13 @@
 -- The layer's half of a station beside a peer: moves of the layer, one after another; over sessions a session's layer moves by itself, whichever
 -- session of the peer it is beside.
-use Rattle.std.proofs.Common.{◌≡◌, ℕ, List, [], ◌∷◌, ◌++◌, Bool, true, false, if◌then◌else◌, option_to_list, refl, ap, subst, ◌∙◌, append_assoc, append-nil}
+use Rattle.x25_peer.proofs.Names.{◌≡◌, ℕ, List, [], ◌∷◌, ◌++◌, Bool, true, false, if◌then◌else◌, refl, ap, subst, ◌∙◌, append_assoc, append-nil, PlainPacket}
+use Rattle.x25_peer.proofs.Names.{At, PeerChannels, LayerRequest, End, TwoLayers, IsReachedByOctets}
+use Rattle.std.proofs.Common.{option_to_list}
 use Rattle.x25_bits.specs.declared.role.Role.{Role}
-use Rattle.x25_packet.specs.Packet.{PlainPacket}
-use Rattle.x25_handshakes.specs.{laws.Handshake.{At}, laws.PeerLayer.{PeerChannels}}
-use Rattle.x25_layer.specs.{declared.ranges.Ranges.{Ranges}, Layer.{LayerSettings, is_channel}}
-use Rattle.x25_layer.specs.Calls.{LayerRequest, LayerOutcome, Accepted, Declined, layer_outcome, LayerPulled, layer_pulled}
-use Rattle.x25_layer.specs.laws.TwoLayers.{End, TwoLayers, Move, Requests, Pulls, HandsUp, GoesDown, requested, pulled_in, moves_in, moves, settings_of}
-use Rattle.x25_layer.specs.{laws.TwoLayers.{handed_up}, laws.RoundLaw.{moves_all, pulls_of}, laws.PeerJoined.{our_end, with_peer, StaysUp, Ours}}
-use Rattle.x25_station.specs.laws.ReadLaw.{IsReachedByOctets, MovesOctets, goes_on}
+use Rattle.x25_layer.specs.{Calls.{LayerOutcome, Accepted, Declined, layer_outcome, LayerPulled, layer_pulled}, Layer.{LayerSettings, is_channel}}
+use Rattle.x25_layer.specs.{declared.ranges.Ranges.{Ranges}, laws.PeerJoined.{our_end, with_peer, StaysUp, Ours}, laws.RoundLaw.{moves_all, pulls_of}}
+use Rattle.x25_layer.specs.laws.TwoLayers.{Move, Requests, Pulls, HandsUp, GoesDown, requested, pulled_in, moves_in, moves, settings_of, handed_up}
+use Rattle.x25_station.specs.laws.ReadLaw.{MovesOctets, goes_on}
 
 -- what stands at the far end decides nothing of a move
 abbrev with_far : End → TwoLayers → TwoLayers

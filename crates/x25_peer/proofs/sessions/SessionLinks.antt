@@ -1,12 +1,10 @@
 -- The links of a station and a peer over sessions, as `x25_line` has them.
-use Rattle.std.proofs.{Common.{◌≡◌, ℕ, List, ◌++◌, true, sym, ap, ap₂, subst, ◌∙◌}, Math.Path.{fun_ext}}
-use Rattle.x25_frame.specs.{Frame.{PlainFrame}, laws.ReadingLaw.{ReadsSpelled}}
-use Rattle.x25_link.specs.Station.{LinkSettings, LinkStation, is_up}
-use Rattle.x25_line.specs.{laws.LawsBelow.{SessionLaws}, laws.Sessions.{Entry, Meeting, Sessions, acts, sent_in, extended}}
-use Rattle.x25_line.specs.laws.PeerSessions.{PeerEnd, PeerSessions, ReachedInSessions, goes_on, Ours, IsTimely, both_ends, with_peer}
-use Rattle.x25_line.specs.laws.PeerSessionClaims.{WithAnyPeer}
-use Rattle.x25_line.proofs.{sessions.SessionSeenRuns.{alike}, sessions.PeerSessionRuns.{h}}
-use Rattle.x25_peer.proofs.sessions.LinkSteps.{SessionGoes}
+use Rattle.x25_peer.proofs.Names.{◌≡◌, ℕ, List, ◌++◌, true, sym, ap, ap₂, subst, ◌∙◌, PlainFrame, LinkSettings, LinkStation, is_up, Entry, Meeting, Sessions}
+use Rattle.std.proofs.Math.Path.{fun_ext}
+use Rattle.x25_frame.specs.laws.ReadingLaw.{ReadsSpelled}
+use Rattle.x25_line.proofs.{sessions.PeerSessionRuns.{h}, sessions.SessionSeenRuns.{alike}}
+use Rattle.x25_line.specs.laws.{LawsBelow.{SessionLaws}, PeerSessionClaims.{WithAnyPeer}, PeerSessions.{goes_on, Ours, IsTimely}, Sessions.{sent_in}}
+use Rattle.x25_peer.proofs.{Names.{acts, extended, PeerEnd, PeerSessions, ReachedInSessions, both_ends, with_peer}, sessions.LinkSteps.{SessionGoes}}
 use Rattle.x25_line.specs.laws.Stations as line
 
 -- what a station that is up was handed down and handed up in its session its link holds

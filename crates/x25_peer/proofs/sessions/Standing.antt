@@ -1,25 +1,19 @@
 -- What stands of a station and a peer over sessions: their links are joined as `x25_line` has it, and the layers of each session of the one and
 -- each of the other that it met, or may meet yet, as `x25_layer` has it.
-use Rattle.std.proofs.Common.{◌≡◌, ℕ, ◌==◌, ◌≤◌, ◌<◌, inl, inr, List, [], ◌++◌, length, drop, Bool, true, false, if◌then◌else◌, refl, sym, ap, subst, ◌∙◌}
-use Rattle.std.proofs.{Common.{append_assoc, eq-eqb, arith}, lemmas.Bool.{eqb-true, ne_eqb}, lemmas.List.{drop-append-le}}
-use Rattle.x25_packet.specs.Packet.{PlainPacket}
-use Rattle.x25_link.specs.Station.{LinkSettings, is_up}
+use Rattle.x25_peer.proofs.Names.{◌≡◌, ℕ, ◌==◌, ◌≤◌, inl, inr, List, [], ◌++◌, length, drop, Bool, true, false, if◌then◌else◌, refl, sym, ap, subst, ◌∙◌}
+use Rattle.x25_peer.proofs.Names.{append_assoc, eq-eqb, arith, eqb-true, PlainPacket, LinkSettings, is_up, Peer, Meeting, extended, PeerEnd, PeerSessions}
+use Rattle.x25_peer.proofs.Names.{ReachedInSessions, End, Settings, link_settings, layer_settings, layer_entries, layer_notices, Station, IsKept}
+use Rattle.x25_peer.proofs.Names.{IsReachedByOctets, ReadAs, Own, Theirs, BesideSessions, in_session, links, all_some}
+use Rattle.std.proofs.{Common.{◌<◌}, lemmas.Bool.{ne_eqb}, lemmas.List.{drop-append-le}}
+use Rattle.x25_layer.specs.{Layer.{goes_up}, laws.TwoLayers.{started}}
+use Rattle.x25_line.specs.laws.{InWindow.{IsPrefix}, PeerSessionClaims.{WithAnyPeer, OfBothEnds, EachMeetsLatest, IdleHasArrived, AsksInLatest}}
+use Rattle.x25_line.specs.laws.{PeerSessions.{as_end}, SessionClaims.{MeetInStep, MetAreInOrder, UnmetHandNothingUp, IsInOrder}}
 use Rattle.x25_link.specs.laws.NoteLaw.{TakeTells, TakeHandsUp, TimerTells, PutTells, ConnectTells, DisconnectTells, AbandonTells, RelinkTells}
 use Rattle.x25_link.specs.laws.SetUp.{RelinkIsTwoSteps}
-use Rattle.x25_line.specs.{laws.InWindow.{IsPrefix}, laws.Peer.{Peer}, laws.Sessions.{Meeting, extended}}
-use Rattle.x25_line.specs.laws.SessionClaims.{MeetInStep, MetAreInOrder, UnmetHandNothingUp, IsInOrder}
-use Rattle.x25_line.specs.laws.PeerSessions.{PeerEnd, PeerSessions, ReachedInSessions, as_end}
-use Rattle.x25_line.specs.laws.PeerSessionClaims.{WithAnyPeer, OfBothEnds, EachMeetsLatest, IdleHasArrived, AsksInLatest}
-use Rattle.x25_layer.specs.{Layer.{goes_up}, laws.TwoLayers.{End, started}}
-use Rattle.x25_station.specs.{Config.{Settings, link_settings, layer_settings}, Entry.{layer_entries, layer_notices}, Station.{Station}}
-use Rattle.x25_station.specs.laws.GivenLaw.{GivenIsJoined, GivenIsRead}
-use Rattle.x25_station.specs.laws.JoinLaw.{RequestIsJoined, ReceiveIsJoined, QuietIsJoined, DownIsJoined, UpIsJoined}
-use Rattle.x25_station.specs.laws.KeepLaw.{IsKept, CommandKeeps, TimerKeeps, RequestKeeps, GivenKeeps, ReceiveKeeps}
-use Rattle.x25_station.specs.laws.ReadLaw.{IsReachedByOctets, PutsBesidePeersAreReadable}
-use Rattle.x25_peer.specs.laws.BesideSessions.{ReadAs, Own, Theirs, BesideSessions, own_anew, in_session, links}
 use Rattle.x25_peer.proofs.{ReadLemmas.{ReadFirst, read_first, first_front, first_length}, sessions.Meetings.{CanMeet, true_false, all_both}}
-use Rattle.x25_peer.proofs.sessions.SessionLinks.{ListsStand}
-use Rattle.x25_line.proofs.ends.Meetings.{all_some}
+use Rattle.x25_peer.{proofs.sessions.SessionLinks.{ListsStand}, specs.laws.BesideSessions.{own_anew}}
+use Rattle.x25_station.specs.laws.{GivenLaw.{GivenIsJoined, GivenIsRead}, JoinLaw.{RequestIsJoined, ReceiveIsJoined, QuietIsJoined, DownIsJoined, UpIsJoined}}
+use Rattle.x25_station.specs.laws.{KeepLaw.{CommandKeeps, TimerKeeps, RequestKeeps, GivenKeeps, ReceiveKeeps}, ReadLaw.{PutsBesidePeersAreReadable}}
 
 pub record Below : Type 0 where
   pub step : WithAnyPeer (OfBothEnds MeetInStep)

@@ -1,36 +1,28 @@
 -- What the station does beside a peer over sessions, act by act.
-use Rattle.std.proofs.Common.{◌≡◌, ℕ, ◌==◌, ◌≤◌, inl, inr, List, [], ◌∷◌, ◌++◌, length, drop, Bool, true, false, ◌&&◌, if◌then◌else◌, Option, Some, None}
-use Rattle.std.proofs.{Common.{refl, sym, ap, subst, ◌∙◌, append-nil}, lemmas.Bool.{and_parts}}
-use Rattle.std.specs.Prelude.{remove}
+use Rattle.x25_peer.proofs.Names.{◌≡◌, ℕ, ◌==◌, ◌≤◌, inl, inr, List, [], ◌∷◌, ◌++◌, length, drop, Bool, true, false, if◌then◌else◌, Option, Some, None, refl}
+use Rattle.x25_peer.proofs.Names.{sym, ap, subst, ◌∙◌, append-nil, remove, PlainPacket, PlainGiven, LinkError, timer_step, connect_step, Entry, Meeting}
+use Rattle.x25_peer.proofs.Names.{Sessions, acts, meets, begun_by, SomeMet, both_ends, with_peer, all_some, LayerRequest, End, TwoLayers, Settings}
+use Rattle.x25_peer.proofs.Names.{link_settings, layer_settings, StationEntry, IsKept, AreReadable, IsReachedByOctets, Theirs, BesideSessions, links}
+use Rattle.std.proofs.{Common.{◌&&◌}, lemmas.Bool.{and_parts}}
 use Rattle.x25_frame.specs.Reading.{frame_of}
-use Rattle.x25_packet.specs.Packet.{PlainPacket}
-use Rattle.x25_given.specs.Given.{PlainGiven, may_give}
-use Rattle.x25_link.specs.{declared.error.LinkError.{LinkError}, Outgoing.{waits}}
-use Rattle.x25_link.specs.Link.{alone, take_step, timer_refusal, timer_step, connect_refusal, connect_step, disconnect_refusal, disconnect_step, abandon_step}
-use Rattle.x25_link.specs.{Link.{probe_refusal, relink_refusal, relink_step}, laws.NoteLaw.{Tells}}
-use Rattle.x25_line.specs.laws.Said.{said}
-use Rattle.x25_line.specs.laws.Sessions.{Entry, Meeting, Sessions, acts, delivered, meets, begun_by}
-use Rattle.x25_line.specs.{laws.SessionClaims.{SomeMet, InStep}, laws.InWindow.{IsPrefix}, laws.PeerSessions.{both_ends, with_peer}}
-use Rattle.x25_line.proofs.ends.Meetings.{all_some}
-use Rattle.x25_layer.specs.{Calls.{LayerRequest}, code.FitsLayer.{is_full}, laws.TwoLayers.{End, TwoLayers, Requests, HandsUp}}
-use Rattle.x25_layer.specs.laws.RoundLaw.{moves_all, pulls_of}
-use Rattle.x25_station.specs.Config.{Settings, link_settings, layer_settings, longest_packet}
-use Rattle.x25_station.specs.Command.{may_ask, Connects as ConnectsCommand, Disconnects as DisconnectsCommand, Probes as ProbesCommand}
-use Rattle.x25_station.specs.{Command.{Relinks as RelinksCommand}, Entry.{StationEntry, connect_asked, disconnect_asked, relink_asked}, Giving.{suits}}
-use Rattle.x25_station.specs.{laws.JoinLaw.{station_with, IsJoined, MovesAs}, laws.KeepLaw.{IsKept, KeptBy}}
-use Rattle.x25_station.specs.laws.ReadLaw.{AreReadable, RequestsOctets, IsReachedByOctets}
-use Rattle.x25_peer.specs.laws.BesideSessions.{Theirs, BesideSessions, links, stepped, acted, took, StationDoes, Asks, AsksWith, Connects, Disconnects, Probes}
-use Rattle.x25_peer.specs.laws.BesideSessions.{Relinks, Fires, Takes}
+use Rattle.x25_given.specs.Given.{may_give}
+use Rattle.x25_layer.specs.{code.FitsLayer.{is_full}, laws.RoundLaw.{moves_all, pulls_of}, laws.TwoLayers.{Requests, HandsUp}}
+use Rattle.x25_line.specs.laws.{InWindow.{IsPrefix}, Said.{said}, SessionClaims.{InStep}, Sessions.{delivered}}
+use Rattle.x25_link.specs.{Hearing.{other}, Link.{relink_refusal, relink_step}, Outgoing.{waits}, laws.NoteLaw.{Tells}}
+use Rattle.x25_link.specs.Link.{alone, take_step, timer_refusal, connect_refusal, disconnect_refusal, disconnect_step, abandon_step, probe_refusal}
 use Rattle.x25_peer.proofs.Granted.{did_granted, gave_granted, suits_asks, unless_did, connects_in_down, relinks_in_up, timer_silent}
-use Rattle.x25_peer.proofs.sessions.SessionLayers.{AllStay, pulls_stay, moves_reached, alone_at, AreAsked, pulls_asked, asked_reached, asked_leaves}
-use Rattle.x25_peer.proofs.{ReadLemmas.{Next, next_read, readable_behind}, sessions.Meetings.{CanMeet, could_meet, all_both, met_can_meet, could_meet_some}}
+use Rattle.x25_peer.proofs.{Names.{LinkSettings, is_up, LinkStep, Step, led_by, follows}, ReadLemmas.{Next, next_read, readable_behind}}
 use Rattle.x25_peer.proofs.sessions.LinkSteps.{SessionGoes, StepGoes, step_as, act_goes, probe_acts, abandon_goes, relink_goes, deliver_goes, spelled}
 use Rattle.x25_peer.proofs.sessions.LinkSteps.{spelled_with, PutsRead, puts_spelled, puts_spelled_with, stays_goes}
-use Rattle.x25_peer.proofs.sessions.SessionLinks.{Reach, acts_reach}
-use Rattle.x25_peer.proofs.sessions.Standing.{Below, up_in, PairReached, Stands, both_begin, heard_few, way, way_more}
+use Rattle.x25_peer.proofs.sessions.Meetings.{CanMeet, could_meet, all_both, met_can_meet, could_meet_some}
+use Rattle.x25_peer.proofs.sessions.SessionLayers.{AllStay, pulls_stay, moves_reached, alone_at, AreAsked, pulls_asked, asked_reached, asked_leaves}
+use Rattle.x25_peer.proofs.sessions.{SessionLinks.{Reach, acts_reach}, Standing.{Below, up_in, PairReached, Stands, both_begin, heard_few, way, way_more}}
 use Rattle.x25_peer.proofs.sessions.StationSteps.{AreSilent, followed, extended_here, goes, follows_on}
-use Rattle.x25_link.specs.{Station.{LinkSettings, is_up}, Hearing.{LinkStep, other}}
-use Rattle.x25_station.specs.{Step.{Step, Did, unless as refused_or, led_by, follows, abandons, receives, requests, gives}, laws.GivenLaw.{GivesOctets}}
+use Rattle.x25_peer.specs.laws.BesideSessions.{stepped, acted, took, StationDoes, Asks, AsksWith, Connects, Disconnects, Probes, Relinks, Fires, Takes}
+use Rattle.x25_station.specs.Command.{may_ask, Connects as ConnectsCommand, Disconnects as DisconnectsCommand, Probes as ProbesCommand}
+use Rattle.x25_station.specs.{Command.{Relinks as RelinksCommand}, Config.{longest_packet}, Entry.{connect_asked, disconnect_asked, relink_asked}}
+use Rattle.x25_station.specs.{Giving.{suits}, Step.{Did, unless as refused_or, abandons, receives, requests, gives}, laws.GivenLaw.{GivesOctets}}
+use Rattle.x25_station.specs.laws.{JoinLaw.{station_with, IsJoined, MovesAs}, KeepLaw.{KeptBy}, ReadLaw.{RequestsOctets}}
 use Rattle.x25_line.specs.laws.Stations as line
 
 silent : AreSilent []

@@ -1,19 +1,17 @@
 -- A step of the station beside a peer over sessions: what stands goes on with what its layer moves by.
-use Rattle.std.proofs.Common.{◌≡◌, ℕ, suc, ◌≤◌, List, [], ◌∷◌, ◌++◌, Bool, true, false, if◌then◌else◌, Option, Some, None, refl, sym, ap, ap₂, subst, ◌∙◌}
-use Rattle.std.proofs.Common.{append-nil, eq-eqb, arith}
-use Rattle.x25_frame.specs.Frame.{PlainFrame}
-use Rattle.x25_packet.specs.Packet.{PlainPacket, restart}
-use Rattle.x25_line.specs.{laws.Sessions.{Entry, Meeting, Sessions, begun_by, extended}, laws.PeerSessions.{both_ends, with_peer}}
-use Rattle.x25_layer.specs.{Layer.{rested, restart_cause}, laws.TwoLayers.{End, TwoLayers}}
-use Rattle.x25_station.specs.{Config.{Settings, link_settings}, Entry.{StationEntry, link_down, entries_noted, layer_entries, layer_notices}, Station.{Station}}
-use Rattle.x25_station.specs.{Step.{Step, led_by, follows}, laws.JoinLaw.{station_with, MovesAs}, laws.KeepLaw.{IsKept}, laws.ReadLaw.{at_start}}
-use Rattle.x25_peer.specs.laws.BesideSessions.{ReadAs, Own, BesideSessions, in_session, links, own_after, stepped}
-use Rattle.x25_peer.proofs.{ReadLemmas.{ReadFirst, layer_append, notices_append, read_append, back_reads, read_first}, sessions.Meetings.{CanMeet, true_false}}
+use Rattle.x25_peer.proofs.Names.{◌≡◌, ℕ, suc, ◌≤◌, List, [], ◌∷◌, ◌++◌, Bool, true, false, if◌then◌else◌, Option, Some, None, refl, sym, ap, ap₂, subst, ◌∙◌}
+use Rattle.x25_peer.proofs.Names.{append-nil, eq-eqb, arith, PlainFrame, PlainPacket, Entry, Meeting, Sessions, begun_by, extended, both_ends, with_peer, End}
+use Rattle.x25_peer.proofs.Names.{TwoLayers, Settings, link_settings, StationEntry, layer_entries, layer_notices, Station, Step, led_by, follows, IsKept}
+use Rattle.x25_peer.proofs.Names.{ReadAs, Own, BesideSessions, in_session, links, LinkSettings, LinkStation, is_up, LinkStep}
+use Rattle.x25_layer.specs.Layer.{rested, restart_cause}
+use Rattle.x25_link.specs.{Station.{Side}, declared.phase.Reason.{Reason}, laws.NoteLaw.{IsQuiet, Tells}}
+use Rattle.x25_packet.specs.Packet.{restart}
+use Rattle.x25_peer.proofs.ReadLemmas.{ReadFirst, layer_append, notices_append, read_append, back_reads, read_first}
 use Rattle.x25_peer.proofs.sessions.LinkSteps.{SessionGoes, StepGoes, step_as, spelled, PutsRead, puts_spelled, puts_up, puts_of, all_act, puts_go, puts_last}
-use Rattle.x25_peer.proofs.sessions.SessionLinks.{Reach, acts_reach, goes_reached}
+use Rattle.x25_peer.proofs.sessions.{Meetings.{CanMeet, true_false}, SessionLinks.{Reach, acts_reach, goes_reached}}
 use Rattle.x25_peer.proofs.sessions.Standing.{Below, in_here, in_other, both_cases, down_in, up_in, IsStanding, IsKnown, PairReached, Stands, into}
-use Rattle.x25_link.specs.{declared.phase.Reason.{Reason}, Station.{LinkSettings, LinkStation, Side, is_up}}
-use Rattle.x25_link.specs.{Hearing.{LinkStep}, laws.NoteLaw.{IsQuiet, Tells}}
+use Rattle.x25_peer.specs.laws.BesideSessions.{own_after, stepped}
+use Rattle.x25_station.specs.{Entry.{link_down, entries_noted}, laws.JoinLaw.{station_with, MovesAs}, laws.ReadLaw.{at_start}}
 use Rattle.x25_line.specs.laws.Stations as line
 use Rattle.x25_layer.specs.laws.PeerJoined as layer_peer
 

@@ -3,15 +3,15 @@ use Rattle.x25_world.proofs.Names.{◌≡◌, ◌⊎◌, inl, inr, ℕ, zero, su
 use Rattle.x25_world.proofs.Names.{if◌then◌else◌, refl, sym, ap, subst, ◌∙◌, arith, append_assoc, and_parts, eqb-true, Role, Dte, Dce, other, PlainPacket}
 use Rattle.x25_world.proofs.Names.{Piece, Talk, silent, Circuit, is_open, Name, both, same_name, Ranges, LayerSettings, Layer, Entry, under, messages_in}
 use Rattle.x25_world.proofs.Names.{name_of, OwnMove, Takes, Ends, ApartEvent, own_moves, apart_happens, apart_run, apart_start, IsInOrder, AreInOrder}
-use Rattle.std.proofs.lemmas.List.{take-append-drop, drop-append-le}
+use Rattle.std.proofs.lemmas.List.{drop-append-le}
 use Rattle.x25_circuit.specs.{Circuit.{unconfirmed}, Message.{Message, More, Last, Partial, no_part, joined, carried_from, carried, asked_in}}
 use Rattle.x25_handshakes.specs.laws.Histories.{Lists}
 use Rattle.x25_layer.specs.{Ranges.{is_channel}, code.FitsLayer.{is_open_at}, laws.Acknowledged.{AcknowledgedAreUp, AcknowledgedAreHandedUp}}
 use Rattle.x25_layer.specs.laws.{ApartLaw.{EventsRunOn}, Transcript.{Handed, nothing_handed, says}, TwoLayers.{settings_of}}
 use Rattle.x25_station.specs.Confirming.{goes_on}
 use Rattle.x25_world.proofs.{Continues.{Begins, Same, Hears}, EndContinues.{end_heard, end_called, end_enters}, Known.{true_false}}
-use Rattle.x25_world.proofs.{Names.{AlwaysApart, asked_among}, sessions.SessionCounts.{counted_at, counted_by, counted_in}, sessions.SessionKnown.{here_in}}
-use Rattle.x25_world.proofs.sessions.SessionTrace.{TakesNone, moves_of}
+use Rattle.x25_world.proofs.{Names.{take-append-drop, AlwaysApart, asked_among}, sessions.SessionCounts.{counted_at, counted_by, counted_in}}
+use Rattle.x25_world.proofs.sessions.{SessionKnown.{here_in}, SessionTrace.{TakesNone, moves_of}}
 use Rattle.x25_layer.specs.laws.TwoLayers as layer
 
 -- ---- how many asked

@@ -10,8 +10,9 @@ use Rattle.x25_world.proofs.Names.{none_begun, after_entry, after_entries, is_in
 use Rattle.x25_circuit.specs.Notice.{PlainNotice}
 use Rattle.x25_layer.specs.{Calls.{Asks, Declined}, Layer.{on_channel, restarted, restart_done, layer_fault, notices_on}, Receiving.{answer_to}}
 use Rattle.x25_layer.specs.laws.Transcript.{Said, Asked, Told}
-use Rattle.x25_station.specs.{Beside.{diagnosed}, Confirming.{named_by}, Entry.{bringing, entries_beside, entries_behind, of_channels, station_told, notice_of}}
-use Rattle.x25_station.specs.Entry.{of_channel, restart_asked, was_restarted, restart_confirmed, at_fault, came_beside, was_diagnosed, was_confirmed, may_bring}
+use Rattle.x25_station.specs.{Beside.{diagnosed}, Confirming.{named_by}}
+use Rattle.x25_station.specs.Entry.{bringing, entries_beside, entries_behind, of_channels, station_told, notice_of, of_channel, restart_asked, was_restarted}
+use Rattle.x25_station.specs.Entry.{restart_confirmed, at_fault, came_beside, was_diagnosed, was_confirmed, may_bring}
 use Rattle.x25_station.specs.Step.{entries_of_outcome, layer_answer, confirmed_by, entries_of_packet, entries_heard}
 use Rattle.x25_world.proofs.Growing.{read_by}
 use Rattle.x25_world.proofs.sessions.{SessionBeside.{brought_as, brought_by, brought, AreTold}, SessionCounts.{counted_at, CountNone}}

@@ -1,11 +1,11 @@
 -- A step of the link that hands nothing up: nothing is noted; or LinkDown; or LinkUp, by which a session begins.
 use Rattle.x25_world.proofs.Names.{◌≡◌, ℕ, suc, List, [], ◌∷◌, ◌++◌, Bool, true, false, Option, Some, None, refl, sym, ap, ap₂, ◌∙◌, subst, arith, Role}
-use Rattle.x25_world.proofs.Names.{restart, IsQuiet, Tells, Meeting, Sessions, begun_by, octets_of, OnlyBegunHaveLists, LayerSettings, Layer, rested}
-use Rattle.x25_world.proofs.Names.{restart_cause, goes_up, LinkView, started, own_run, Cfg, Settings, settings_from, StationEntry, connect_asked}
-use Rattle.x25_world.proofs.Names.{disconnect_asked, relink_asked, link_up, link_down, entries_noted, Step, layer_at, follows, led_by, IsKept, station_with}
-use Rattle.x25_world.proofs.Names.{AreReadable, World, Act, after_step, link_of, Progress, after_entries, session_from, is_in, entry_if, SessionLaws}
-use Rattle.x25_world.proofs.Names.{SessionGoes, StepGoes, step_as, spelled, puts_spelled, puts_up, puts_of, all_act, puts_go, is_up, LinkStep}
-use Rattle.x25_link.specs.{Hearing.{quiet}, declared.phase.Reason.{Reason}}
+use Rattle.x25_world.proofs.Names.{restart, IsQuiet, Meeting, Sessions, begun_by, octets_of, OnlyBegunHaveLists, LayerSettings, Layer, rested, restart_cause}
+use Rattle.x25_world.proofs.Names.{goes_up, LinkView, started, own_run, Cfg, Settings, settings_from, StationEntry, connect_asked, disconnect_asked}
+use Rattle.x25_world.proofs.Names.{relink_asked, link_up, link_down, entries_noted, Step, layer_at, follows, led_by, IsKept, station_with, AreReadable, World}
+use Rattle.x25_world.proofs.Names.{Act, after_step, link_of, Progress, after_entries, session_from, is_in, entry_if, SessionLaws, SessionGoes, StepGoes}
+use Rattle.x25_world.proofs.Names.{step_as, spelled, puts_spelled, puts_up, puts_of, all_act, puts_go, is_up, LinkStep}
+use Rattle.x25_link.specs.{Hearing.{quiet}, declared.phase.Reason.{Reason}, laws.NoteLaw.{Tells}}
 use Rattle.x25_world.proofs.{Growing.{back_read, back_octets}, Known.{IsConfigured, true_false}}
 use Rattle.x25_world.proofs.sessions.{SessionBeside.{spelled_bring}, SessionEntries.{AreMute}, SessionGoes.{IsSilent, not_in, rests, begins_session}}
 use Rattle.x25_world.proofs.sessions.{SessionJoined.{HasMet, PairsAreInOrder, SessionsJoined, Goes, gave_none}, SessionKnown.{nothing_in_order, own_readable}}

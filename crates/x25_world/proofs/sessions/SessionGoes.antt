@@ -14,8 +14,8 @@ use Rattle.x25_world.proofs.sessions.SessionCounts.{counted_in, IsCounted, count
 use Rattle.x25_world.proofs.sessions.SessionEntries.{after_append, session_append, meets_more, meets_other, none_met, AreMute, TellNothing, mute_tell, mute_in}
 use Rattle.x25_world.proofs.sessions.SessionEntries.{ArePlain, plain_progress, plain_here, plain_elsewhere, restart_met, elsewhere_met}
 use Rattle.x25_world.proofs.sessions.SessionJoined.{HaveAll, IsSession, IsLayer, IsEnd, HasMet, Meets, Hears, PairsAreInOrder, SessionsJoined, Goes, gave_none}
-use Rattle.x25_world.proofs.sessions.{SessionReaches.{SessionsReach, Asked, reach_on}, SessionTrace.{TakesNone, BringOctets}}
-use Rattle.x25_world.proofs.sessions.SessionTrace.{layer_of, Done, moved, own_in, own, own_more, own_same, own_other, own_goes, same_number, TakeNothing}
+use Rattle.x25_world.proofs.sessions.{SessionReaches.{SessionsReach, Asked, reach_on}, SessionTrace.{same_number, TakeNothing}}
+use Rattle.x25_world.proofs.sessions.SessionTrace.{TakesNone, BringOctets, layer_of, Done, moved, own_in, own, own_more, own_same, own_other, own_goes}
 use Rattle.x25_line.specs.laws.Sessions as links
 use Rattle.x25_layer.specs.laws.TwoLayers as layer
 

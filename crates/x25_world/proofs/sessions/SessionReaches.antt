@@ -3,8 +3,7 @@
 use Rattle.x25_world.proofs.Names.{◌≡◌, ℕ, inl, List, [], ◌∷◌, ◌++◌, Bool, true, false, refl, sym, ap, ◌∙◌, subst, Role, Dte, Dce, AreFree, Sessions}
 use Rattle.x25_world.proofs.Names.{from_nothing, IsTimelyAt, AreTimely, Each, Cfg, Settings, settings_from, World, Act, link_of, Asks, all_at}
 use Rattle.x25_line.proofs.{HealingSteps.{timely_append}, ends.Meetings.{twice_turned}}
-use Rattle.x25_line.specs.laws.SessionClaims.{Throughout}
-use Rattle.x25_line.specs.laws.StationClaims.{AreJoined}
+use Rattle.x25_line.specs.laws.{SessionClaims.{Throughout}, StationClaims.{AreJoined}}
 use Rattle.x25_world.proofs.{Known.{IsConfigured, true_false}, Names.{IsReceiptOrRequest, puts_of, all_act, LinkSettings, LinkStation, other, links_append}}
 use Rattle.x25_world.specs.Healing.{ActsFreely}
 use Rattle.x25_line.specs.laws.Stations as line

@@ -3,8 +3,8 @@ use Rattle.x25_world.proofs.Names.{◌≡◌, ℕ, inl, inr, List, [], ◌∷◌
 use Rattle.x25_world.proofs.Names.{settings_from, Connects, Disconnects, Probes, Relinks, said_by, new_station, ConnectKeeps, World, mirrored, WorldOutcome}
 use Rattle.x25_world.proofs.Names.{Happened, Declined, swapped_back, Act, Commands, Receives, Fires, Loses, Damages, acts, Event, happens, refusal_of, after}
 use Rattle.x25_world.proofs.Names.{run, start, connected, established, ActsInOctets, AreInOctets, IsBeginning, IsUpAtMostOnce, Progress, Throughout}
-use Rattle.x25_world.proofs.Names.{ThroughoutAlong, Gave, gave_where, gave_in, SessionLaws, link_of, Asks, all_at, IsReceiptOrRequest}
-use Rattle.x25_station.specs.Command.{Requests, RequestsWith}
+use Rattle.x25_world.proofs.Names.{ThroughoutAlong, Gave, gave_where, gave_in, SessionLaws, link_of, Asks, all_at, IsReceiptOrRequest, Requests}
+use Rattle.x25_station.specs.Command.{RequestsWith}
 use Rattle.x25_world.proofs.{Established.{kept_new}, Known.{IsConfigured, is_configured}}
 use Rattle.x25_world.proofs.{WorldLemmas.{refusal-swapped}, sessions.SessionBeside.{MoreIs, none_more, more_again, said_channel}}
 use Rattle.x25_world.proofs.sessions.SessionJoined.{IsEnd, SessionsJoined, Goes, gave_none, sessions_swapped}

@@ -64,8 +64,7 @@ many_same kind from n1 (e ∷ es) (f ∷ fs) is =
     let first : f.octets ≡ e.octets = cc in
     let rest : octets_of fs ≡ octets_of es = cc in
     ap₂ (λ octets n. kind (said (frame_of from n1 octets)) + n) first (many_same kind from n1 es fs rest)
-many_same kind from n1 [] (f ∷ fs) is = absurd (cc)
-many_same kind from n1 (e ∷ es) [] is = absurd (cc)
+many_same kind from n1 es fs is = absurd (cc)
 
 asked_same : (c d : LinkSettings) {v x : Sessions} {s : line.Stations} → AreOf v s → AreOf x s → asked c d x ≡ asked c d v
 asked_same c d {v} {x} f g =

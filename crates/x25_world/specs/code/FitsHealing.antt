@@ -1,5 +1,5 @@
 -- What a world of the code has gone through where it heals, and what was told then.
-use Rattle.std.specs.Prelude.{◌≡◌, ℕ, List, ◌++◌, map, OnOk, Result}
+use Rattle.std.specs.Prelude.{◌≡◌, ℕ, List, ◌++◌, OnOk, Result}
 use Rattle.x25_station.specs.declared.config.Cfg.{Cfg}
 use Rattle.x25_world.specs.{World.{World, AtEnd, Event, run, AreAccepted}, laws.Claims.{IsBeginning}}
 use Rattle.x25_world.specs.{Healing.{healing}, code.PlainTold.{plain_told}, code.ShownWorld.{ShownWorld}}

@@ -1,7 +1,6 @@
 use Rattle.x25_line.specs.laws.LawsBelow.{Laws}
-use Rattle.x25_peer.proofs.sessions.{Standing.{Below}, SessionLinks.{lists_stand}}
 use Rattle.x25_peer.proofs.sessions.BesideSessionRuns.{meet_in_step, met_in_order, unmet_are_told_nothing, each_meets_latest, up_is_latest, idle_has_arrived}
-use Rattle.x25_peer.proofs.sessions.BesideSessionRuns.{finds_no_error}
+use Rattle.x25_peer.proofs.sessions.{BesideSessionRuns.{finds_no_error}, SessionLinks.{lists_stand}, Standing.{Below}}
 use Rattle.x25_peer.proofs.law.any_peer_keeps_stations_over_sessions.Goals as goal
 
 -- of links, as `x25_line` asks it

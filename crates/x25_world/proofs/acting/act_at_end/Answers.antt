@@ -1,6 +1,4 @@
-use Rattle.std.proofs.Common.{◌∙◌, sym}
-use Rattle.x25_world.specs.World.{mirrored}
-use Rattle.x25_world.proofs.WorldLemmas.{dte_acted, dce_acted}
+use Rattle.x25_world.proofs.{Names.{◌∙◌, sym, mirrored}, WorldLemmas.{dte_acted, dce_acted}}
 use Rattle.x25_world.proofs.acting.act_at_end.Goals as goal
 
 pub returns-in-Dte-clause-acted : goal.returns-in-Dte-clause-acted

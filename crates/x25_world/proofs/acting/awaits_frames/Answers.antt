@@ -1,7 +1,5 @@
-use Rattle.std.proofs.Common.{sym, ap, ap₂, ◌∙◌, ◌&&◌, ◌||◌}
+use Rattle.x25_world.proofs.Names.{sym, ap, ap₂, ◌∙◌, ◌&&◌, ◌||◌, settings_from, is_on_line, carries, Sabm, Ua}
 use Rattle.x25_bits.specs.Role.{other}
-use Rattle.x25_station.specs.Config.{settings_from}
-use Rattle.x25_world.specs.{World.{is_on_line}, SetUp.{carries}, declared.set_up.SetUpFrame.TheVariants.{Sabm, Ua}}
 use Rattle.x25_world.proofs.acting.awaits_frames.Goals as goal
 
 pub returns-then-status : goal.returns-then-status

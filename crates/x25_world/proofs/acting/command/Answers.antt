@@ -1,5 +1,4 @@
-use Rattle.std.proofs.Common.{inr, refl, sym}
-use Rattle.x25_world.proofs.SideLemmas.{few_put, shared_of, has_happened, is_refusal, side_stays}
+use Rattle.x25_world.proofs.{Names.{inr, refl, sym}, SideLemmas.{few_put, shared_of, has_happened, is_refusal, side_stays}}
 use Rattle.x25_world.proofs.acting.command.Goals as goal
 
 pub returns-then-is_err-clause-acted : goal.returns-then-is_err-clause-acted

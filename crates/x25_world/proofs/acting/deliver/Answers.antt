@@ -1,5 +1,4 @@
-use Rattle.std.proofs.Common.{◌∙◌, Some, inl, inr, slice_get, refl, sym, ap}
-use Rattle.x25_station.specs.Config.{settings_from}
+use Rattle.x25_world.proofs.Names.{◌∙◌, Some, inl, inr, slice_get, refl, sym, ap, settings_from}
 use Rattle.x25_world.proofs.SideLemmas.{few_put, few_changed, shared_of, has_arrived, none_arrives, none_taken, side_stays}
 use Rattle.x25_world.proofs.acting.deliver.Goals as goal
 
@@ -29,7 +28,7 @@ returns-clause-acted c = λ cfg w side.
     let called = c.receive.ensures.does in
     let front = ap Some c.as_slice.ensures.value ∙ c.in-Some.ensures.frame ∙ ap (λ l. slice_get l 0) shared.back in
     record {
-      happened = rw (c.put.ensures.line, c.keep.ensures, c.in-Some.ensures.line)
+      happened = rw (c.keep.ensures, c.put.ensures.line, c.in-Some.ensures.line)
           (has_arrived cfg c.args.at c.receive.new.self c.reserve.new.self w w.back c.as_slice.result.now
           c.receive.new.out shared front
           (called.state _ _ fits) (called.frames _ _ fits) (called.entries _ _ fits));
@@ -38,5 +37,5 @@ returns-clause-acted c = λ cfg w side.
     }
 
 pub returns-clause-places : goal.returns-clause-places
-returns-clause-places c = rw (c.put.ensures.line, c.keep.ensures, c.in-Some.ensures.line)
+returns-clause-places c = rw (c.keep.ensures, c.put.ensures.line, c.in-Some.ensures.line)
     (few_put 9 c.args.line.now _ c.args.at _ (few_changed 9 c.args.line.now c.reserve.new.self c.args.at _ c.reserve.ensures.few))

@@ -1,9 +1,6 @@
-use Rattle.std.proofs.Common.{◌≡◌, ◌∙◌, ◌++◌, [], ◌∷◌, List, append-nil, ap, arith, length, nat_le, sym, true}
-use Rattle.std.proofs.lemmas.Bool.{leb-true}
-use Rattle.std.proofs.lemmas.Grind.{flat_map-append}
-use Rattle.std.proofs.lemmas.List.{nil_from_length}
-use Rattle.x25_station.specs.Entry.{StationEntry}
-use Rattle.x25_world.specs.{World.{entered}, code.PlainTold.{plain_told}, declared.told.Entered.{Entered}}
+use Rattle.x25_world.proofs.Names.{◌≡◌, ◌∙◌, ◌++◌, [], List, append-nil, ap, arith, length, nat_le, sym, true, leb-true, StationEntry, entered, plain_told}
+use Rattle.x25_world.proofs.Names.{Entered}
+use Rattle.std.proofs.lemmas.{Grind.{flat_map-append}, List.{nil_from_length}}
 use Rattle.x25_world.proofs.acting.enter.Goals as goal
 
 none_told : (es : List StationEntry) → nat_le (length es) 0 ≡ true → es ≡ []

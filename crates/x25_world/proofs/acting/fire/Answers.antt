@@ -1,6 +1,4 @@
-use Rattle.std.proofs.Common.{refl, sym, ap, inl, inr, ◌∙◌}
-use Rattle.x25_station.specs.Config.{settings_from}
-use Rattle.x25_world.specs.World.{refusal_of}
+use Rattle.x25_world.proofs.Names.{refl, sym, ap, inl, inr, ◌∙◌, settings_from, refusal_of}
 use Rattle.x25_world.proofs.SideLemmas.{few_put, shared_of, has_happened, is_refusal, side_stays, holds_back, lets_fire}
 use Rattle.x25_world.proofs.acting.fire.Goals as goal
 

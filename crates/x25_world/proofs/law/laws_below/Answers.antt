@@ -1,4 +1,4 @@
-use Rattle.x25_world.specs.laws.LawsBelow.{Laws}
+use Rattle.x25_world.proofs.Names.{Laws}
 use Rattle.x25_world.proofs.law.laws_below.Goals as goal
 
 -- the links, the layers and the stations, by their contracts

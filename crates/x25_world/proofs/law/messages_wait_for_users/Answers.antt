@@ -1,5 +1,5 @@
-use Rattle.x25_world.specs.laws.WaitClaims.{ClosedKeepNone, MessagesWaitForUsers, UnpulledWaitForUsers}
-use Rattle.x25_world.proofs.{sessions.SessionRuns.{throughout}, sessions.claims.SessionWaits.{closed_keep, messages_wait, pulls_leave_none, unpulled_wait}}
+use Rattle.x25_world.proofs.{Names.{ClosedKeepNone, MessagesWaitForUsers, UnpulledWaitForUsers}, sessions.SessionRuns.{throughout}}
+use Rattle.x25_world.proofs.sessions.claims.SessionWaits.{closed_keep, messages_wait, pulls_leave_none, unpulled_wait}
 use Rattle.x25_world.proofs.law.messages_wait_for_users.Goals as goal
 
 pub returns : goal.returns

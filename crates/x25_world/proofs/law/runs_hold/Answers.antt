@@ -1,5 +1,4 @@
-use Rattle.std.proofs.Common.{refl, subst}
-use Rattle.x25_world.specs.{World.{run}, laws.Claims.{IsUpOnce, NoneConnects}, laws.SessionClaims.{Throughout, SessionsKeepOrder}}
+use Rattle.x25_world.proofs.Names.{refl, subst, run, IsUpOnce, NoneConnects, Throughout, SessionsKeepOrder}
 use Rattle.x25_world.proofs.law.runs_hold.Goals as goal
 
 pub returns : goal.returns

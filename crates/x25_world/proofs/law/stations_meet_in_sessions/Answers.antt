@@ -1,9 +1,8 @@
-use Rattle.x25_world.specs.laws.Claims.{HasNoProcedureError}
-use Rattle.x25_world.specs.laws.SessionClaims.{MeetInStep, AreLawfulWhereMet, AreNamedInSessions, UnmetAreToldNothing, OpenStretchesMeet, AllArrive}
-use Rattle.x25_world.specs.{laws.ConfirmedClaims.{ConfirmedAreHandedUp}, laws.TapOctets.{IsTapOfOctets}}
-use Rattle.x25_world.proofs.{sessions.SessionRuns.{throughout}, sessions.SessionsAlong.{sessions_stay}, sessions.claims.SessionMeets.{meet_in_step}}
+use Rattle.x25_world.proofs.Names.{HasNoProcedureError, MeetInStep, AreLawfulWhereMet, AreNamedInSessions, UnmetAreToldNothing, OpenStretchesMeet, AllArrive}
+use Rattle.x25_world.proofs.{Names.{ConfirmedAreHandedUp, IsTapOfOctets}, sessions.SessionRuns.{throughout}, sessions.SessionsAlong.{sessions_stay}}
+use Rattle.x25_world.proofs.sessions.claims.SessionArrives.{open_stretches_meet, all_arrive}
 use Rattle.x25_world.proofs.sessions.claims.SessionLawful.{are_lawful, unmet_told_nothing, are_named, beside_given, are_confirmed}
-use Rattle.x25_world.proofs.{sessions.claims.SessionArrives.{open_stretches_meet, all_arrive}, sessions.claims.SessionQuiet.{has_no_error, is_of_octets}}
+use Rattle.x25_world.proofs.sessions.claims.{SessionMeets.{meet_in_step}, SessionQuiet.{has_no_error, is_of_octets}}
 use Rattle.x25_world.proofs.law.stations_meet_in_sessions.Goals as goal
 
 pub returns : goal.returns

@@ -1,8 +1,6 @@
-use Rattle.std.proofs.Common.{inr, refl}
-use Rattle.x25_world.specs.laws.Claims.{IsLawful, IsNamed, ArrivesAll, HasNoProcedureError}
-use Rattle.x25_world.proofs.{Established.{set_up_accepted}, SetUpOnce.{lawful_once, named_once, arrives_once}, WindowRuns.{stays_in_window}}
-use Rattle.x25_world.proofs.{Known.{is_configured}, SetUpOnce.{are_first, is_up_once}}
-use Rattle.x25_world.proofs.{sessions.SessionRuns.{until_second, begin_joined}, sessions.claims.SessionQuiet.{has_no_error}}
+use Rattle.x25_world.proofs.{Established.{set_up_accepted}, Known.{is_configured}, Names.{inr, refl, IsLawful, IsNamed, ArrivesAll, HasNoProcedureError}}
+use Rattle.x25_world.proofs.{SetUpOnce.{lawful_once, named_once, arrives_once, are_first, is_up_once}, WindowRuns.{stays_in_window}}
+use Rattle.x25_world.proofs.sessions.{SessionRuns.{until_second, begin_joined}, claims.SessionQuiet.{has_no_error}}
 use Rattle.x25_world.proofs.law.two_stations_keep_order.Goals as goal
 
 pub returns : goal.returns

@@ -1,7 +1,4 @@
-use Rattle.std.proofs.Common.{ℕ, ◌+◌, ◌*◌, ◌≤◌, arith}
-use Rattle.x25_bits.specs.declared.role.Role.TheVariants.{Dte, Dce}
-use Rattle.x25_station.specs.Config.{settings_from}
-use Rattle.x25_world.specs.laws.OctetLaw.{line_octets}
+use Rattle.x25_world.{proofs.Names.{ℕ, ◌+◌, ◌*◌, ◌≤◌, arith, Dte, Dce, settings_from}, specs.laws.OctetLaw.{line_octets}}
 use Rattle.x25_station.specs.laws.OctetLaw as station
 use Rattle.x25_world.proofs.law.worlds_hold_few.Goals as goal
 

@@ -7,13 +7,12 @@ use Rattle.x25_world.proofs.Names.{LayerNotice, layer_answers, moves_in, moves_a
 use Rattle.x25_world.proofs.Names.{IsToldFirst, Cfg, Settings, settings_from, layer_settings, layer_notices, Step, follows, receives, station_with, IsKept}
 use Rattle.x25_world.proofs.Names.{AreReadable, World, Receives, delivered, after, after_step, confirmed_in, link_of, SessionLaws, Asks, all_no_earlier}
 use Rattle.x25_world.proofs.Names.{SessionGoes, StepGoes, step_as, spelled, PutsRead, puts_spelled, puts_of, all_act, LinkSettings, is_up, other, LinkStep}
-use Rattle.std.proofs.Common.{remove}
 use Rattle.x25_layer.specs.{code.FitsLayer.{is_full}, laws.TwoLayers.{HandsUp}}
 use Rattle.x25_line.specs.laws.{SessionClaims.{UnmetHandNothingUp}, SessionEvents.{EachEventMeetsLatest, MeetsOne}}
 use Rattle.x25_peer.proofs.sessions.LinkSteps.{deliver_goes, abandon_goes}
 use Rattle.x25_station.specs.{Step.{abandons}, laws.JoinLaw.{IsJoined}}
 use Rattle.x25_world.proofs.{Growing.{read_by, all_read, is_read, as_read, first_read, FrontEntry, front_entry}, Known.{IsConfigured, true_false}}
-use Rattle.x25_world.proofs.{Names.{IsQuiet}, sessions.SessionBeside.{spelled_bring}, sessions.SessionCounts.{counted_at, counted_by, counted_in}}
+use Rattle.x25_world.proofs.{Names.{remove, IsQuiet}, sessions.SessionBeside.{spelled_bring}, sessions.SessionCounts.{counted_at, counted_by, counted_in}}
 use Rattle.x25_world.proofs.sessions.{SessionEntries.{heard_plain, heard_beside, heard_confirms}, SessionFollows.{no_command, follows_silent, follows_up}}
 use Rattle.x25_world.proofs.sessions.SessionGoes.{here_extended}
 use Rattle.x25_world.proofs.sessions.SessionJoined.{HasMet, PairIsInOrder, PairsAreInOrder, SessionsJoined, Goes, gave_none, stays}

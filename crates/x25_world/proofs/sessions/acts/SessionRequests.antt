@@ -1,12 +1,12 @@
 -- A command to the layer in a session, without or with something given: its own packet is put, and then what waits.
 use Rattle.x25_world.proofs.Names.{◌≡◌, ℕ, suc, ◌==◌, ◌≤◌, ◌⊎◌, inl, inr, List, [], ◌∷◌, ◌++◌, Bool, true, Option, None, refl, sym, ap, ◌∙◌, subst, append-nil}
 use Rattle.x25_world.proofs.Names.{arith, ◌&&◌, and_parts, append_cancel_left, Role, PlainPacket, is_up, Meeting, Sessions, octets_of, PlainGiven, may_give}
-use Rattle.x25_world.proofs.Names.{Name, moves_all, pulls_of, OwnMove, Requests, apart_start, own_run, AreInOrder, Cfg, Settings, settings_from, layer_settings}
+use Rattle.x25_world.proofs.Names.{Name, moves_all, pulls_of, OwnMove, apart_start, own_run, AreInOrder, Cfg, Settings, settings_from, layer_settings}
 use Rattle.x25_world.proofs.Names.{layer_notices, suits, Step, Outcome, Did, Refused, requests, GivesOctets, station_with, IsKept, KeptBy, AreReadable}
 use Rattle.x25_world.proofs.Names.{WorldError, World, Act, of_station, refusal_of, after, after_step, came_in, Gave, channel_for, gave_where, IsGiven}
 use Rattle.x25_world.proofs.Names.{AreSomeOf, confirmed_in, link_of, Asks, SessionLaws, each_append, SessionGoes, spelled, spelled_with, PutsRead, puts_spelled}
 use Rattle.x25_world.proofs.Names.{puts_up, puts_of, all_act, puts_go, pulls_asked, asked_leaves, Layer, LayerNotice, LayerRequest, layer_outcome, AreNoFaults}
-use Rattle.x25_layer.specs.laws.TwoLayers.{Requests as Requested}
+use Rattle.x25_layer.specs.laws.{Apart.{Requests}, TwoLayers.{Requests as Requested}}
 use Rattle.x25_line.proofs.ends.Meetings.{all_map}
 use Rattle.x25_link.specs.{Link.{alone}, Outgoing.{waits}, Station.{Side}}
 use Rattle.x25_peer.proofs.{Granted.{did_granted, gave_granted, suits_asks}, ReadLemmas.{readable_behind}, sessions.LinkSteps.{puts_spelled_with, stays_goes}}

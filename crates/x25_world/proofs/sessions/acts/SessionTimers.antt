@@ -1,23 +1,24 @@
 -- Timer T1 runs out, the link is polled, connected, disconnected and set up anew, and octets on the line to an end are lost or damaged, over set-up
 -- and re-set-up.
 use Rattle.x25_world.proofs.Names.{◌≡◌, ℕ, ◌+◌, List, [], ◌∷◌, Bool, true, false, ◌&&◌, if◌then◌else◌, Option, Some, None, Result, Ok, refl, sym, ap, ◌∙◌}
-use Rattle.x25_world.proofs.Names.{subst, arith, length, nat_lt, Err, cond_both, list_any, Role, Dte, Dce, PlainFrame, sabm, ua, frame_of, Tells, timer_refusal}
+use Rattle.x25_world.proofs.Names.{subst, arith, length, nat_lt, Err, cond_both, list_any, Role, Dte, Dce, PlainFrame, sabm, ua, frame_of, timer_refusal}
 use Rattle.x25_world.proofs.Names.{timer_step, replaced, Sessions, begun_by, letters, IsTimely, Each, octets_of, is_visible, Said, said, sabm_of, ua_of}
 use Rattle.x25_world.proofs.Names.{how_many, Cfg, Settings, settings_from, longest_packet, Connects, Disconnects, Probes, Relinks, relink_asked, Step, follows}
 use Rattle.x25_world.proofs.Names.{led_by, fires, unless, KeptBy, ConnectKeeps, World, Declined, Act, Commands, Fires, of_station, is_on_line, fired, after}
 use Rattle.x25_world.proofs.Names.{after_step, Happened, Loses, Damages, on_line, damaged, link_of, Asks, all_at, SessionLaws, IsReceiptOrRequest, timer_silent}
-use Rattle.std.proofs.{Common.{remove}, lemmas.Bool.{or_parts}}
+use Rattle.x25_world.proofs.Names.{remove, connects_asked, LinkError, LinkStation, awaits_ua, LinkSettings, other, LinkStep, reads_as, carries, Sabm, Ua}
+use Rattle.std.proofs.lemmas.Bool.{or_parts}
 use Rattle.x25_frame.specs.declared.error.{FrameError.{FrameError}, FrameError.TheVariants.{Short}}
 use Rattle.x25_line.proofs.sessions.SessionsForgotten.{octets_removed, octets_replaced}
 use Rattle.x25_line.specs.laws.Sessions.{with_octets}
 use Rattle.x25_link.specs.Link.{connect_refusal, connect_step, disconnect_refusal, disconnect_step, probe_refusal, relink_refusal, relink_step}
+use Rattle.x25_link.specs.laws.NoteLaw.{Tells}
 use Rattle.x25_peer.proofs.{Granted.{connects_in_down, relinks_in_up}, sessions.LinkSteps.{act_goes, probe_acts, relink_goes}}
-use Rattle.x25_station.specs.Step.{connects, connects_asked, disconnects, probes, relinks}
-use Rattle.x25_world.proofs.{Known.{IsConfigured, true_false}, Names.{LinkError, LinkStation, awaits_ua, LinkSettings, other, LinkStep}}
+use Rattle.x25_station.specs.Step.{connects, disconnects, probes, relinks}
+use Rattle.x25_world.proofs.Known.{IsConfigured, true_false}
 use Rattle.x25_world.proofs.sessions.{SessionBeside.{none_more}, SessionFollows.{Lead, no_command, connect, disconnect, relink, lead_of, follows_silent}}
 use Rattle.x25_world.proofs.sessions.{SessionJoined.{SessionsJoined, Goes, gave_none, stays}, SessionReaches.{Leads, Asked, reach_on}}
-use Rattle.x25_world.specs.{SetUp.{is_a, reads_as, carries}, World.{lost}, declared.set_up.SetUpFrame.{SetUpFrame}}
-use Rattle.x25_world.specs.declared.set_up.SetUpFrame.TheVariants.{Sabm, Ua}
+use Rattle.x25_world.specs.{SetUp.{is_a}, World.{lost}, declared.set_up.SetUpFrame.{SetUpFrame}}
 use Rattle.x25_bits.specs.Role as bits
 use Rattle.x25_line.specs.laws.Stations as line
 use Rattle.x25_line.specs.laws.Sessions as links

@@ -8,10 +8,9 @@ use Rattle.x25_circuit.specs.Circuit.{is_free_in}
 use Rattle.x25_layer.specs.laws.Law.{IsIdleTo}
 use Rattle.x25_line.specs.laws.SessionClaims.{EachMeetsLatest}
 use Rattle.x25_station.specs.Station.Told.{is_idle}
-use Rattle.x25_world.proofs.{Growing.{all_read, as_read, none_read, as_many}, Known.{IsConfigured, true_false}, Names.{all_some}}
+use Rattle.x25_world.proofs.{Growing.{all_read, as_read, none_read, as_many}, Known.{IsConfigured, true_false}, Names.{all_some, OpenStretchesMeet}}
 use Rattle.x25_world.proofs.sessions.{SessionJoined.{HasMet, PairIsInOrder, SessionsJoined, sessions_swapped}, SessionKnown.{some_map, met_in_order, of_either}}
 use Rattle.x25_world.proofs.sessions.{SessionReaches.{known_sessions}, SessionTrace.{layer_of, Done, own_in, own}}
-use Rattle.x25_world.specs.laws.SessionClaims.{OpenStretchesMeet}
 use Rattle.x25_link.specs.Link as link
 use Rattle.x25_layer.specs.laws.TwoLayers as layer
 

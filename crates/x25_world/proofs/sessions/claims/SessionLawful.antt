@@ -5,7 +5,8 @@ use Rattle.x25_world.proofs.Names.{sym, ap, ◌∙◌, subst, arith, eqb-true, l
 use Rattle.x25_world.proofs.Names.{from_nothing, all_some, IsPrefix, Name, name_of, under, messages_in, HandsUpLawfully, goes_up, first_name, counted, started}
 use Rattle.x25_world.proofs.Names.{OwnMove, Cfg, StationEntry, link_up, link_down, layer_notices, ConnectKeeps, World, Event, run, entries_at, Progress}
 use Rattle.x25_world.proofs.Names.{none_begun, after_entry, is_in, entry_if, session_from, session_at, handed_in, meets, last_session, ThroughoutAlong}
-use Rattle.x25_world.proofs.Names.{SessionLaws, Came, came_in, Gave, gave_in, IsGiven, AreSomeOf, confirmed_in, asked_among}
+use Rattle.x25_world.proofs.Names.{SessionLaws, Came, came_in, Gave, gave_in, IsGiven, AreSomeOf, confirmed_in, asked_among, ConfirmedAreHandedUp}
+use Rattle.x25_world.proofs.Names.{AreLawfulWhereMet, UnmetAreToldNothing, AreNamedInSessions}
 use Rattle.std.proofs.lemmas.Bool.{leb-false}
 use Rattle.x25_layer.specs.laws.NameLaw.{IsCounted}
 use Rattle.x25_line.specs.laws.SessionClaims.{IsInOrder}
@@ -16,8 +17,7 @@ use Rattle.x25_world.proofs.sessions.SessionJoined.{HasMet, PairIsInOrder, Sessi
 use Rattle.x25_world.proofs.sessions.{SessionKnown.{met_in_order, of_either, pair_ends, here_in, there_is}, SessionReaches.{known_sessions}}
 use Rattle.x25_world.proofs.sessions.{SessionRuns.{RunGoes, throughout_goes}, SessionTrace.{layer_of, Done, own_in, own, numbers, pair_at, moves_of_pair}}
 use Rattle.x25_world.proofs.sessions.{acts.SessionRequests.{session_pair}, claims.SessionMeets.{told_met, unmet_up, begun_both}}
-use Rattle.x25_world.specs.laws.{BesideClaims.{BesideIsGiven}, ConfirmedClaims.{ConfirmedAreHandedUp}}
-use Rattle.x25_world.specs.laws.SessionClaims.{AreLawfulWhereMet, UnmetAreToldNothing, AreNamedInSessions}
+use Rattle.x25_world.specs.laws.BesideClaims.{BesideIsGiven}
 
 -- ---- which session
 

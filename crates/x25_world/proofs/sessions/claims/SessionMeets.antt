@@ -2,9 +2,8 @@
 use Rattle.x25_world.proofs.Names.{◌≡◌, ℕ, ◌≤◌, ◌<◌, ◌⊎◌, inl, inr, List, [], ◌∷◌, Option, Some, None, sym, ap, ◌∙◌, arith, Role, Dte, Dce, other, Meeting}
 use Rattle.x25_world.proofs.Names.{Each, IsNoEarlier, InStep, OnlyBegunHaveLists, Cfg, World, last_session, meets, SessionLaws, all_no_earlier, all_some}
 use Rattle.std.proofs.lemmas.Option.{none-some}
-use Rattle.x25_world.proofs.Known.{IsConfigured}
-use Rattle.x25_world.proofs.sessions.{SessionJoined.{HasMet, Hears, SessionsJoined}, SessionReaches.{known_sessions}}
-use Rattle.x25_world.specs.laws.SessionClaims.{MeetInStep}
+use Rattle.x25_world.proofs.{Known.{IsConfigured}, Names.{MeetInStep}, sessions.SessionJoined.{HasMet, Hears, SessionsJoined}}
+use Rattle.x25_world.proofs.sessions.SessionReaches.{known_sessions}
 use Rattle.x25_line.specs.laws.SessionClaims as line
 
 -- ---- by the links

@@ -1,15 +1,16 @@
 -- Over set-up and re-set-up no error of procedure is ever put on the line, or told to a user.
 use Rattle.x25_world.proofs.Names.{◌≡◌, ℕ, zero, suc, List, [], ◌∷◌, Ok, Contains, sym, subst, arith, ◌≤◌, ◌<◌, ◌⊎◌, inl, inr, All-nil, Role, Dte, Dce}
 use Rattle.x25_world.proofs.Names.{PlainFrame, info, frmr, spelling_of, information_of, frame_of, PlainPacket, OnlyBegunHaveLists, AreNoFaults, longest_packet}
+use Rattle.x25_world.proofs.Names.{Cfg, layer_notices, AreOctets, OnTap, World, entries_at, SessionLaws, AreOfFrame, HasNoProcedureError, IsTapOfOctets}
 use Rattle.x25_frame.specs.laws.ReadingLaw.{ReadsSpelled}
 use Rattle.x25_layer.specs.laws.Quiet.{AreQuiet}
 use Rattle.x25_line.specs.laws.{SessionClaims.{NoSessionSendsFrmr, AllSessionsSendWhole}, StationClaims.{NoFrmr, IsWhole, AreWhole}}
 use Rattle.x25_world.proofs.{FrameOctets.{spelled_of_frame}, Growing.{read_by, all_read, as_read, first_read, rest_read, AllAreOctets, AreOnTap, octets_in}}
-use Rattle.x25_world.proofs.{Known.{IsConfigured}, Names.{Cfg, layer_notices, AreOctets, OnTap, World, entries_at, SessionLaws, AreOfFrame}}
+use Rattle.x25_world.proofs.Known.{IsConfigured}
 use Rattle.x25_world.proofs.sessions.{SessionJoined.{SessionsJoined, sessions_swapped, links_swapped}, SessionKnown.{own_quiet}}
 use Rattle.x25_world.proofs.sessions.{SessionReaches.{known_sessions}, SessionTrace.{own}, acts.SessionRequests.{session_pair}}
-use Rattle.x25_world.{proofs.sessions.claims.SessionLawful.{which_session}, specs.laws.Claims.{IsQuietRead, IsQuietFrame, IsQuietTap, HasNoProcedureError}}
-use Rattle.x25_world.specs.laws.TapOctets.{AreOfFrames, IsTapOfOctets}
+use Rattle.x25_world.{proofs.sessions.claims.SessionLawful.{which_session}, specs.laws.Claims.{IsQuietRead, IsQuietFrame, IsQuietTap}}
+use Rattle.x25_world.specs.laws.TapOctets.{AreOfFrames}
 
 -- ---- packets
 

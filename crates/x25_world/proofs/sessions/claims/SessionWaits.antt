@@ -4,16 +4,16 @@ use Rattle.x25_world.proofs.Names.{subst, ◌∙◌, arith, length-append, eqb-t
 use Rattle.x25_world.proofs.Names.{IdleHasArrived, is_open, waits, Name, Ranges, Layer, is_channel, PullsAll, outcome_in, layer_outcome, LinkView, AlwaysApart}
 use Rattle.x25_world.proofs.Names.{apart_run, apart_start, as_world, name_of, HasAllOf, PullsNone, Cfg, Settings, settings_from, link_settings, layer_settings}
 use Rattle.x25_world.proofs.Names.{StationEntry, Station, all_put, view_of, requests, stretch, World, mirrored, WorldOutcome, Happened, Declined, of_station}
-use Rattle.x25_world.proofs.Names.{swapped_back, after, last_session, handed_in, PullsLeaveNone, UnpulledWaitForUsers, SessionLaws}
+use Rattle.x25_world.proofs.Names.{swapped_back, after, last_session, handed_in, PullsLeaveNone, UnpulledWaitForUsers, SessionLaws, MessagesWaitForUsers}
 use Rattle.x25_layer.specs.{Layer.{is_ready}, laws.Rounds.{Putting, begin, rounds, Answered, Went, Refuses, went, calls}}
 use Rattle.x25_layer.specs.laws.WaitLaw.{RoundsLeaveNone, StillPullsNone, KeepsNoneClosed, OpensNoneInRestart, IsDrained, IsOpenAtBoth, WaitForUsersAlone}
 use Rattle.x25_link.specs.Link.{alone}
 use Rattle.x25_station.specs.Step.{did}
-use Rattle.x25_world.proofs.{Growing.{all_read, as_read, as_many}, Known.{IsConfigured, true_false}}
+use Rattle.x25_world.proofs.{Growing.{all_read, as_read, as_many}, Known.{IsConfigured, true_false}, Names.{ClosedKeepNone}}
 use Rattle.x25_world.proofs.sessions.{SessionJoined.{PairIsInOrder, SessionsJoined, sessions_swapped}, SessionKnown.{some_map, met_in_order, of_either}}
 use Rattle.x25_world.proofs.sessions.{SessionReaches.{known_sessions}, SessionTrace.{layer_of, Done, own}, acts.SessionRequests.{session_pair}}
 use Rattle.x25_world.proofs.sessions.claims.SessionArrives.{stretch_of, name_if, open_if, meet_from, latest_near, latest_far}
-use Rattle.x25_world.specs.laws.WaitClaims.{WaitsForUser, Arrived, NotReady, MessagesWaitForUsers, ClosedKeepNone}
+use Rattle.x25_world.specs.laws.WaitClaims.{WaitsForUser, Arrived, NotReady}
 use Rattle.x25_link.specs.Outgoing as outgoing
 use Rattle.x25_link.specs.Link as link
 use Rattle.x25_layer.specs.declared.error.LayerError.TheVariants as error

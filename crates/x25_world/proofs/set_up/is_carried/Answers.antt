@@ -1,7 +1,6 @@
-use Rattle.std.proofs.Common.{sym, ap, subst, ◌<◌, ◌∙◌}
 use Rattle.x25_bits.specs.Role.{other}
-use Rattle.x25_world.specs.{SetUp.{reads_as}, code.ShownLine.{line_to}}
-use Rattle.x25_world.proofs.{SetUpLemmas.{found_at, not_found_yet, none_there}, set_up.is_carried.Goals.{in-Some+else-reads_as, in_default}}
+use Rattle.x25_world.proofs.{Names.{sym, ap, subst, ◌<◌, ◌∙◌, reads_as, line_to}, SetUpLemmas.{found_at, not_found_yet, none_there}}
+use Rattle.x25_world.proofs.set_up.is_carried.Goals.{in-Some+else-reads_as, in_default}
 use Rattle.x25_world.proofs.set_up.is_carried.Goals as goal
 
 pub returns-then-reads_as : goal.returns-then-reads_as

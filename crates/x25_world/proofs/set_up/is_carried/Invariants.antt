@@ -1,7 +1,5 @@
-use Rattle.std.proofs.Common.{◌≡◌, false, take}
-use Rattle.std.specs.List.{list_any}
+use Rattle.x25_world.proofs.Names.{◌≡◌, false, take, list_any, reads_as, line_to}
 use Rattle.x25_bits.specs.Role.{other}
-use Rattle.x25_world.specs.{SetUp.{reads_as}, code.ShownLine.{line_to}}
 use Rattle.x25_world.proofs.set_up.is_carried.Given as goal
 
 -- no such frame stands before this place

@@ -1,5 +1,4 @@
-use Rattle.std.proofs.Common.{refl}
-use Rattle.x25_world.proofs.LineLemmas.{map-replaced}
+use Rattle.x25_world.proofs.{LineLemmas.{map-replaced}, Names.{refl}}
 use Rattle.x25_world.proofs.line.Line.replace.Goals as goal
 
 pub returns-in-Dce-clause-ok : goal.returns-in-Dce-clause-ok

@@ -1,5 +1,4 @@
-use Rattle.std.proofs.Common.{refl}
-use Rattle.x25_world.proofs.LineLemmas.{map-remove}
+use Rattle.x25_world.proofs.{LineLemmas.{map-remove}, Names.{refl}}
 use Rattle.x25_world.proofs.line.Line.take.Goals as goal
 
 pub returns-in-Dce-clause-line : goal.returns-in-Dce-clause-line

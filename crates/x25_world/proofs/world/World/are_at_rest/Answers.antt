@@ -1,6 +1,4 @@
-use Rattle.std.proofs.Common.{sym, ap, ◌∙◌, ◌&&◌, subst}
-use Rattle.x25_bits.specs.declared.role.Role.TheVariants.{Dte, Dce}
-use Rattle.x25_station.specs.{code.FitsStation.{FitsStation}, Config.{settings_from}, Station.Told.{is_at_rest}}
+use Rattle.x25_world.proofs.Names.{sym, ap, ◌∙◌, ◌&&◌, subst, Dte, Dce, FitsStation, settings_from, is_at_rest}
 use Rattle.x25_world.proofs.world.World.are_at_rest.Goals as goal
 
 pub returns-then-status : goal.returns-then-status

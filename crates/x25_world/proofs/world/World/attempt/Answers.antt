@@ -1,5 +1,4 @@
-use Rattle.x25_world.specs.{World.{event_of}, Healing.{if_accepted}}
-use Rattle.x25_world.proofs.HealingSchedule.{accepts_one, leaves_out, stops_now}
+use Rattle.x25_world.proofs.{HealingSchedule.{accepts_one, leaves_out, stops_now}, Names.{event_of, if_accepted}}
 use Rattle.x25_world.proofs.world.World.attempt.Goals as goal
 
 pub returns-clause-goes : goal.returns-clause-goes

@@ -1,5 +1,5 @@
-use Rattle.std.proofs.lemmas.Result.{err_from_is_err_and, on_ok_weaker, IfErr-weaker}
-use Rattle.x25_world.specs.{World.{run, event_of}, Healing.{if_accepted, both_tried}, code.FitsHealing.{GoesPartly, telling}}
+use Rattle.x25_world.proofs.Names.{err_from_is_err_and, run, event_of, if_accepted, both_tried, GoesPartly, telling}
+use Rattle.std.proofs.lemmas.Result.{on_ok_weaker, IfErr-weaker}
 use Rattle.x25_world.proofs.HealingSchedule.{goes_behind, stops_first, stops_behind}
 use Rattle.x25_world.proofs.world.World.attempt_both.Goals as goal
 

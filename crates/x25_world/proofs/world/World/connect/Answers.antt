@@ -1,9 +1,5 @@
-use Rattle.std.proofs.Common.{None, Result, Ok, Err, OnOk, sym, subst, refl}
-use Rattle.x25_bits.specs.declared.role.Role.TheVariants.{Dte}
-use Rattle.x25_station.specs.{Config.{settings_from}, Station.{new_station}, Step.{connects_asked}, declared.config.Cfg.{Cfg}}
-use Rattle.x25_world.specs.{World.{after, start, connected, of_station}, code.ShownWorld.{ShownWorld}, code.FitsWorld.{FitsWorld}}
-use Rattle.x25_world.specs.declared.error.WorldError.{WorldError}
-use Rattle.x25_world.proofs.WorldLemmas.{dte_fits, station_keeps_far, only_memory}
+use Rattle.x25_world.proofs.Names.{None, Result, Ok, Err, OnOk, sym, subst, refl, Dte, settings_from, new_station, connects_asked, Cfg, after, start, connected}
+use Rattle.x25_world.proofs.{Names.{of_station, ShownWorld, FitsWorld, WorldError}, WorldLemmas.{dte_fits, station_keeps_far, only_memory}}
 use Rattle.x25_world.proofs.world.World.connect.Goals as goal
 
 -- the entry of the command stands in the transcript alone

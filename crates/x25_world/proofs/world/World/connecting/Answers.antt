@@ -1,6 +1,4 @@
-use Rattle.std.proofs.Common.{[], inl, inr, refl}
-use Rattle.x25_world.specs.{World.{connected}, code.FitsWorld.{ClaimsOfNew}}
-use Rattle.x25_world.proofs.WorldLemmas.{made_world, connected_up}
+use Rattle.x25_world.proofs.{Names.{[], inl, inr, refl, connected, ClaimsOfNew}, WorldLemmas.{made_world, connected_up}}
 use Rattle.x25_world.proofs.world.World.connecting.Goals as goal
 
 pub returns-clause-claims : goal.returns-clause-claims

@@ -1,7 +1,5 @@
-use Rattle.std.proofs.Common.{rules, ◌≡◌, ◌∙◌, ◌<◌, List, ℕ, length, false, ap, arith, sym, subst}
-use Rattle.x25_bits.specs.FrameCheck.Sealed.{is_sealed}
-use Rattle.x25_station.specs.declared.config.Cfg.{Cfg}
-use Rattle.x25_world.specs.{World.{World}, code.ShownWorld.{shown_with, line_of}, code.FitsWorld.{FitsWorld}}
+use Rattle.x25_world.proofs.Names.{◌≡◌, ◌∙◌, ◌<◌, length, false, ap, arith, sym, subst, is_sealed, Cfg, World, shown_with, line_of, FitsWorld}
+use Rattle.std.proofs.Common.{rules}
 use Rattle.x25_world.proofs.BitDamageLemmas.{refuses_bits}
 use Rattle.x25_world.proofs.world.World.damage_by.Goals as goal
 

@@ -1,6 +1,4 @@
-use Rattle.std.proofs.{Common.{sym, ap, ◌∙◌, arith}, lemmas.Result.{err_from_is_err_and}}
-use Rattle.x25_bits.specs.Role.{end_of}
-use Rattle.x25_world.specs.{World.{run}, Healing.{all_received, next_end}, code.FitsHealing.{telling}}
+use Rattle.x25_world.proofs.Names.{sym, ap, ◌∙◌, arith, err_from_is_err_and, end_of, run, all_received, next_end, telling}
 use Rattle.x25_world.proofs.HealingSchedule.{one_delivered, ends_drained, ends_counted, stops_there}
 use Rattle.x25_world.proofs.world.World.deliver_all.Goals as goal
 

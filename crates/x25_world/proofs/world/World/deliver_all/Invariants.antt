@@ -1,7 +1,5 @@
 use Rattle.std.specs.Prelude.{◌≡◌, List}
-use Rattle.x25_station.specs.declared.config.Cfg.{Cfg}
-use Rattle.x25_world.specs.{World.{World, AtEnd}, code.FitsHealing.{most_times, Tells, telling}}
-use Rattle.x25_world.proofs.HealingSchedule.{Delivered}
+use Rattle.x25_world.proofs.{HealingSchedule.{Delivered}, Names.{Cfg, World, AtEnd, most_times, Tells, telling}}
 use Rattle.x25_world.proofs.world.World.deliver_all.Given as goal
 
 -- so many of the deliveries have happened

@@ -1,6 +1,4 @@
-use Rattle.std.proofs.{Common.{ap}, lemmas.Result.{err_from_is_err_and}}
-use Rattle.x25_station.specs.Config.{config_refusal}
-use Rattle.x25_world.proofs.WorldLemmas.{made_as, refused_as, refused_later}
+use Rattle.x25_world.proofs.{Names.{ap, err_from_is_err_and, config_refusal}, WorldLemmas.{made_as, refused_as, refused_later}}
 use Rattle.x25_world.proofs.world.World.down.Goals as goal
 
 pub returns-in_err-dte-clause-refused : goal.returns-in_err-dte-clause-refused

@@ -1,6 +1,4 @@
-use Rattle.std.proofs.Common.{[], inr, refl}
-use Rattle.x25_world.specs.{World.{established}, code.FitsWorld.{ClaimsOfNew}, laws.Claims.{IsUpOnce}}
-use Rattle.x25_world.proofs.WorldLemmas.{made_world, once_at_most}
+use Rattle.x25_world.proofs.{Names.{[], inr, refl, established, ClaimsOfNew, IsUpOnce}, WorldLemmas.{made_world, once_at_most}}
 use Rattle.x25_world.proofs.world.World.establish.Goals as goal
 
 pub returns-clause-claims : goal.returns-clause-claims

@@ -1,6 +1,5 @@
-use Rattle.std.proofs.lemmas.Result.{err_from_is_err_and}
-use Rattle.x25_world.specs.{World.{run}, Healing.{deliveries, pull_rounds, fire_and_pull}, code.FitsHealing.{most_times}}
-use Rattle.x25_world.proofs.{HealingSchedule.{goes_behind, stops_first, stops_behind}, HealingRounds.{fired_at, counts_both}}
+use Rattle.x25_world.proofs.Names.{err_from_is_err_and, run, deliveries, pull_rounds, fire_and_pull, most_times}
+use Rattle.x25_world.proofs.{HealingRounds.{fired_at, counts_both}, HealingSchedule.{goes_behind, stops_first, stops_behind}}
 use Rattle.x25_world.proofs.world.World.go_on.Goals as goal
 
 pub returns-in_err-before-clause-stopped : goal.returns-in_err-before-clause-stopped

@@ -1,5 +1,4 @@
-use Rattle.std.proofs.Common.{sym, subst}
-use Rattle.x25_world.specs.code.FitsWorld.{FitsWorld}
+use Rattle.x25_world.proofs.Names.{sym, subst, FitsWorld}
 use Rattle.x25_world.proofs.world.World.happen.Goals as goal
 
 pub returns-clause-acted : goal.returns-clause-acted

@@ -1,7 +1,6 @@
-use Rattle.std.proofs.Common.{sym, subst, arith}
-use Rattle.x25_world.specs.{World.{run}, Healing.{healing, RestShows, ArrivesByHealing, RestShowsAll}, laws.SessionClaims.{SessionsKeepOrder}}
-use Rattle.x25_world.specs.code.FitsHealing.{most_times, telling}
-use Rattle.x25_world.proofs.{WorldLemmas.{run_append}, HealingSchedule.{tells_nothing}, HealingRounds.{holds_healed}}
+use Rattle.x25_world.proofs.Names.{sym, subst, arith, run, healing, RestShows, ArrivesByHealing, RestShowsAll, SessionsKeepOrder, most_times, telling}
+use Rattle.x25_world.proofs.{HealingRounds.{holds_healed}, HealingSchedule.{tells_nothing}}
+use Rattle.x25_world.proofs.WorldLemmas.{run_append}
 use Rattle.x25_world.proofs.world.World.heal.Goals as goal
 
 pub returns-in-Ok-clause-goes : goal.returns-in-Ok-clause-goes

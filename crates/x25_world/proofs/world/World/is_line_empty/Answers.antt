@@ -1,7 +1,4 @@
-use Rattle.std.proofs.Common.{◌∙◌, ap}
-use Rattle.std.specs.Prelude.{is_none}
-use Rattle.x25_bits.specs.Role.{end_of}
-use Rattle.x25_world.proofs.HealingRounds.{none_by_some}
+use Rattle.x25_world.proofs.{HealingRounds.{none_by_some}, Names.{◌∙◌, ap, is_none, end_of}}
 use Rattle.x25_world.proofs.world.World.is_line_empty.Goals as goal
 
 pub returns : goal.returns

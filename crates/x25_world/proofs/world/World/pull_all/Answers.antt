@@ -1,8 +1,6 @@
-use Rattle.std.proofs.{Common.{◌≡◌, ◌-◌, ◌+◌, ◌∙◌, sym, ap, false, arith}, lemmas.Result.{err_from_is_err_and}}
-use Rattle.std.specs.Prelude.{is_none}
-use Rattle.x25_world.specs.{World.{run}, Healing.{next_end, pull_round, pull_rounds}, code.FitsHealing.{most_times, telling}}
-use Rattle.x25_world.proofs.HealingSchedule.{line_is, rest_is, stops_in, went_all, counted_all}
+use Rattle.x25_world.proofs.Names.{◌≡◌, ◌-◌, ◌+◌, ◌∙◌, sym, ap, false, arith, err_from_is_err_and, is_none, run, next_end, pull_round, pull_rounds, most_times}
 use Rattle.x25_world.proofs.HealingRounds.{left_behind, is_none_true, no_rounds, line_empty, line_filled, next_round, round_done, few_more, rounds_more}
+use Rattle.x25_world.proofs.{HealingSchedule.{line_is, rest_is, stops_in, went_all, counted_all}, Names.{telling}}
 use Rattle.x25_world.proofs.world.World.pull_all.Goals as goal
 
 pub returns-in_err-more-clause-stopped : goal.returns-in_err-more-clause-stopped

@@ -1,7 +1,4 @@
-use Rattle.std.proofs.Common.{List, ◌≡◌, ◌-◌, ◌+◌, ◌*◌, ◌≤◌, false}
-use Rattle.std.specs.Prelude.{is_none}
-use Rattle.x25_station.specs.declared.config.Cfg.{Cfg}
-use Rattle.x25_world.specs.{World.{World, AtEnd}, Healing.{next_end, pull_rounds}, code.FitsHealing.{most_times, Tells, telling}}
+use Rattle.x25_world.proofs.Names.{List, ◌≡◌, ◌-◌, ◌+◌, ◌*◌, ◌≤◌, false, is_none, Cfg, World, AtEnd, next_end, pull_rounds, most_times, Tells, telling}
 use Rattle.x25_world.proofs.HealingSchedule.{Begun}
 use Rattle.x25_world.proofs.world.World.pull_all.Given as goal
 

@@ -1,7 +1,5 @@
-use Rattle.std.proofs.lemmas.Result.{err_from_is_err_and}
-use Rattle.x25_bits.specs.declared.role.Role.TheVariants.{Dte, Dce}
-use Rattle.x25_world.specs.{World.{run}, laws.WaitClaims.{pull_at}, Healing.{deliveries, both_tried}, code.FitsHealing.{most_times}}
-use Rattle.x25_world.proofs.{HealingSchedule.{goes_behind, stops_first, stops_behind}, HealingRounds.{count_round}}
+use Rattle.x25_world.proofs.Names.{err_from_is_err_and, Dte, Dce, run, pull_at, deliveries, both_tried, most_times}
+use Rattle.x25_world.proofs.{HealingRounds.{count_round}, HealingSchedule.{goes_behind, stops_first, stops_behind}}
 use Rattle.x25_world.proofs.world.World.pull_round.Goals as goal
 
 pub returns-in_err-count-clause-stopped : goal.returns-in_err-count-clause-stopped

@@ -1,6 +1,4 @@
-use Rattle.std.proofs.{Common.{Err, sym, subst}, lemmas.Result.{err_from_is_err_and}}
-use Rattle.x25_world.specs.{World.{connected}, code.FitsWorld.{FitsWorld}}
-use Rattle.x25_world.proofs.WorldLemmas.{only_memory}
+use Rattle.x25_world.proofs.{Names.{Err, sym, subst, err_from_is_err_and, connected, FitsWorld}, WorldLemmas.{only_memory}}
 use Rattle.x25_world.proofs.world.World.set_up.Goals as goal
 
 pub returns-in_err-act_at_end-clause-refused : goal.returns-in_err-act_at_end-clause-refused

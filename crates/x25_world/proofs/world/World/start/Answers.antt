@@ -1,6 +1,4 @@
-use Rattle.std.proofs.Common.{[], inl, refl}
-use Rattle.x25_world.specs.{World.{start}, code.FitsWorld.{ClaimsOfNew}}
-use Rattle.x25_world.proofs.WorldLemmas.{made_world, start_up}
+use Rattle.x25_world.proofs.{Names.{[], inl, refl, start, ClaimsOfNew}, WorldLemmas.{made_world, start_up}}
 use Rattle.x25_world.proofs.world.World.start.Goals as goal
 
 pub returns-clause-claims : goal.returns-clause-claims

@@ -1,6 +1,4 @@
-use Rattle.std.proofs.Common.{◌∙◌, ap, sym, subst}
-use Rattle.x25_world.specs.code.FitsWorld.{FitsWorld}
-use Rattle.x25_world.proofs.WorldLemmas.{told_behind}
+use Rattle.x25_world.proofs.{Names.{sym, subst, FitsWorld}, WorldLemmas.{told_behind}}
 use Rattle.x25_world.proofs.world.World.tell.Goals as goal
 
 pub returns-clause-step : goal.returns-clause-step
