@@ -1,12 +1,9 @@
 -- A command that is read behind the name of an end is the command without it.
-use Rattle.std.proofs.Common.{List, ℕ, Option, Some, None}
-use Rattle.std.specs.Prelude.{Result, option_and_then}
+use Rattle.std.{proofs.Common.{Option}, specs.Prelude.{option_and_then}}
 use Rattle.x25_bits.specs.declared.role.Role.{Role}
-use Rattle.x25_script.specs.Reading.{after, command_in, End}
-use Rattle.x25_script.specs.ScriptLine.{PlainCommand, command}
+use Rattle.x25_c.{proofs.Names.{List, ℕ, Some, None, Result, Held}, specs.code.Happens.{GivesAnswer, asked_in}}
+use Rattle.x25_script.specs.{Reading.{after, command_in, End}, ScriptLine.{PlainCommand, command}}
 use Rattle.x25_station.specs.declared.error.StationError.{StationError}
-use Rattle.x25_c.specs.declared.held.Held.{Held}
-use Rattle.x25_c.specs.code.Happens.{GivesAnswer, asked_in}
 
 module _ (old new : Held) (r : Option (Result Unit StationError)) (end : Role) where
   by_read : (read : Option PlainCommand)

@@ -1,21 +1,18 @@
 -- What the pieces of a box own, and what a handle owns, is what the box owns; and steps that walks over them share.
-use Rattle.std.proofs.Common.{◌≡◌, List, [], ◌∷◌, ◌++◌, refl, sym, ap, true≢false, ◌∙◌}
-use Rattle.std.specs.Prelude.{IsSome, ℕ}
-use Rattle.std.specs.declared.option.Option.{Option}
+use Rattle.x25_c.proofs.Names.{◌≡◌, List, [], ◌∷◌, ◌++◌, refl, sym, ap, true≢false, ◌∙◌, dnil, Val, Item, ‵, ◌$◌, move, fsplit, Ptr, block_ptr, plain, Bx, P}
+use Rattle.std.{proofs.BoxSteps.Form.{handle}, proofs.alloc.Calls.{Fits, handle_tells}, specs.Prelude.{IsSome, ℕ}, specs.declared.option.Option.{Option}}
 use Rattle.std.specs.declared.option.Option.TheVariants.{None, Some}
-use seplogic.Ra.Ura.{Ura}
-use mir.Syntax.{impl, tnil, dnil}
-use mir.Val.{Val, vptr, vstruct, of_list}
-use types.Logic.{Logic}
-use types.Kit.{Goal, Seq, Item, ‵, ◌$◌, move, fsplit, fpick, feq_l}
-use denote.RawPtr.{Ptr, RawPtr, block_ptr, ptr_val}
-use denote.Signature.{Slot, plain}
+use Rattle.std_heap.specs.contracts.GlobalAllocator.TheImpl.{ghosts, dict}
+use denote.RawPtr.{RawPtr, ptr_val}
+use denote.Signature.{Slot}
 use denote.Steps.{only}
 use denote.Struct.Tuple.{Tuple}
-use Rattle.std.proofs.alloc.Calls.{Fits, handle_tells}
-use Rattle.std.proofs.BoxSteps.Form.{Bx, P, handle}
+use mir.Syntax.{impl, tnil}
+use mir.Val.{vptr, vstruct, of_list}
+use seplogic.Ra.Ura.{Ura}
+use types.Kit.{Goal, Seq, fpick, feq_l}
+use types.Logic.{Logic}
 use Rattle.std_heap.specs.contracts.Global as Heap
-use Rattle.std_heap.specs.contracts.GlobalAllocator.TheImpl.{ghosts, dict}
 use Rattle.std_heap.proofs.Global.TheLaws as heap
 use Rattle.x25_c.specs.contracts.held.Held as Held
 use Rattle.x25_c.proofs.held.Held.TheLaws as held

@@ -1,12 +1,8 @@
 -- Entries in the places of steps, one behind another.
-use Rattle.std.proofs.Common.{◌≡◌, ◌∙◌, ℕ, ◌<◌, ◌+◌, List, ◌++◌, length, drop, get_or, ap, sym}
-use Rattle.std.specs.Prelude.{slice_get}
-use Rattle.std.proofs.lemmas.List.{at_drop_more}
-use Rattle.std.proofs.lemmas.List.Concat.{flat_map-cons}
-use Rattle.x25_station.specs.Entry.{StationEntry}
-use Rattle.x25_station.specs.code.Entries.{ShownEntries}
+use Rattle.std.proofs.{Common.{drop}, lemmas.List.{at_drop_more}, lemmas.List.Concat.{flat_map-cons}}
+use Rattle.x25_c.proofs.{ItemLemmas.{in_first, in_second}, Names.{◌≡◌, ◌∙◌, ℕ, ◌<◌, ◌+◌, List, ◌++◌, length, get_or, ap, sym, slice_get}}
 use Rattle.x25_c.specs.code.EarlierEntries.{entries_in}
-use Rattle.x25_c.proofs.ItemLemmas.{in_first, in_second}
+use Rattle.x25_station.specs.{Entry.{StationEntry}, code.Entries.{ShownEntries}}
 
 module _ (steps : List ShownEntries) (index : ℕ) (x : ShownEntries) (left : ℕ) (inside : index < length steps) (is : x ≡ get_or steps index x) where
   in_both : slice_get (entries_in (drop index steps)) left ≡ slice_get (x.items ++ entries_in (drop (index + 1) steps)) left

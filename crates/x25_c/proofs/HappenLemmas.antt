@@ -1,29 +1,17 @@
 -- An event of a station that is held, and a pull behind it.
-use Rattle.std.proofs.Common.{◌≡◌, ◌∙◌, ◌≤◌, ◌++◌, length, map, ap, sym, refl, subst}
-use Rattle.std.specs.Prelude.{Option, Result, Ok, Err, OnErr, OnOk, false}
-use Rattle.std.proofs.lemmas.List.{map-append}
+use Rattle.std.{proofs.lemmas.List.{map-append}, specs.Prelude.{Ok, Err, OnErr, OnOk, false}}
+use Rattle.x25_c.{proofs.Names.{◌≡◌, ◌∙◌, ◌≤◌, ◌++◌, length, map, ap, sym, refl, subst, Result, Held}, specs.Clocked.{Heeds}}
+use Rattle.x25_c.specs.{Happening.{and_pull, may_lack_at}, code.Happens.{HappensTo, IsTimer, event_of}}
+use Rattle.x25_clock.specs.{Clock.{seen}, laws.ClockLaw.{comes}}
 use Rattle.x25_frame.specs.Spelling.{spelling_of}
-use Rattle.x25_station.specs.declared.error.StationError.{StationError}
+use Rattle.x25_station.specs.{Config.{Settings}, Pulling.{pulled}, Station.{Station}, Step.{Outcome, Did, Refused}, Timer.{standing, timer_pulled}}
+use Rattle.x25_station.specs.code.{FitsStation.{FitsStation, FitsStill, Does, IsEmpty, Leaves, Sends, Enters, Refuses, RefusesOnly}, Pulls.{Pulls}}
+use Rattle.x25_station.specs.{declared.error.StationError.{StationError}, laws.TimerLaw.{StationEvent, outcome, is_firing}}
 use Rattle.x25_station.specs.declared.station.Station as code_station
 use Rattle.x25_station.specs.declared.step.Step as code_step
-use Rattle.x25_station.specs.Config.{Settings}
-use Rattle.x25_station.specs.Station.{Station}
-use Rattle.x25_station.specs.Step.{Outcome, Did, Refused}
-use Rattle.x25_station.specs.Pulling.{pulled}
-use Rattle.x25_station.specs.Timer.{standing, timer_pulled}
 use Rattle.x25_station.specs.code.Clock as clock
-use Rattle.x25_station.specs.code.FitsStation.{FitsStation, FitsStill, Does, IsEmpty, Leaves, Sends, Enters, Refuses, RefusesOnly}
-use Rattle.x25_station.specs.code.Pulls.{Pulls}
-use Rattle.x25_station.specs.laws.TimerLaw.{StationEvent, outcome, is_firing}
-use Rattle.x25_clock.specs.declared.clock.Clock.{Clock}
-use Rattle.x25_clock.specs.Clock.{seen}
-use Rattle.x25_clock.specs.laws.ClockLaw.{comes}
 use Rattle.x25_c.specs.declared.happening.Happening as code
 use Rattle.x25_c.specs.declared.happening.Happening.TheVariants as variant
-use Rattle.x25_c.specs.declared.held.Held.{Held}
-use Rattle.x25_c.specs.Clocked.{Heeds}
-use Rattle.x25_c.specs.Happening.{and_pull, may_lack_at}
-use Rattle.x25_c.specs.code.Happens.{HappensTo, IsTimer, event_of}
 
 abbrev accepted : Result Unit StationError
 accepted = Ok tt

@@ -1,10 +1,9 @@
 -- The items in the places of two lists, one behind the other.
-use Rattle.std.proofs.Common.{◌≡◌, ◌∙◌, ◌⊎◌, ℕ, ◌<◌, ◌≤◌, ◌+◌, List, [], ◌∷◌, ◌++◌, length, map, drop, get_or, Some, None, refl, arith, ap, sym, inl, inr}
-use Rattle.std.proofs.Common.{true≢false}
-use Rattle.std.specs.Prelude.{slice_get, is_some, suc, zero}
-use Rattle.std.specs.Option.{option_map}
-use Rattle.std.proofs.lemmas.List.{length-append, length-map}
-use Rattle.std.proofs.lemmas.Option.{slice_get-map, slice_get_cases, slice_get_past, slice_get_within}
+use Rattle.x25_c.proofs.Names.{◌≡◌, ◌∙◌, ℕ, ◌<◌, ◌≤◌, ◌+◌, List, [], ◌∷◌, ◌++◌, length, map, get_or, Some, None, refl, arith, ap, sym, inl, inr, true≢false}
+use Rattle.x25_c.proofs.Names.{slice_get}
+use Rattle.std.proofs.{Common.{◌⊎◌, drop}, lemmas.List.{length-append, length-map}}
+use Rattle.std.{proofs.lemmas.Option.{slice_get-map, slice_get_cases, slice_get_past, slice_get_within}, specs.Option.{option_map}}
+use Rattle.std.specs.Prelude.{is_some, suc, zero}
 
 pub in_first : {X : Type 0} (xs ys : List X) (i : ℕ) → i < length xs → slice_get (xs ++ ys) i ≡ slice_get xs i
 in_first [] ys i lt = absurd (omega arith)

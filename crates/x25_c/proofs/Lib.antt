@@ -1,3 +1,4 @@
+pub mod Names
 pub mod EarlierLemmas
 pub mod BoxLemmas
 pub mod HappenLemmas

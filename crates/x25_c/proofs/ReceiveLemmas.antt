@@ -1,17 +1,11 @@
 -- Frames that come one behind another: what was answered before, and one frame more.
-use Rattle.std.proofs.Common.{◌≡◌, ◌∙◌, ℕ, zero, suc, ◌+◌, ◌-◌, ◌<◌, ◌≤◌, false, List, length, take, drop, get_or, None, ap, sym, refl, subst, arith, inl, inr}
-use Rattle.std.proofs.Common.{true≢false}
-use Rattle.std.specs.Prelude.{Result, Ok, Err, OnOk, is_err, sum}
-use Rattle.std.proofs.lemmas.List.{append-nil, map-append}
-use Rattle.std.proofs.lemmas.List.Sums.{sum_by_more}
-use Rattle.x25_station.specs.declared.timer.Timer.TheVariants.{GoesOn}
-use Rattle.x25_station.specs.code.FitsStation.{FitsStation, FitsStill, IsEmpty}
-use Rattle.x25_station.specs.laws.TimerLaw.{Comes}
-use Rattle.x25_c.specs.declared.held.Held.{Held}
-use Rattle.x25_c.specs.Held.{Whole, IsAlone, whole_of, part_before, part_of, and_then, no_answer}
-use Rattle.x25_c.specs.code.Happens.{HappensTo}
-use Rattle.x25_c.specs.code.Receives.{IsClocked, Received, ReceivesAll, frame_at}
+use Rattle.x25_c.proofs.Names.{◌≡◌, ◌∙◌, ℕ, ◌+◌, ◌<◌, ◌≤◌, List, length, get_or, None, ap, sym, refl, subst, arith, inl, inr, true≢false, Result, Held}
+use Rattle.std.proofs.{Common.{zero, suc, ◌-◌, false, take, drop}, lemmas.List.{append-nil}, lemmas.List.Sums.{sum_by_more}}
+use Rattle.std.specs.Prelude.{Ok, Err, OnOk, is_err, sum}
 use Rattle.x25_c.proofs.HappenLemmas.{from_still}
+use Rattle.x25_c.specs.{Held.{Whole, IsAlone, whole_of, part_before, part_of, and_then, no_answer}, code.Happens.{HappensTo}}
+use Rattle.x25_c.specs.code.Receives.{IsClocked, Received, ReceivesAll, frame_at}
+use Rattle.x25_station.specs.{code.FitsStation.{FitsStation, FitsStill, IsEmpty}, declared.timer.Timer.TheVariants.{GoesOn}, laws.TimerLaw.{Comes}}
 
 -- nothing was answered yet
 pub nothing_yet : (h : Held) → IsAlone h → IsEmpty h.step → h.step.timer ≡ GoesOn → whole_of h ≡ no_answer

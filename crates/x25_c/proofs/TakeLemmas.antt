@@ -1,13 +1,10 @@
 -- Items that are taken one by one, from the first on.
-use Rattle.std.proofs.Common.{◌≡◌, ◌∙◌, ℕ, ◌+◌, ◌-◌, ◌<◌, ◌≤◌, List, [], ◌∷◌, ◌++◌, length, map, take, drop, get_or, Some, None, ap, sym, refl, arith, inl, inr}
-use Rattle.std.proofs.Common.{◌⊎◌, true≢false, set}
-use Rattle.std.specs.Prelude.{slice_get, is_some}
-use Rattle.std.specs.List.{flat_map}
+use Rattle.x25_c.proofs.Names.{◌≡◌, ◌∙◌, ℕ, ◌+◌, ◌<◌, ◌≤◌, List, [], ◌∷◌, ◌++◌, length, map, get_or, Some, None, ap, sym, refl, arith, inl, inr, true≢false}
+use Rattle.x25_c.proofs.Names.{slice_get}
+use Rattle.std.proofs.{Common.{◌-◌, take, drop, ◌⊎◌, set}, lemmas.Grind.{flat_map-append, drop_more_same}, lemmas.List.{take-append-drop, append-nil}}
 use Rattle.std.proofs.lemmas.List.{take_more, take_more_set, map_more, drop-set-lt, drop-drop, length-set, length-append, length-take-le, length-drop}
-use Rattle.std.proofs.lemmas.List.{take-append-drop, append-nil}
-use Rattle.std.proofs.lemmas.Option.{slice_get_within, get_or_from_slice_get, slice_get_cases}
-use Rattle.std.proofs.lemmas.Grind.{flat_map-append, drop_more_same}
-use Rattle.std.proofs.lemmas.Slice.{take-put_mid, drop-put_mid}
+use Rattle.std.proofs.lemmas.{Option.{slice_get_within, get_or_from_slice_get, slice_get_cases}, Slice.{take-put_mid, drop-put_mid}}
+use Rattle.std.specs.{List.{flat_map}, Prelude.{is_some}}
 use borrow.Rule.Slice.PartMut.{put_mid}
 
 module _ {I E : Type 0} (event : I → E) (user : I → List ℕ) (items : List I) where

@@ -81,12 +81,7 @@ fn dials<'a>(
 pub extern "C" fn x25_connect(alloc: Global, slot: &mut Slot) -> u32
     ensures { Answers slot.old.handle.held slot.new.handle.held result (Asks Connects) }
 {
-    let Some(mut held) = slot.take(alloc) else {
-        return NO_STATION;
-    };
-    let answer = held.happen(Happening::Asks(Cmd::Connect));
-    slot.put(held);
-    number_of(answer)
+    ask(alloc, slot, Cmd::Connect)
 }
 
 /// Disconnects the link, for good.
@@ -395,17 +390,13 @@ fn send(alloc: Global, slot: &mut Slot, channel: u16, q: bool, d: bool, user: &[
     ensures { Answers slot.old.handle.held slot.new.handle.held result
         (Asks (Requests (OnChannel channel (Sends (record { q = q; d = d }) user.now)))) }
 {
-    let Some(mut held) = slot.take(alloc) else {
-        return NO_STATION;
-    };
-    let answer = held.happen(Happening::Asks(Cmd::Send {
+    let message = Cmd::Send {
         channel,
         q,
         d,
         user,
-    }));
-    slot.put(held);
-    number_of(answer)
+    };
+    ask(alloc, slot, message)
 }
 
 /// Sends a message on a channel, and pulls behind it.

@@ -1,10 +1,9 @@
 -- A text, a piece at a time.
-use Rattle.x25_decode.proofs.Names.{Reading, ◌≡◌, ◌∙◌, ℕ, Bool, false, List, [], ◌∷◌, ◌++◌, Option, ap, sym, refl, subst, append_assoc, flat_map, Appends}
 use Rattle.std.{proofs.Common.{◌||◌}, proofs.Math.Bool.{or_assoc, or-false}, proofs.lemmas.List.{append-nil}, specs.List.{list_any}}
+use Rattle.x25_decode.proofs.Names.{Reading, ◌≡◌, ◌∙◌, ℕ, Bool, false, List, [], ◌∷◌, ◌++◌, Option, ap, sym, refl, subst, append_assoc, flat_map, Appends}
 use Rattle.x25_decode.{proofs.Names.{AppendsPrefix, answer_to, is_refused}, specs.Decoding.{output_of, has_refused}, specs.code.Stream.{Leads, WritesEnded}}
 use Rattle.x25_io.proofs.{LineLemmas.{ends_line, open-append}, ToldLemmas.{none_told, prefix_more}}
-use Rattle.x25_io.specs.HeldLine.{HoldsLine}
-use Rattle.x25_io.specs.{Lines.{IsOpen, lines_of}, code.Written.{Tells}, declared.held_line.HeldLine.{HeldLine}}
+use Rattle.x25_io.specs.{HeldLine.{HoldsLine}, Lines.{IsOpen, lines_of}, code.Written.{Tells}, declared.held_line.HeldLine.{HeldLine}}
 
 nil_output : (reading : Reading) → output_of reading [] ≡ []
 unfolding lines_of

@@ -130,25 +130,17 @@ impl LineTaker for LooseDecoder {
     ghost ended = { WritesLines };
 
     fn take_line<W: Sink>(&mut self, line: Option<&[u8]>, writer: &mut W) -> Result<(), Fault> {
-        match self.answer_line(line, writer) {
-            Ok(()) => Ok(()),
-            Err(_) => Err(Fault::Write),
-        }
+        Ok(self.answer_line(line, writer)?)
     }
 
     fn pass_over(&mut self) {}
 
     fn write_out<W: Sink>(&mut self, writer: &mut W) -> Result<(), Fault> {
-        match self.output.flush(writer) {
-            Ok(()) => Ok(()),
-            Err(_) => Err(Fault::Write),
-        }
+        Ok(self.output.flush(writer)?)
     }
 
     fn end<W: Sink>(&mut self, writer: &mut W) -> Result<u8, Fault> {
-        match self.output.flush(writer) {
-            Ok(()) => Ok(u8::from(self.is_refused)),
-            Err(_) => Err(Fault::Write),
-        }
+        self.output.flush(writer)?;
+        Ok(u8::from(self.is_refused))
     }
 }

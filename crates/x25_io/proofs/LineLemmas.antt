@@ -1,11 +1,9 @@
 -- The lines of a text, and the place of the first line feed.
-use Rattle.std.proofs.Common.{◌≡◌, ◌≢◌, ◌<◌, ◌≤◌, ◌-◌, ℕ, zero, suc, Bool, true, false, not, List, [], ◌∷◌, ◌++◌, length, take, drop, Some, None, ap, arith}
-use Rattle.std.proofs.Common.{get_or, get_or-take, eq-eqb, eqb-true, add-one, ◌∙◌, sym, ◌+◌, nat_eq, refl}
-use Rattle.std.proofs.lemmas.Bool.{ne_eqb}
-use Rattle.std.specs.List.{prefix_len}
-use Rattle.std.proofs.lemmas.List.{append-nil, length-take-le, take_rest}
-use Rattle.std.proofs.lemmas.List.Sums.{prefix_len_passes, prefix_len_stops}
 use Rattle.memchr.specs.Find.{IsFirstByte, is_byte}
+use Rattle.std.proofs.Common.{◌≡◌, ◌≢◌, ◌<◌, ◌≤◌, ◌-◌, ℕ, zero, suc, Bool, true, false, not, List, [], ◌∷◌, ◌++◌, length, take, drop, Some, None, ap, arith}
+use Rattle.std.proofs.{Common.{get_or, get_or-take, eq-eqb, eqb-true, add-one, ◌∙◌, sym, ◌+◌, nat_eq, refl}, lemmas.Bool.{ne_eqb}}
+use Rattle.std.proofs.lemmas.{List.{append-nil, length-take-le, take_rest}, List.Sums.{prefix_len_passes, prefix_len_stops}}
+use Rattle.std.specs.List.{prefix_len}
 use Rattle.x25_io.specs.Lines.{IsOpen, lines_of}
 
 cut_at : (at : ℕ) (left : List ℕ) → at < length left → ((k : ℕ) → k < at → get_or left k 0 ≢ 10) → get_or left at 0 ≡ 10

@@ -1,14 +1,9 @@
 -- Lines that are read loosely, and the text of what they ask.
 use Rattle.std.proofs.Common.{◌≡◌, ◌∙◌, ◌<◌, ◌≤◌, ◌-◌, ◌==◌, ℕ, zero, suc, Bool, true, false, List, [], ◌∷◌, ◌++◌, Option, Some, None, length, drop, take}
-use Rattle.std.proofs.Common.{get_or, ap, sym, subst, refl, eq-eqb}
-use Rattle.std.specs.Prelude.{◌&&◌, nat_le, nat_lt, if◌then◌else◌, cond, IfSome}
-use Rattle.std.proofs.lemmas.Bool.{lt-leb}
-use Rattle.std.specs.Str.{bytes_eq}
-use Rattle.x25_io.specs.HeldLine.{most_line}
-use Rattle.x25_io.specs.Lines.{IsOpen, lines_of, onto}
-use Rattle.x25_io.specs.Loose.{is_loose, is_passed, stamp_length, bare, without_mark, without_return, asked_from, asked, carried, asked_lines, asked_text, onto_asked}
-use Rattle.x25_io.specs.Loose.{text_of_lines}
-use Rattle.x25_io.proofs.LineLemmas.{ends_line}
+use Rattle.std.proofs.{Common.{get_or, ap, sym, subst, refl, eq-eqb}, lemmas.Bool.{lt-leb}}
+use Rattle.std.specs.{Prelude.{◌&&◌, nat_le, nat_lt, if◌then◌else◌, cond, IfSome}, Str.{bytes_eq}}
+use Rattle.x25_io.{proofs.LineLemmas.{ends_line}, specs.HeldLine.{most_line}, specs.Lines.{IsOpen, lines_of, onto}, specs.Loose.{onto_asked, text_of_lines}}
+use Rattle.x25_io.specs.Loose.{is_loose, is_passed, stamp_length, bare, without_mark, without_return, asked_from, asked, carried, asked_lines, asked_text}
 
 -- ---- a line that is too long
 

@@ -1,8 +1,6 @@
 -- From the pieces that are read to the whole text.
 use Rattle.std.proofs.Common.{◌≡◌, ◌∙◌, ◌+◌, ◌≤◌, ℕ, List, [], ◌++◌, length, take, Option, Some, None, ap, sym, subst, refl, arith}
-use Rattle.std.specs.Io.KnownBytes.{Consumes, IsAtEnd, Keeps}
-use Rattle.std.proofs.lemmas.List.{length-append, length-take-le}
-use Rattle.std.proofs.lemmas.Option.{same_Some}
+use Rattle.std.{proofs.lemmas.List.{length-append, length-take-le}, proofs.lemmas.Option.{same_Some}, specs.Io.KnownBytes.{Consumes, IsAtEnd, Keeps}}
 
 -- what is left behind the octets read
 pub consumed : (a b : Option (List ℕ)) (rest octets : List ℕ) → a ≡ Some rest → Consumes a b octets

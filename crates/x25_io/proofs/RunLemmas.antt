@@ -1,16 +1,8 @@
 -- What a run comes to.
-use Rattle.std.proofs.Common.{◌≡◌, ◌∙◌, ◌<◌, ◌≤◌, ◌-◌, ◌^◌, ℕ, List, [], length, Option, Some, None, Result, Ok, Err, refl}
-use Rattle.std.specs.Prelude.{IfOk, IsErrOf, MatchResult}
-use Rattle.std.specs.Result.{IsErrAnd}
-use Rattle.std.specs.Io.KnownBytes.{Appends}
-use Rattle.std.proofs.KnownBytes.{Appends-nil}
-use Rattle.std.proofs.lemmas.Result.{on_ok_weaker}
-use Rattle.x25_io.specs.code.MarksFaults.{MarksFaults}
-use Rattle.x25_io.specs.code.Runs.{Answers, MarksDevices, Program, Runs}
-use Rattle.x25_io.specs.code.Written.{AppendsPrefix}
-use Rattle.x25_io.specs.declared.device.Sink.{Ghosts as SinkGhosts}
-use Rattle.x25_io.specs.declared.device.Source.{Ghosts as SourceGhosts}
-use Rattle.x25_io.specs.declared.fault.Fault.{Fault}
+use Rattle.std.proofs.{Common.{◌≡◌, ◌∙◌, ◌<◌, ◌≤◌, ◌-◌, ◌^◌, ℕ, List, [], length, Option, Some, None, Result, Ok, Err, refl}, KnownBytes.{Appends-nil}}
+use Rattle.std.{proofs.lemmas.Result.{on_ok_weaker}, specs.Io.KnownBytes.{Appends}, specs.Prelude.{IfOk, IsErrOf, MatchResult}, specs.Result.{IsErrAnd}}
+use Rattle.x25_io.specs.code.{MarksFaults.{MarksFaults}, Runs.{Answers, MarksDevices, Program, Runs}, Written.{AppendsPrefix}}
+use Rattle.x25_io.specs.declared.{device.Sink.{Ghosts as SinkGhosts}, device.Source.{Ghosts as SourceGhosts}, fault.Fault.{Fault}}
 use Rattle.x25_io.specs.declared.fault.Fault.TheVariants.{Read, NoMemory}
 
 -- no read failed

@@ -1,10 +1,7 @@
 -- A text in pieces, as lines.
 use Rattle.std.proofs.Common.{◌≡◌, ◌∙◌, ℕ, List, [], ◌∷◌, ◌++◌, append_assoc, ap, refl, sym, subst}
-use Rattle.x25_io.specs.HeldLine.{HoldsLine}
-use Rattle.x25_io.specs.declared.held_line.HeldLine.{HeldLine}
-use Rattle.x25_io.specs.Lines.{IsOpen, lines_of}
-use Rattle.x25_io.specs.code.LinesLead.{LinesEnded, LinesLead}
-use Rattle.x25_io.proofs.LineLemmas.{ends_line, ends_text, open-append}
+use Rattle.x25_io.{proofs.LineLemmas.{ends_line, ends_text, open-append}, specs.HeldLine.{HoldsLine}, specs.Lines.{IsOpen, lines_of}}
+use Rattle.x25_io.specs.{code.LinesLead.{LinesEnded, LinesLead}, declared.held_line.HeldLine.{HeldLine}}
 
 no_lines : lines_of [] ≡ []
 unfolding lines_of

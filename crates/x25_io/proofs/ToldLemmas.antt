@@ -1,9 +1,6 @@
 -- What was told, as it is written.
-use Rattle.std.proofs.Common.{◌≡◌, ◌∙◌, ℕ, List, [], ◌++◌, Option, Result, Ok, Err, append_assoc, ap, sym, subst}
-use Rattle.std.specs.Prelude.{OnOk, MatchResult}
-use Rattle.std.specs.Io.KnownBytes.{Appends}
-use Rattle.std.proofs.lemmas.List.{append-nil}
-use Rattle.std.proofs.KnownBytes.{Appends-nil, Appends-trans}
+use Rattle.std.proofs.{Common.{◌≡◌, ◌∙◌, ℕ, List, [], ◌++◌, Option, Result, Ok, Err, append_assoc, ap, sym, subst}, KnownBytes.{Appends-nil, Appends-trans}}
+use Rattle.std.{proofs.lemmas.List.{append-nil}, specs.Io.KnownBytes.{Appends}, specs.Prelude.{OnOk, MatchResult}}
 use Rattle.x25_io.specs.code.Written.{AppendsPrefix, Tells}
 
 -- nothing was told

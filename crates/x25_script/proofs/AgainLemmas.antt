@@ -1,23 +1,16 @@
 -- A line that is spelled is read.
-use Rattle.std.proofs.Common.{ℕ, ◌≤◌, ◌≡◌, ◌∙◌, Bool, true, false, List, [], ◌∷◌, ◌++◌, Option, Some, None, refl, ap, sym, subst, arith, append-nil}
-use Rattle.std.specs.Prelude.{cond, option_and_then, option_map, codes, decimal}
-use Rattle.std.specs.List.{list_all}
-use Rattle.std.proofs.lemmas.Bool.{lt-ltb, ne_eqb}
-use Rattle.std.proofs.lemmas.Fmt.{digits_decimal}
-use Rattle.x25_bits.specs.declared.role.Role.{Role}
-use Rattle.x25_bits.specs.declared.role.Role.TheVariants.{Dte, Dce}
+use Rattle.x25_script.proofs.Names.{ℕ, ◌≤◌, ◌≡◌, ◌∙◌, Bool, true, false, List, [], ◌∷◌, ◌++◌, Option, Some, None, refl, ap, sym, subst, arith, cond, option_map}
+use Rattle.x25_script.proofs.Names.{codes, decimal, list_all, Role, Dte, Dce, Given, PlainCommand, call, accept, clear, send, interrupt, reset, ready}
+use Rattle.x25_script.proofs.Names.{not_ready, restart, pull, connect, disconnect, probe, relink, with_given, PlainLine, command, t1, deliver, lose, damage}
+use Rattle.x25_script.proofs.Names.{drain, heal, end_text, direction_text, q_text, address_text, Writes, given_text, SpellsPart, SpellsCommand, Spells}
+use Rattle.x25_script.proofs.Names.{parts_of, number_in, small_number_in, labelled_in, octets_in, d_in, IsNotBehind, part_in, with_fields, command_in, line_in}
+use Rattle.std.{proofs.Common.{append-nil}, proofs.lemmas.Bool.{lt-ltb, ne_eqb}, proofs.lemmas.Fmt.{digits_decimal}, specs.Prelude.{option_and_then}}
 use Rattle.x25_circuit.specs.declared.params.Params.{Params}
-use Rattle.x25_script.specs.declared.given.Given.{Given}
-use Rattle.x25_script.specs.ScriptLine.{PlainCommand, call, accept, clear, send, interrupt, reset, ready, not_ready, restart, pull, connect, disconnect, probe}
-use Rattle.x25_script.specs.ScriptLine.{relink, with_given, PlainLine, command, t1, deliver, lose, damage, drain, heal}
-use Rattle.x25_script.specs.Reading.Spelling.{end_text, direction_text, q_text, address_text, IsAddress, IsNumber, Writes, AreParams, params_text, IsSmall}
-use Rattle.x25_script.specs.Reading.Spelling.{IsGiven, given_text, d_text, SpellsPart, SpellsCommand, Spells}
-use Rattle.x25_script.specs.Reading.{parts_of, number_in, small_number_in, params_in, with_params_of, with_params_in, labelled_in, one_given, given_of}
-use Rattle.x25_script.specs.Reading.{given_in, with_given_of, with_given_in, giving_on, call_in, accept_in, octets_in, d_in, send_in, interrupt_in, on_channel}
-use Rattle.x25_script.specs.Reading.{IsNotBehind, part_in, with_in, with_fields, command_in, lose_in, damage_in, drain_in, line_in}
-use Rattle.x25_script.proofs.NumberLemmas.{own, number_again}
+use Rattle.x25_script.proofs.{NumberLemmas.{own, number_again}, PartLemmas.{from_again, q_again, address_again, octets_again}}
 use Rattle.x25_script.proofs.PartLemmas.{with_d, d_none, parts_again, whole_again, no_blank, octets_no_blank, digits_no_blank, address_no_blank, end_again}
-use Rattle.x25_script.proofs.PartLemmas.{from_again, q_again, address_again, octets_again}
+use Rattle.x25_script.specs.Reading.{params_in, with_params_of, with_params_in, one_given, given_of, given_in, with_given_of, with_given_in, giving_on, call_in}
+use Rattle.x25_script.specs.Reading.{accept_in, send_in, interrupt_in, on_channel, with_in, lose_in, damage_in, drain_in}
+use Rattle.x25_script.specs.Reading.Spelling.{IsAddress, IsNumber, AreParams, params_text, IsSmall, IsGiven, d_text}
 
 -- a step after one that reads
 bind_again : {A B : Type 0} (read : Option A) (f : A → Option B) (x : A) (y : B) → read ≡ Some x → f x ≡ Some y → option_and_then f read ≡ Some y

@@ -1,12 +1,9 @@
 -- What a line carries is octets.
-use Rattle.std.proofs.Common.{ℕ, ◌<◌, List, [], ◌∷◌, Option, Some, None, arith}
+use Rattle.x25_script.proofs.Names.{ℕ, ◌<◌, List, [], ◌∷◌, Option, Some, None, arith, decode_of-ok, PlainCommand, call, accept, clear, send, interrupt, reset}
+use Rattle.x25_script.proofs.Names.{ready, not_ready, restart, pull, connect, disconnect, probe, relink, with_given, PlainLine, command, t1, deliver, lose}
 use Rattle.std.proofs.lemmas.List.Elements.{All-nil, All-from_get_or}
-use Rattle.hex.proofs.HexLemmas.{decode_of-ok}
-use Rattle.x25_script.specs.HexDigits.{AreOctets}
-use Rattle.x25_script.specs.ScriptLine.{PlainCommand, call, accept, clear, send, interrupt, reset, ready, not_ready, restart, pull, connect, disconnect, probe}
-use Rattle.x25_script.specs.ScriptLine.{relink, with_given, PlainLine, command, t1, deliver, lose, damage, drain, heal}
-use Rattle.x25_script.specs.laws.ReadingLaw.{IsOctet, PartInOctets, AsksInOctets, IsInOctets}
-use Rattle.x25_script.specs.Reading.Spelling.{Writes, IsSmall, SpellsPart, SpellsCommand, Spells}
+use Rattle.x25_script.{proofs.Names.{damage, drain, heal, Writes, SpellsPart, SpellsCommand, Spells}, specs.HexDigits.{AreOctets}}
+use Rattle.x25_script.specs.{Reading.Spelling.{IsSmall}, laws.ReadingLaw.{IsOctet, PartInOctets, AsksInOctets, IsInOctets}}
 
 written : (text octets : List ℕ) → Writes text octets → AreOctets octets
 written text [] h = All-nil (λ octet. octet < 256)

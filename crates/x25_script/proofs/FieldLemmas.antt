@@ -1,17 +1,9 @@
 -- The parts of a text at its first blank, and texts of digits.
-use Rattle.std.proofs.Common.{ℕ, zero, suc, ◌+◌, ◌==◌, ◌<◌, ◌≡◌, ◌∙◌, Bool, true, false, List, [], ◌∷◌, length, get_or, take, drop, Some, None, nat_lt, refl}
-use Rattle.std.proofs.Common.{ap, sym, arith, add-one}
-use Rattle.std.specs.Prelude.{option_map, cond}
-use Rattle.std.specs.Char.{is_ascii_digit}
-use Rattle.std.specs.List.{list_all, position, position_or_len}
+use Rattle.x25_script.proofs.Names.{ℕ, ◌==◌, ◌<◌, ◌≡◌, ◌∙◌, Bool, true, false, List, [], ◌∷◌, length, take, drop, Some, None, refl, ap, sym, arith, option_map}
+use Rattle.std.proofs.{Common.{zero, suc, ◌+◌, get_or, nat_lt, add-one}, lemmas.List.Quantifiers.{position-Some}, lemmas.List.Sums.{fails_before_first}}
+use Rattle.std.{proofs.lemmas.Str.{IsUtf8-from_ascii}, proofs.lemmas.Str.Ascii.{IsAscii-nil, IsAscii-cons}, specs.List.{position, position_or_len}}
 use Rattle.std.specs.Str.{IsAscii, IsUtf8}
-use Rattle.std.proofs.lemmas.Bool.{and_parts}
-use Rattle.std.proofs.lemmas.Bool.Decides.{nat_tests}
-use Rattle.std.proofs.lemmas.List.Quantifiers.{position-Some}
-use Rattle.std.proofs.lemmas.List.Sums.{fails_before_first}
-use Rattle.std.proofs.lemmas.Str.{IsUtf8-from_ascii}
-use Rattle.std.proofs.lemmas.Str.Ascii.{IsAscii-nil, IsAscii-cons}
-use Rattle.x25_script.specs.Reading.{parts_of, onto_first}
+use Rattle.x25_script.{proofs.Names.{cond, is_ascii_digit, list_all, and_parts, nat_tests, parts_of}, specs.Reading.{onto_first}}
 
 abbrev is_blank : ℕ → Bool
 is_blank character = character == 32

@@ -1,26 +1,19 @@
 -- A line is read exactly where it is spelled.
-use Rattle.std.proofs.Common.{ℕ, Bool, true, false, ◌==◌, ◌≤◌, ◌≡◌, ◌∙◌, inl, inr, List, ◌∷◌, ◌++◌, length, take, drop, Option, Some, None, refl, ap, sym}
-use Rattle.std.proofs.Common.{subst, arith, append-nil}
-use Rattle.std.specs.Prelude.{cond, option_map, codes, decimal, nat_lt}
-use Rattle.std.specs.Str.{bytes_eq}
-use Rattle.std.proofs.lemmas.Bool.{eqb-false, ltb-true}
-use Rattle.std.proofs.lemmas.Option.{same_Some, none-some, cond_some}
-use Rattle.x25_bits.specs.declared.role.Role.{Role}
+use Rattle.x25_script.proofs.Names.{ℕ, Bool, true, false, ◌==◌, ◌≤◌, ◌≡◌, ◌∙◌, List, ◌∷◌, ◌++◌, length, take, drop, Option, Some, None, refl, ap, sym, subst}
+use Rattle.x25_script.proofs.Names.{arith, cond, option_map, codes, decimal, bytes_eq, none-some, Role, Given, PlainCommand, call, accept, clear, send}
+use Rattle.x25_script.proofs.Names.{interrupt, reset, ready, not_ready, restart, pull, connect, disconnect, probe, relink, with_given, PlainLine, heal}
+use Rattle.x25_script.proofs.Names.{end_text, direction_text, q_text, address_text, given_text, SpellsPart, SpellsCommand, Spells, parts_of, number_in}
+use Rattle.std.proofs.{Common.{inl, inr, append-nil}, lemmas.Bool.{eqb-false, ltb-true}, lemmas.Option.{same_Some, cond_some}}
+use Rattle.std.specs.Prelude.{nat_lt}
 use Rattle.x25_circuit.specs.declared.params.Params.{Params}
-use Rattle.x25_script.specs.declared.given.Given.{Given}
-use Rattle.x25_script.specs.ScriptLine.{PlainCommand, call, accept, clear, send, interrupt, reset, ready, not_ready, restart, pull, connect, disconnect, probe}
-use Rattle.x25_script.specs.ScriptLine.{relink, with_given, PlainLine, heal}
-use Rattle.x25_script.specs.Reading.Spelling.{end_text, direction_text, q_text, address_text, IsNumber, AreParams, params_text, IsGiven, given_text, d_text}
-use Rattle.x25_script.specs.Reading.Spelling.{SpellsPart, SpellsCommand, Spells}
+use Rattle.x25_script.proofs.{Names.{octets_in, small_number_in, labelled_in, part_in, d_in, with_fields, command_in, line_in}, NumberLemmas.{number_found}}
+use Rattle.x25_script.proofs.PartLemmas.{with_d, chosen, bind_found, map_found, begun, IsText, word_step, parts_joined, end_found, from_found, q_found}
+use Rattle.x25_script.{proofs.PartLemmas.{address_found, octets_found}, specs.Reading.{bare_line_in, line_of}}
 use Rattle.x25_script.specs.Reading.{Keyword, End, T1, Deliver, Lose, Damage, Drain, Verb, Call, Accept, Clear, Send, Interrupt, Reset, Restart, Ready}
-use Rattle.x25_script.specs.Reading.{NotReady, With}
-use Rattle.x25_script.specs.Reading.{parts_of, end_in, from_in, q_in, number_in, address_in, octets_in, verb_in, keyword_in, small_number_in, params_in}
-use Rattle.x25_script.specs.Reading.{with_params_of, with_params_in, labelled_in, nothing_given, one_given, given_of, given_in, with_given_of, with_given_in}
-use Rattle.x25_script.specs.Reading.{giving_on, restart_in, call_in, accept_in, send_in, interrupt_in, on_channel, part_fields, part_in, d_in, with_in}
-use Rattle.x25_script.specs.Reading.{with_fields, bare_command_in, command_of, command_in, lose_in, damage_in, drain_in, after, bare_line_in, line_of, line_in}
-use Rattle.x25_script.proofs.NumberLemmas.{number_found}
-use Rattle.x25_script.proofs.PartLemmas.{with_d, chosen, bind_found, map_found, begun, IsText, word_step, parts_joined, end_found, from_found, q_found, address_found}
-use Rattle.x25_script.proofs.PartLemmas.{octets_found}
+use Rattle.x25_script.specs.Reading.{NotReady, With, end_in, from_in, q_in, address_in, verb_in, keyword_in, params_in, with_params_of, with_params_in}
+use Rattle.x25_script.specs.Reading.{nothing_given, one_given, given_of, given_in, with_given_of, with_given_in, giving_on, restart_in, call_in, accept_in}
+use Rattle.x25_script.specs.Reading.{send_in, interrupt_in, on_channel, part_fields, with_in, bare_command_in, command_of, lose_in, damage_in, drain_in, after}
+use Rattle.x25_script.specs.Reading.Spelling.{IsNumber, AreParams, params_text, IsGiven, d_text}
 
 -- ---- what is read is spelled so
 

@@ -1,3 +1,4 @@
+pub mod Names
 pub mod FieldLemmas
 pub mod NumberLemmas
 pub mod OctetLemmas

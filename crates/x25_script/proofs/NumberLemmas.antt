@@ -1,17 +1,10 @@
 -- A number and its decimal text.
-use Rattle.std.proofs.Common.{ℕ, zero, suc, ◌^◌, ◌<◌, ◌≤◌, ◌≡◌, ◌∙◌, Bool, true, false, List, length, get_or, drop, Option, Some, None, nat_lt, refl, ap, sym}
-use Rattle.std.proofs.Common.{subst, arith, rules}
-use Rattle.std.specs.Prelude.{cond, decimal, ◌==◌, ◌&&◌, if◌then◌else◌}
-use Rattle.std.specs.Char.{is_ascii_digit}
-use Rattle.std.specs.List.{list_all}
-use Rattle.std.specs.Str.{bytes_eq}
-use Rattle.std.specs.Str.Parse.{digits_value, digits_value_after}
-use Rattle.std.proofs.lemmas.Bool.{and_parts, and_from, ltb-true, lt-ltb}
+use Rattle.x25_script.proofs.Names.{ℕ, ◌<◌, ◌≤◌, ◌≡◌, ◌∙◌, Bool, true, false, List, length, drop, Option, Some, None, refl, ap, sym, subst, arith, cond}
+use Rattle.x25_script.proofs.Names.{decimal, ◌&&◌, is_ascii_digit, list_all, bytes_eq, and_parts, number_in}
+use Rattle.std.proofs.{Common.{zero, suc, ◌^◌, get_or, nat_lt, rules}, lemmas.Bool.{and_from, ltb-true, lt-ltb}}
 use Rattle.std.proofs.lemmas.Fmt.{decimal_digit, decimal_nonempty, first_decimal, digits_decimal, digits_value-decimal, decimal-digits_value, length-decimal-le}
-use Rattle.std.proofs.lemmas.Slice.Eq.{bytes_eq-Decides}
-use Rattle.std.proofs.lemmas.Str.Parse.{IsNumeralModel, numerals_by_value}
-use Rattle.std.proofs.lemmas.Option.{cond_some}
-use Rattle.x25_script.specs.Reading.{number_in}
+use Rattle.std.proofs.lemmas.{Option.{cond_some}, Slice.Eq.{bytes_eq-Decides}, Str.Parse.{IsNumeralModel, numerals_by_value}}
+use Rattle.std.specs.{Prelude.{◌==◌, if◌then◌else◌}, Str.Parse.{digits_value, digits_value_after}}
 
 pub own : IsNumeralModel (λ digits. list_all is_ascii_digit digits ≡ true) (digits_value 10)
 own = numerals_by_value _ (search rules)

@@ -1,16 +1,9 @@
 -- Octets and the hexadecimal digits that write them.
-use Rattle.std.proofs.Common.{ℕ, ◌*◌, ◌%◌, ◌≡◌, ◌∙◌, true, false, List, [], ◌∷◌, length, Option, Some, None, Result, Ok, Err, refl, ap, sym, arith}
-use Rattle.std.specs.Prelude.{◌&&◌, is_some, unwrap_or}
-use Rattle.std.specs.Char.{is_ascii_hexdigit}
-use Rattle.std.specs.List.{list_all, AllPass}
-use Rattle.std.specs.Result.{result_ok}
-use Rattle.std.proofs.lemmas.Bool.{and_parts}
-use Rattle.std.proofs.lemmas.Bool.Decides.{nat_tests}
-use Rattle.std.proofs.lemmas.List.Elements.{All-cons, All-head, All-nil, All-tail}
-use Rattle.hex.specs.declared.error.FromHexError.{FromHexError}
-use Rattle.hex.specs.Hex.{decode_of, decode_pairs, is_hex_digit}
-use Rattle.hex.proofs.HexLemmas.{decode_of-ok, decode_of-digits}
-use Rattle.x25_script.specs.HexDigits.{octets_of, octets_written, AreWritten}
+use Rattle.x25_script.proofs.Names.{ℕ, ◌≡◌, ◌∙◌, true, false, List, [], ◌∷◌, length, Option, Some, None, refl, ap, sym, arith, ◌&&◌, list_all, and_parts}
+use Rattle.hex.{proofs.HexLemmas.{decode_of-digits}, specs.Hex.{decode_of, decode_pairs, is_hex_digit}, specs.declared.error.FromHexError.{FromHexError}}
+use Rattle.std.{proofs.Common.{◌*◌, ◌%◌, Result, Ok, Err}, proofs.lemmas.List.Elements.{All-cons, All-head, All-nil, All-tail}, specs.Char.{is_ascii_hexdigit}}
+use Rattle.std.specs.{List.{AllPass}, Prelude.{is_some, unwrap_or}, Result.{result_ok}}
+use Rattle.x25_script.{proofs.Names.{nat_tests, decode_of-ok}, specs.HexDigits.{octets_of, octets_written, AreWritten}}
 
 digit_same : (c : ℕ) → is_ascii_hexdigit c ≡ is_hex_digit c
 digit_same c = grind (arith, nat_tests)

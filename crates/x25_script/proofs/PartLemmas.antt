@@ -1,27 +1,14 @@
 -- Fields apart by a blank.
-use Rattle.std.proofs.Common.{ℕ, ◌==◌, ◌≡◌, ◌≢◌, ◌∙◌, ◌⊎◌, inl, inr, Bool, true, false, List, [], ◌∷◌, ◌++◌, length, take, drop, Option, Some, None, Result, Ok}
-use Rattle.std.proofs.Common.{Err, refl, ap, sym, subst, arith}
-use Rattle.std.specs.Prelude.{cond, not, option_map, option_and_then, ◌&&◌, if◌then◌else◌, codes, nat_eq}
-use Rattle.std.specs.Char.{is_ascii_digit, is_ascii_hexdigit}
-use Rattle.std.specs.List.{list_all}
-use Rattle.std.specs.Str.{bytes_eq}
-use Rattle.std.proofs.lemmas.Bool.{and_parts, and_from, eqb-true, eqb-false, false_from_ne_true, not-true}
-use Rattle.std.proofs.lemmas.Bool.Decides.{nat_tests}
-use Rattle.std.proofs.lemmas.Slice.Eq.{bytes_eq-Decides}
-use Rattle.std.proofs.lemmas.List.{take-append-drop}
-use Rattle.std.proofs.Math.Seq.{take_at, drop-append_seam}
-use Rattle.x25_bits.specs.declared.role.Role.{Role}
-use Rattle.x25_bits.specs.declared.role.Role.TheVariants.{Dte, Dce}
-use Rattle.x25_script.specs.Reading.Spelling.{end_text, direction_text, q_text, address_text, IsAddress, Writes}
-use Rattle.x25_script.specs.Reading.{parts_of, onto_first, end_in, from_in, q_in, digits_in, address_in, octets_in, small_number_in, labelled_in, d_in}
-use Rattle.x25_script.specs.Reading.{IsNotBehind}
-use Rattle.x25_script.specs.HexDigits.{octets_of}
-use Rattle.hex.specs.declared.error.FromHexError.{FromHexError}
-use Rattle.hex.specs.Hex.{decode_of}
-use Rattle.hex.proofs.HexLemmas.{decode_of-ok}
+use Rattle.x25_script.proofs.Names.{ℕ, ◌==◌, ◌≡◌, ◌∙◌, Bool, true, false, List, [], ◌∷◌, ◌++◌, length, take, drop, Option, Some, None, refl, ap, sym, subst}
+use Rattle.x25_script.proofs.Names.{arith, cond, option_map, ◌&&◌, codes, is_ascii_digit, list_all, bytes_eq, and_parts, nat_tests, Role, Dte, Dce, end_text}
+use Rattle.x25_script.proofs.Names.{direction_text, q_text, address_text, Writes, parts_of, octets_in, small_number_in, labelled_in, d_in, IsNotBehind}
+use Rattle.hex.specs.{Hex.{decode_of}, declared.error.FromHexError.{FromHexError}}
+use Rattle.std.proofs.{Common.{◌≢◌, ◌⊎◌, inl, inr, Result, Ok, Err}, Math.Seq.{take_at, drop-append_seam}}
+use Rattle.std.proofs.lemmas.{Bool.{and_from, eqb-true, eqb-false, false_from_ne_true, not-true}, List.{take-append-drop}, Option.{same_Some}}
+use Rattle.std.{proofs.lemmas.Slice.Eq.{bytes_eq-Decides}, specs.Char.{is_ascii_hexdigit}, specs.Prelude.{not, option_and_then, if◌then◌else◌, nat_eq}}
 use Rattle.std.specs.Result.{result_ok}
-use Rattle.std.proofs.lemmas.Option.{same_Some, none-some}
-use Rattle.x25_script.proofs.OctetLemmas.{passes_digits}
+use Rattle.x25_script.{proofs.Names.{decode_of-ok, none-some}, proofs.OctetLemmas.{passes_digits}, specs.HexDigits.{octets_of}}
+use Rattle.x25_script.specs.{Reading.{onto_first, end_in, from_in, q_in, digits_in, address_in}, Reading.Spelling.{IsAddress}}
 
 -- which way a test went
 pub chosen : {A : Type 0} (b : Bool) (x y z : A) → cond b x y ≡ z → ((b ≡ true) × (x ≡ z)) ⊎ ((b ≡ false) × (y ≡ z))

@@ -1,15 +1,11 @@
 -- A line is read by its first word.
-use Rattle.std.proofs.Common.{ℕ, ◌≡◌, ◌∙◌, ◌≢◌, List, ◌∷◌, ◌++◌, Option, Some, None, refl, ap, sym, codes}
-use Rattle.std.proofs.lemmas.Option.{none-some}
-use Rattle.x25_bits.specs.declared.role.Role.TheVariants.{Dte, Dce}
-use Rattle.x25_script.specs.declared.given.Given.{Given}
-use Rattle.x25_script.specs.ScriptLine.{PlainCommand, call, accept, clear, send, interrupt, reset, ready, not_ready, restart, pull, connect, disconnect, probe}
-use Rattle.x25_script.specs.ScriptLine.{relink, with_given, PlainLine, command, t1, deliver, lose, damage, drain, heal}
-use Rattle.x25_script.specs.Reading.Spelling.{Spells, SpellsPart, SpellsCommand, given_text}
-use Rattle.x25_script.specs.Reading.{parts_of, Keyword, End, Verb, Call, part_fields, part_in, with_fields, bare_command_in, command_in, after, line_in}
-use Rattle.x25_script.specs.Reading.{IsNotBehind}
-use Rattle.x25_script.proofs.AgainLemmas.{command_again}
-use Rattle.x25_script.proofs.GrammarLemmas.{bare_found, command_found, keyword_text, line_found, part_found, verb_text}
+use Rattle.x25_script.proofs.Names.{ℕ, ◌≡◌, ◌∙◌, List, ◌∷◌, ◌++◌, Option, Some, None, refl, ap, sym, none-some, Dte, Dce, Given, PlainCommand, call, accept}
+use Rattle.x25_script.proofs.Names.{clear, send, interrupt, reset, ready, not_ready, restart, pull, connect, disconnect, probe, relink, with_given, PlainLine}
+use Rattle.x25_script.proofs.Names.{command, t1, deliver, lose, damage, drain, heal, Spells, SpellsPart, SpellsCommand, given_text, parts_of, part_in}
+use Rattle.x25_script.proofs.Names.{with_fields, command_in, line_in, IsNotBehind}
+use Rattle.std.proofs.Common.{◌≢◌, codes}
+use Rattle.x25_script.proofs.{AgainLemmas.{command_again}, GrammarLemmas.{bare_found, command_found, keyword_text, line_found, part_found, verb_text}}
+use Rattle.x25_script.specs.Reading.{Keyword, End, Verb, Call, part_fields, bare_command_in, after}
 
 -- ---- a word with a blank behind it
 

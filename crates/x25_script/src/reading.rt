@@ -1,7 +1,7 @@
 //! A line of a script read from its characters.
 ghost use Rattle.std.specs.Prelude.{◌≡◌, IfSome, Option, Some, codes, option_and_then, option_map};
 ghost use Rattle.x25_script.specs.ScriptLine.{PlainCommand, PlainLine, command, damage, drain, lose};
-ghost use Rattle.x25_script.specs.Reading.{after, damage_in, drain_in, line_in, lose_in, send_in, with_in};
+ghost use Rattle.x25_script.specs.Reading.{accept_in, after, damage_in, drain_in, line_in, lose_in, send_in, with_in};
 ghost use Rattle.x25_script.specs.Reading.{GivesCommand};
 ghost use Rattle.x25_script.specs.Reading.{Deliver, End, IsNotBehind, T1};
 ghost use Rattle.x25_script.specs.Reading.Spelling.{Spells};
@@ -60,6 +60,18 @@ fn hand_command<W, T: ScriptTaker<W>>(
         Some(command) => taker.command(end, command, with),
         None => taker.nothing(with),
     }
+}
+
+fn read_accept<W, T: ScriptTaker<W>>(
+    end: Role,
+    fields: &[u8],
+    taker: &mut T,
+    with: &mut W,
+) -> T::Answer
+    ensures { T.gives taker.old with.old taker.new with.new result
+        (option_and_then (λ asked. Some (command end asked)) (accept_in fields.now)) }
+{
+    hand_command(end, accept(fields, None), taker, with)
 }
 
 fn read_send<W, T: ScriptTaker<W>>(
@@ -131,7 +143,7 @@ pub fn read_command<W, T: ScriptTaker<W>>(
         return read_send(end, fields, taker, with);
     }
     if let Some(fields) = behind(text, b"accept ") {
-        return hand_command(end, accept(fields, None), taker, with);
+        return read_accept(end, fields, taker, with);
     }
     read_other(end, text, taker, with)
 }

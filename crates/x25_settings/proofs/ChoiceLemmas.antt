@@ -1,24 +1,15 @@
 -- The words behind a command, one after another.
 use Rattle.std.proofs.Common.{◌≡◌, ◌∙◌, ◌≤◌, ◌<◌, ℕ, Bool, true, false, List, [], ◌∷◌, Option, Some, None, ap, refl, sym, subst, arith, codes, decimal}
-use Rattle.std.specs.Prelude.{cond, option_and_then, is_some, unwrap_or, IfSome}
-use Rattle.std.specs.List.{find, flat_map}
-use Rattle.std.specs.Str.{bytes_eq}
-use Rattle.std.proofs.lemmas.Option.{same_Some}
-use Rattle.std.proofs.lemmas.Slice.Eq.{bytes_eq-Decides}
-use Rattle.x25_settings.specs.declared.options.At.{At}
-use Rattle.x25_settings.specs.declared.options.At.TheVariants as at
-use Rattle.x25_settings.specs.declared.options.Chosen.{Chosen}
-use Rattle.x25_settings.specs.declared.options.Flag.{Flag}
-use Rattle.x25_settings.specs.declared.options.Flag.TheVariants.{Clock}
-use Rattle.x25_settings.specs.declared.options.Kind.{Kind}
-use Rattle.x25_settings.specs.declared.options.Kind.TheVariants.{Decode}
-use Rattle.x25_settings.specs.declared.options.Numbered.{Numbered}
-use Rattle.x25_settings.specs.declared.options.Numbered.TheVariants.{Window, Tries, Channels, Message}
-use Rattle.x25_settings.specs.Options.Choosing.{at_in, number_in, flags, flag_in, numbers, numbered_in, places, put_flag, put_fresh, put_read, put_text}
-use Rattle.x25_settings.specs.Options.Choosing.{put_number, put_pair, put_place, chosen_in}
+use Rattle.std.{proofs.lemmas.Option.{same_Some}, proofs.lemmas.Slice.Eq.{bytes_eq-Decides}, specs.List.{find, flat_map}}
+use Rattle.std.specs.{Prelude.{cond, option_and_then, is_some, unwrap_or, IfSome}, Str.{bytes_eq}}
+use Rattle.x25_settings.proofs.NumberLemmas.{number_found, number_read}
 use Rattle.x25_settings.specs.Options.{Choice, flag, number, place, at_word, flag_word, word_of, least_of, most_of, words_of, nothing, chosen_flag, with_flag}
 use Rattle.x25_settings.specs.Options.{chosen_number, with_number, takes, has, has_place, IsInRange, IsOpen, Leads, settled, Choose, AreInRange}
-use Rattle.x25_settings.proofs.NumberLemmas.{number_found, number_read}
+use Rattle.x25_settings.specs.Options.Choosing.{at_in, number_in, flags, flag_in, numbers, numbered_in, places, put_flag, put_fresh, put_read, put_text}
+use Rattle.x25_settings.specs.{Options.Choosing.{put_number, put_pair, put_place, chosen_in}, declared.options.At.{At}, declared.options.Chosen.{Chosen}}
+use Rattle.x25_settings.specs.declared.options.{Flag.{Flag}, Flag.TheVariants.{Clock}, Kind.{Kind}, Kind.TheVariants.{Decode}, Numbered.{Numbered}}
+use Rattle.x25_settings.specs.declared.options.Numbered.TheVariants.{Window, Tries, Channels, Message}
+use Rattle.x25_settings.specs.declared.options.At.TheVariants as at
 
 -- ---- a word among some
 

@@ -1,14 +1,8 @@
 -- A number and its decimal text.
 use Rattle.std.proofs.Common.{◌≡◌, ◌∙◌, ◌<◌, ◌≤◌, ℕ, true, List, Option, Some, None, Result, nat_le, ap, refl, sym, subst, arith, decimal}
-use Rattle.std.specs.Prelude.{cond, ◌&&◌}
-use Rattle.std.specs.Str.{bytes_eq}
+use Rattle.std.proofs.lemmas.{Bool.{and_parts, and_from}, Bool.Decides.{nat_tests}, Fmt.{decimal_is_IsNumeral, parse-decimal}, Option.{cond_some}}
+use Rattle.std.{proofs.lemmas.Slice.Eq.{bytes_eq-Decides}, specs.Prelude.{cond, ◌&&◌}, specs.Result.{result_ok}, specs.Str.{bytes_eq}}
 use Rattle.std.specs.Str.Parse.{ParsesUnsigned, digits_value}
-use Rattle.std.specs.Result.{result_ok}
-use Rattle.std.proofs.lemmas.Bool.{and_parts, and_from}
-use Rattle.std.proofs.lemmas.Bool.Decides.{nat_tests}
-use Rattle.std.proofs.lemmas.Fmt.{decimal_is_IsNumeral, parse-decimal}
-use Rattle.std.proofs.lemmas.Slice.Eq.{bytes_eq-Decides}
-use Rattle.std.proofs.lemmas.Option.{cond_some}
 use Rattle.x25_settings.specs.Options.Choosing.{number_in}
 
 -- what is read is in its range, and written so

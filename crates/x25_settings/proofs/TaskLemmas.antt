@@ -1,25 +1,15 @@
 -- What the words of the command line say.
-use Rattle.std.proofs.Common.{◌≡◌, ◌∙◌, ℕ, Bool, true, false, List, [], ◌∷◌, Option, Some, None, ap, refl, sym, subst, codes}
-use Rattle.std.specs.Prelude.{cond, option_and_then, option_map}
+use Rattle.std.proofs.{Common.{◌≡◌, ◌∙◌, ℕ, Bool, true, false, List, [], ◌∷◌, Option, Some, None, ap, refl, sym, subst, codes}, lemmas.Bool.{and_parts}}
+use Rattle.std.{proofs.lemmas.Option.{same_Some}, proofs.lemmas.Slice.Eq.{bytes_eq-Decides}, specs.Prelude.{cond, option_and_then, option_map}}
 use Rattle.std.specs.Str.{bytes_eq}
-use Rattle.std.proofs.lemmas.Slice.Eq.{bytes_eq-Decides}
-use Rattle.std.proofs.lemmas.Bool.{and_parts}
-use Rattle.std.proofs.lemmas.Option.{same_Some}
-use Rattle.x25_settings.specs.declared.options.Chosen.{Chosen}
-use Rattle.x25_settings.specs.declared.options.End.{End}
-use Rattle.x25_settings.specs.declared.options.End.TheVariants.{Dte, Dce}
-use Rattle.x25_settings.specs.declared.options.Kind.{Kind}
-use Rattle.x25_settings.specs.declared.options.Kind.TheVariants as kind
-use Rattle.x25_settings.specs.declared.options.Place.{Place}
-use Rattle.x25_settings.specs.declared.options.Simulation.{Simulation}
-use Rattle.x25_settings.specs.declared.words.Task.{Task}
-use Rattle.x25_settings.specs.declared.words.Task.TheVariants.{Decode, Vectors, Sim, Station, Judge, Deframe, Frame}
-use Rattle.x25_settings.specs.Options.Choosing.{chosen_in, read_decoding, read_framing, read_judging, read_place, read_simulation, place_behind, place_of}
-use Rattle.x25_settings.specs.Options.Choosing.{end_in, deframe_in, vectors_in, task_behind, task_in}
-use Rattle.x25_settings.specs.Options.{nothing, decoded, fits_together, judged, placed, simulated, end_word, JudgingIsInRange}
-use Rattle.x25_settings.specs.Options as options
-use Rattle.x25_settings.specs.Words.{AreInRange, ChooseBehind, Say}
 use Rattle.x25_settings.proofs.ChoiceLemmas.{found, in_range, read, word_found}
+use Rattle.x25_settings.specs.Options.{nothing, decoded, fits_together, judged, placed, simulated, end_word, JudgingIsInRange}
+use Rattle.x25_settings.specs.Options.Choosing.{chosen_in, read_decoding, read_framing, read_judging, read_place, read_simulation, place_behind, place_of}
+use Rattle.x25_settings.specs.{Options.Choosing.{end_in, deframe_in, vectors_in, task_behind, task_in}, Words.{AreInRange, ChooseBehind, Say}}
+use Rattle.x25_settings.specs.declared.options.{Chosen.{Chosen}, End.{End}, End.TheVariants.{Dte, Dce}, Kind.{Kind}, Place.{Place}, Simulation.{Simulation}}
+use Rattle.x25_settings.specs.declared.words.{Task.{Task}, Task.TheVariants.{Decode, Vectors, Sim, Station, Judge, Deframe, Frame}}
+use Rattle.x25_settings.specs.declared.options.Kind.TheVariants as kind
+use Rattle.x25_settings.specs.Options as options
 
 pub none_said : (words : List (List ℕ)) → words ≡ [] → task_in words ≡ None
 unfolding task_in

@@ -294,19 +294,13 @@ impl Word {
     }
 }
 
-/// A command, with one more word where that was made. What is left over at a refusal, here and below, is let go of by
-/// one call: as its scope ends a body does it part by part, which the prover follows.
-fn with_word<'a>(
-    command: Command<'a>,
-    arg: Result<Arg<'a>, AllocError>,
-) -> Result<Command<'a>, AllocError> {
-    match arg {
-        Ok(arg) => command.arg(arg),
-        Err(error) => {
-            drop(command);
-            Err(error)
-        }
-    }
+/// Two that were made, or the first refusal. A body that knows their types lets go of what is left over at a refusal
+/// part by part, which the prover follows.
+fn both<A: Drop, B: Drop>(
+    first: Result<A, AllocError>,
+    second: Result<B, AllocError>,
+) -> Result<(A, B), AllocError> {
+    Ok((first?, second?))
 }
 
 /// A command that was made, with one more word.
@@ -314,27 +308,8 @@ fn with_arg<'a>(
     command: Result<Command<'a>, AllocError>,
     arg: Result<Arg<'a>, AllocError>,
 ) -> Result<Command<'a>, AllocError> {
-    match command {
-        Ok(command) => with_word(command, arg),
-        Err(error) => {
-            drop(arg);
-            Err(error)
-        }
-    }
-}
-
-/// The program, with one more command where that was made.
-fn with_made<'a>(
-    program: Command<'a>,
-    command: Result<Command<'a>, AllocError>,
-) -> Result<Command<'a>, AllocError> {
-    match command {
-        Ok(command) => program.subcommand(command),
-        Err(error) => {
-            drop(program);
-            Err(error)
-        }
-    }
+    let (command, arg) = both(command, arg)?;
+    command.arg(arg)
 }
 
 /// The program that was made, with one more command.
@@ -342,13 +317,8 @@ fn with_command<'a>(
     program: Result<Command<'a>, AllocError>,
     command: Result<Command<'a>, AllocError>,
 ) -> Result<Command<'a>, AllocError> {
-    match program {
-        Ok(program) => with_made(program, command),
-        Err(error) => {
-            drop(command);
-            Err(error)
-        }
-    }
+    let (program, command) = both(program, command)?;
+    program.subcommand(command)
 }
 
 /// A command, with none of its words yet.

@@ -1,7 +1,5 @@
-use Rattle.std.proofs.Common.{◌≡◌, ◌∙◌, ap, sym, refl, Bool, true, false, List, [], ◌∷◌, ℕ}
-use Rattle.std.specs.Prelude.{cond}
-use Rattle.std.specs.Str.{IsUtf8, is_utf8}
-use Rattle.std.proofs.lemmas.Str.{is_utf8-from_IsUtf8, IsUtf8-from_is_utf8}
+use Rattle.std.proofs.{Common.{◌≡◌, ◌∙◌, ap, sym, refl, Bool, true, false, List, [], ◌∷◌, ℕ}, lemmas.Str.{is_utf8-from_IsUtf8, IsUtf8-from_is_utf8}}
+use Rattle.std.specs.{Prelude.{cond}, Str.{IsUtf8, is_utf8}}
 use Rattle.x25_c.specs.Dialing.{dialed}
 use Rattle.x25_c.proofs.dialing.dialed.Goals as goal
 

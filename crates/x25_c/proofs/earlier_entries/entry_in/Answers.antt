@@ -1,8 +1,5 @@
-use Rattle.std.proofs.Common.{◌∙◌, ◌-◌, ap, arith, sym}
-use Rattle.std.specs.Prelude.{slice_get}
-use Rattle.std.proofs.lemmas.List.{drop_all}
-use Rattle.x25_c.specs.code.EarlierEntries.{entries_in}
-use Rattle.x25_c.proofs.EarlierLemmas.{found_here, found_behind}
+use Rattle.std.{proofs.Common.{◌∙◌, ◌-◌, ap, arith, sym}, proofs.lemmas.List.{drop_all}, specs.Prelude.{slice_get}}
+use Rattle.x25_c.{proofs.EarlierLemmas.{found_here, found_behind}, specs.code.EarlierEntries.{entries_in}}
 use Rattle.x25_c.proofs.earlier_entries.entry_in.Goals as goal
 
 pub returns-then-left-len : goal.returns-then-left-len

@@ -1,5 +1,4 @@
-use Rattle.std.proofs.Common.{◌≡◌, drop}
-use Rattle.std.specs.Prelude.{slice_get}
+use Rattle.std.{proofs.Common.{◌≡◌, drop}, specs.Prelude.{slice_get}}
 use Rattle.x25_c.specs.code.EarlierEntries.{entries_in}
 use Rattle.x25_c.proofs.earlier_entries.entry_in.Given as goal
 

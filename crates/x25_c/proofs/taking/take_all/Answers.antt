@@ -1,9 +1,7 @@
-use Rattle.std.proofs.Common.{◌≡◌, ◌∙◌, ◌+◌, ◌-◌, Some, ap, arith, drop, inl, inr, length, set, subst, sym}
-use Rattle.std.specs.Prelude.{slice_get}
-use borrow.Rule.Slice.PartMut.{put_mid}
+use Rattle.std.{proofs.Common.{◌≡◌, ◌∙◌, ◌+◌, ◌-◌, Some, ap, arith, drop, inl, inr, length, set, subst, sym}, specs.Prelude.{slice_get}}
+use Rattle.x25_c.proofs.{ItemLemmas.{at_drop}, TakeLemmas.{AreTaken, all_gone, events_are, octets_are, one_more, too_long}}
 use Rattle.x25_c.specs.Item.{event_at, items_of, octets_at, plain_item}
-use Rattle.x25_c.proofs.ItemLemmas.{at_drop}
-use Rattle.x25_c.proofs.TakeLemmas.{AreTaken, all_gone, events_are, octets_are, one_more, too_long}
+use borrow.Rule.Slice.PartMut.{put_mid}
 use Rattle.x25_c.proofs.taking.take_all.Goals as goal
 
 pub returns-then-octets-room : goal.returns-then-octets-room

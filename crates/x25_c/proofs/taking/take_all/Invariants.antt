@@ -1,6 +1,5 @@
 use Rattle.std.proofs.Common.{drop}
-use Rattle.x25_c.specs.Item.{event_at, items_of, octets_at}
-use Rattle.x25_c.proofs.TakeLemmas.{AreTaken}
+use Rattle.x25_c.{proofs.TakeLemmas.{AreTaken}, specs.Item.{event_at, items_of, octets_at}}
 use Rattle.x25_c.proofs.taking.take_all.Given as goal
 
 abbrev pub invariant-loop-place : goal.invariant-loop-place

@@ -1,10 +1,8 @@
-use Rattle.std.proofs.Common.{◌∙◌, ◌++◌, append_assoc, ap, map, take, subst, sym}
-use Rattle.std.proofs.lemmas.Result.{err_from_is_err_and}
+use Rattle.std.proofs.{Common.{◌∙◌, ◌++◌, append_assoc, ap, map, take, subst, sym}, lemmas.Result.{err_from_is_err_and}}
+use Rattle.x25_console.{proofs.LinesLemmas.{all_parts, lines_of_all}, specs.Telling.{entries_text}}
+use Rattle.x25_io.proofs.ToldLemmas.{part_of_all}
 use Rattle.x25_io.specs.code.Written.{AppendsPrefix}
 use Rattle.x25_station.specs.code.PlainEntry.{plain_entry}
-use Rattle.x25_console.specs.Telling.{entries_text}
-use Rattle.x25_io.proofs.ToldLemmas.{part_of_all}
-use Rattle.x25_console.proofs.LinesLemmas.{all_parts, lines_of_all}
 use Rattle.x25_console.proofs.telling.tell_entries.Goals as goal
 
 pub returns-in_err-tell_entry-clause-tells : goal.returns-in_err-tell_entry-clause-tells

@@ -1,5 +1,4 @@
-use Rattle.std.proofs.Common.{◌∙◌, ◌++◌, ap}
-use Rattle.std.proofs.lemmas.Result.{err_from_is_err_and}
+use Rattle.std.proofs.{Common.{◌∙◌, ◌++◌, ap}, lemmas.Result.{err_from_is_err_and}}
 use Rattle.x25_io.proofs.ToldLemmas.{more_waits, prefix_more, told_more}
 use Rattle.x25_station.specs.code.PlainEntry.{plain_entry}
 use Rattle.x25_transcript.specs.EntryText.{entry_line}

@@ -1,7 +1,6 @@
-use Rattle.std.proofs.Common.{◌∙◌, ◌++◌, ap}
-use Rattle.std.proofs.lemmas.Result.{err_from_is_err_and}
-use Rattle.x25_io.proofs.ToldLemmas.{more_waits, prefix_more}
+use Rattle.std.proofs.{Common.{◌∙◌, ◌++◌, ap}, lemmas.Result.{err_from_is_err_and}}
 use Rattle.x25_console.specs.Telling.{refusal_line}
+use Rattle.x25_io.proofs.ToldLemmas.{more_waits, prefix_more}
 use Rattle.x25_console.proofs.telling.tell_refusal.Goals as goal
 
 pub returns-in_err-make_room-clause-tells : goal.returns-in_err-make_room-clause-tells

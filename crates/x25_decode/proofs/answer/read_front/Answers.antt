@@ -1,7 +1,5 @@
-use Rattle.std.proofs.Common.{◌≡◌, ◌≤◌, ◌-◌, Some, arith, drop, length, length-drop, rules, slice_index, take}
-use Rattle.std.proofs.lemmas.List.{take_all}
-use Rattle.x25_decode.specs.Decoding.{sender_of}
-use Rattle.x25_decode.proofs.FrontLemmas.{line_left}
+use Rattle.std.proofs.{Common.{◌≡◌, ◌≤◌, ◌-◌, Some, arith, drop, length, length-drop, rules, slice_index, take}, lemmas.List.{take_all}}
+use Rattle.x25_decode.{proofs.FrontLemmas.{line_left}, specs.Decoding.{sender_of}}
 use Rattle.x25_decode.proofs.answer.read_front.Goals as goal
 
 pub returns-in-Some-read_line-clause-line : goal.returns-in-Some-read_line-clause-line

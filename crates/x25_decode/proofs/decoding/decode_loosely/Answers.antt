@@ -1,6 +1,5 @@
-use Rattle.x25_decode.specs.code.LooseStream.{loose_program}
+use Rattle.x25_decode.{proofs.LooseLemmas.{input_begins}, specs.code.LooseStream.{loose_program}}
 use Rattle.x25_io.proofs.RunLemmas.{none_ran}
-use Rattle.x25_decode.proofs.LooseLemmas.{input_begins}
 use Rattle.x25_decode.proofs.decoding.decode_loosely.Goals as goal
 
 pub returns-in_err-held-clause-runs : goal.returns-in_err-held-clause-runs

@@ -1,9 +1,6 @@
-use Rattle.std.proofs.Common.{◌∙◌, ◌++◌, ap, codes, subst, sym}
-use Rattle.std.specs.Prelude.{if◌then◌else◌}
-use Rattle.std.proofs.lemmas.Result.{err_from_is_err_and}
-use Rattle.x25_decode.specs.TestVectors.{verdict}
+use Rattle.std.{proofs.Common.{◌∙◌, ◌++◌, ap, codes, subst, sym}, proofs.lemmas.Result.{err_from_is_err_and}, specs.Prelude.{if◌then◌else◌}}
+use Rattle.x25_decode.{proofs.VerdictLemmas.{prefix_before, second_err}, specs.TestVectors.{verdict}}
 use Rattle.x25_io.specs.code.Written.{AppendsPrefix}
-use Rattle.x25_decode.proofs.VerdictLemmas.{prefix_before, second_err}
 use Rattle.x25_decode.proofs.test_vectors.write_verdict.Goals as goal
 
 pub returns-in_err-write_all-clause-err : goal.returns-in_err-write_all-clause-err

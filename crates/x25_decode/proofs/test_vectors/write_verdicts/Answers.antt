@@ -1,12 +1,7 @@
-use Rattle.std.proofs.Common.{◌≡◌, ◌∙◌, ap, codes, nat_eq, subst}
-use Rattle.std.specs.Prelude.{◌&&◌}
-use Rattle.std.specs.Io.KnownBytes.{Appends}
-use Rattle.std.specs.List.{flat_map}
-use Rattle.std.proofs.lemmas.Result.{err_from_is_err_and}
-use Rattle.std.proofs.KnownBytes.{Appends-trans}
-use Rattle.x25_decode.specs.TestVectors.{is_check_right, stored, verdict, verdict_of}
+use Rattle.std.proofs.{Common.{◌≡◌, ◌∙◌, ap, codes, nat_eq, subst}, KnownBytes.{Appends-trans}, lemmas.Result.{err_from_is_err_and}}
+use Rattle.std.specs.{Io.KnownBytes.{Appends}, List.{flat_map}, Prelude.{◌&&◌}}
+use Rattle.x25_decode.{proofs.VerdictLemmas.{prefix_after, prefix_before}, specs.TestVectors.{is_check_right, stored, verdict, verdict_of}}
 use Rattle.x25_io.specs.code.Written.{AppendsPrefix}
-use Rattle.x25_decode.proofs.VerdictLemmas.{prefix_after, prefix_before}
 use Rattle.x25_decode.proofs.test_vectors.write_verdicts.Goals as goal
 
 pub returns-in_err-write_verdict-clause-err : goal.returns-in_err-write_verdict-clause-err

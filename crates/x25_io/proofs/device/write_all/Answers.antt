@@ -1,5 +1,4 @@
-use Rattle.std.proofs.Common.{◌≡◌, ◌∙◌, ◌++◌, ◌-◌, ℕ, List, length, take, drop, append_assoc}
-use Rattle.std.proofs.KnownBytes.{Appends-trans}
+use Rattle.std.proofs.{Common.{◌≡◌, ◌∙◌, ◌++◌, ◌-◌, ℕ, List, length, take, drop, append_assoc}, KnownBytes.{Appends-trans}}
 use Rattle.std.proofs.lemmas.List.{take-append-drop, take_rest}
 use Rattle.x25_io.proofs.device.write_all.Goals as goal
 

@@ -1,5 +1,4 @@
-use Rattle.std.proofs.Common.{◌≡◌, ◌++◌, ℕ, Bool, List, Option, length}
-use Rattle.std.specs.Io.KnownBytes.{Appends}
+use Rattle.std.{proofs.Common.{◌≡◌, ◌++◌, ℕ, Bool, List, Option, length}, specs.Io.KnownBytes.{Appends}}
 use Rattle.x25_io.proofs.device.write_all.Given as goal
 
 -- what was written so far, and what is left

@@ -1,7 +1,5 @@
-use Rattle.std.proofs.Common.{◌∙◌, ap, arith, cond, nat_eq, w8}
-use Rattle.std.specs.Int.{trailing_zeros, w64}
-use Rattle.std.proofs.lemmas.Simd.{bitmask_splat, first_set_mask_l}
 use Rattle.memchr.specs.Find.{is_byte}
+use Rattle.std.{proofs.Common.{◌∙◌, ap, arith, cond, nat_eq, w8}, proofs.lemmas.Simd.{bitmask_splat, first_set_mask_l}, specs.Int.{trailing_zeros, w64}}
 use Rattle.x25_io.proofs.lines.first_line_feed.Goals as goal
 
 pub returns : goal.returns

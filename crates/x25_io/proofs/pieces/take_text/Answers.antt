@@ -1,7 +1,5 @@
-use Rattle.std.proofs.Common.{◌∙◌, ◌≤◌, length, arith, subst}
-use Rattle.std.proofs.lemmas.Result.{err_from_is_err_and}
-use Rattle.x25_io.proofs.ReadLemmas.{at_end, consumed, fewer, kept}
-use Rattle.x25_io.proofs.RunLemmas.{answered, cut_short}
+use Rattle.std.proofs.{Common.{◌∙◌, ◌≤◌, length, arith, subst}, lemmas.Result.{err_from_is_err_and}}
+use Rattle.x25_io.proofs.{ReadLemmas.{at_end, consumed, fewer, kept}, RunLemmas.{answered, cut_short}}
 use Rattle.x25_io.proofs.pieces.take_text.Goals as goal
 
 pub returns-in_default-clause-answers : goal.returns-in_default-clause-answers

@@ -1,7 +1,6 @@
-use Rattle.std.proofs.Common.{subst}
-use Rattle.std.proofs.lemmas.Iterator.Adapters.{option_map_id}
-use Rattle.x25_script.specs.Reading.{Call, Clear, GivesCommand, Interrupt, NotReady, Ready, Reset, Restart, with_fields}
+use Rattle.std.proofs.{Common.{subst}, lemmas.Iterator.Adapters.{option_map_id}}
 use Rattle.x25_script.proofs.WordLemmas.{bare_alone, command_behind}
+use Rattle.x25_script.specs.Reading.{Call, Clear, GivesCommand, Interrupt, NotReady, Ready, Reset, Restart, with_fields}
 use Rattle.x25_script.proofs.command.other_command.Goals as goal
 
 pub returns-in-Some : goal.returns-in-Some

@@ -1,7 +1,5 @@
-use Rattle.std.proofs.Common.{ap}
-use Rattle.std.specs.Prelude.{option_map}
-use Rattle.x25_script.specs.Reading.{Accept, Call, Clear}
-use Rattle.x25_script.proofs.WordLemmas.{no_part, part_behind}
+use Rattle.std.{proofs.Common.{ap}, specs.Prelude.{option_map}}
+use Rattle.x25_script.{proofs.WordLemmas.{no_part, part_behind}, specs.Reading.{Accept, Call, Clear}}
 use Rattle.x25_script.proofs.command.part.Goals as goal
 
 pub returns-in-Some : goal.returns-in-Some

@@ -1,5 +1,4 @@
-use Rattle.std.proofs.Common.{◌≡◌, ◌≤◌, length, take, drop}
-use Rattle.std.specs.Str.{bytes_eq}
+use Rattle.std.{proofs.Common.{◌≡◌, ◌≤◌, length, take, drop}, specs.Str.{bytes_eq}}
 use Rattle.x25_script.proofs.fields.begins_with.Given as goal
 
 abbrev pub invariant-loop-left : goal.invariant-loop-left

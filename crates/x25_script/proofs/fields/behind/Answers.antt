@@ -1,5 +1,4 @@
-use Rattle.std.proofs.Common.{◌∙◌, ◌++◌, ap, length, sym}
-use Rattle.std.proofs.lemmas.List.{take_rest}
+use Rattle.std.proofs.{Common.{◌∙◌, ◌++◌, ap, length, sym}, lemmas.List.{take_rest}}
 use Rattle.x25_script.proofs.PartLemmas.{begun, not_begun}
 use Rattle.x25_script.proofs.fields.behind.Goals as goal
 

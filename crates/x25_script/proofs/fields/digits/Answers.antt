@@ -1,12 +1,6 @@
-use Rattle.std.proofs.Common.{◌≡◌, ◌∙◌, sym, subst, true, List, ℕ, Option, Some, None, Result, Ok, Err, Bor, ap}
-use Rattle.std.specs.Prelude.{cond}
-use Rattle.std.specs.Char.{is_ascii_digit}
-use Rattle.std.specs.List.{list_all}
-use Rattle.std.specs.Result.{result_ok}
-use Rattle.std.specs.Prelude.{MatchResult}
-use Rattle.std.specs.Str.{IsUtf8}
-use Rattle.x25_script.specs.Reading.{GivesText, digits_in}
-use Rattle.x25_script.proofs.FieldLemmas.{digits_are_text}
+use Rattle.std.{proofs.Common.{◌≡◌, ◌∙◌, sym, subst, true, List, ℕ, Option, Some, None, Result, Ok, Err, Bor, ap}, specs.Char.{is_ascii_digit}}
+use Rattle.std.specs.{List.{list_all}, Prelude.{cond, MatchResult}, Result.{result_ok}, Str.{IsUtf8}}
+use Rattle.x25_script.{proofs.FieldLemmas.{digits_are_text}, specs.Reading.{GivesText, digits_in}}
 use Rattle.x25_script.proofs.fields.digits.Goals as goal
 
 text_read : {E : Type 0} (text : List ℕ) (r : Result (Bor (List ℕ)) E) (P : E → Type 0) → list_all is_ascii_digit text ≡ true

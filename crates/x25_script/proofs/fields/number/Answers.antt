@@ -1,5 +1,4 @@
-use Rattle.std.proofs.Common.{◌≡◌, ◌≤◌, ◌∙◌, sym, length, get_or}
-use Rattle.std.proofs.lemmas.Bool.{eqb-true}
+use Rattle.std.proofs.{Common.{◌≡◌, ◌≤◌, ◌∙◌, sym, length, get_or}, lemmas.Bool.{eqb-true}}
 use Rattle.x25_script.proofs.NumberLemmas.{no_number_behind_zero, no_number_of_more, no_number_of_none, no_number_of_others, number_valued, some_characters}
 use Rattle.x25_script.proofs.fields.number.Goals.{else-text-gt1-via-then-text-gt1+else-text-eq48, else-text-gt1-via-else-text-gt1}
 use Rattle.x25_script.proofs.fields.number.Goals as goal

@@ -1,5 +1,4 @@
-use Rattle.std.proofs.Common.{◌∙◌, ◌+◌, sym, ap, take, Some}
-use Rattle.std.proofs.lemmas.List.{take_rest}
+use Rattle.std.proofs.{Common.{◌∙◌, ◌+◌, sym, ap, take, Some}, lemmas.List.{take_rest}}
 use Rattle.x25_script.proofs.FieldLemmas.{parts_found, no_parts}
 use Rattle.x25_script.proofs.fields.split_blank.Goals as goal
 

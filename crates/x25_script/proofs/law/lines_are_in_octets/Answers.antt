@@ -1,5 +1,4 @@
-use Rattle.x25_script.proofs.GrammarLemmas.{line_found}
-use Rattle.x25_script.proofs.CarriedLemmas.{spelled_octets}
+use Rattle.x25_script.proofs.{CarriedLemmas.{spelled_octets}, GrammarLemmas.{line_found}}
 use Rattle.x25_script.proofs.law.lines_are_in_octets.Goals as goal
 
 pub returns : goal.returns

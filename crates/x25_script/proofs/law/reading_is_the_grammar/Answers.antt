@@ -1,5 +1,4 @@
-use Rattle.x25_script.proofs.GrammarLemmas.{line_found}
-use Rattle.x25_script.proofs.AgainLemmas.{line_again}
+use Rattle.x25_script.proofs.{AgainLemmas.{line_again}, GrammarLemmas.{line_found}}
 use Rattle.x25_script.proofs.law.reading_is_the_grammar.Goals as goal
 
 pub returns : goal.returns

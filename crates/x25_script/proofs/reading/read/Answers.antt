@@ -1,7 +1,6 @@
 use Rattle.std.proofs.Common.{◌∙◌, codes, sym}
+use Rattle.x25_script.proofs.{PartLemmas.{bytes_other, bytes_same}, WordLemmas.{heals, line_behind, no_line}}
 use Rattle.x25_script.specs.Reading.{Damage, Deliver, Drain, End, Lose, T1}
-use Rattle.x25_script.proofs.PartLemmas.{bytes_other, bytes_same}
-use Rattle.x25_script.proofs.WordLemmas.{heals, line_behind, no_line}
 use Rattle.x25_script.proofs.reading.read.Goals as goal
 
 pub returns-in-Some : goal.returns-in-Some

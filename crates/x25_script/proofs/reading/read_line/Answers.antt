@@ -1,9 +1,6 @@
 use Rattle.std.proofs.Common.{◌≡◌, refl, subst, IfSome, Option, Some, None}
+use Rattle.x25_script.{proofs.AgainLemmas.{line_again}, proofs.GrammarLemmas.{line_found}, specs.Reading.{line_in}, specs.Reading.Spelling.{Spells}}
 use Rattle.x25_script.specs.ScriptLine.{PlainLine}
-use Rattle.x25_script.specs.Reading.{line_in}
-use Rattle.x25_script.specs.Reading.Spelling.{Spells}
-use Rattle.x25_script.proofs.GrammarLemmas.{line_found}
-use Rattle.x25_script.proofs.AgainLemmas.{line_again}
 use Rattle.x25_script.proofs.reading.read_line.Goals as goal
 
 pub returns-clause-found : goal.returns-clause-found

@@ -1,5 +1,4 @@
-use Rattle.x25_script.specs.Reading.{With, with_fields}
-use Rattle.x25_script.proofs.WordLemmas.{command_behind}
+use Rattle.x25_script.{proofs.WordLemmas.{command_behind}, specs.Reading.{With, with_fields}}
 use Rattle.x25_script.proofs.reading.read_other.Goals as goal
 
 pub returns-in-Some : goal.returns-in-Some

@@ -1,6 +1,5 @@
 use Rattle.std.proofs.Common.{◌≡◌, map, length}
-use Rattle.x25_settings.specs.Options.Choosing.{chosen_in}
-use Rattle.x25_settings.specs.Options.{nothing}
+use Rattle.x25_settings.specs.{Options.{nothing}, Options.Choosing.{chosen_in}}
 use Rattle.x25_settings.proofs.options.choose.Given as goal
 
 -- the words that are left choose the rest

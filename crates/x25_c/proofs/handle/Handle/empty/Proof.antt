@@ -1,34 +1,24 @@
 -- `empty` makes a handle that owns nothing.
-use Rattle.std.proofs.Common.{List, [], ◌∷◌, ◌++◌, refl, sym, subst}
-use Rattle.std.specs.declared.option.Option.TheVariants.{None}
-use lib.Dec.{T, lit<}
-use mir.Val.{Val, vnull, vstruct, vcons, vnil, has_ty, WT}
-use base.Logic.{ent, emp}
-use base.Fml.{ftrue, fsep}
-use contract.Running.{tables}
-use prog.Wp.{WpFn}
-use types.Kit.{Item, ‵, raw, ◌⊛◌, ◌$◌, ◌∵◌, !, qed, by, move, keep, drop, join, split, fsplit, fjoin, fpack, feq_i, suffices, done}
-use types.Part.{agg}
-use types.Run.{no_more, and_then, lit, returns, enter}
-use types.ByLocal.{alloc_all, pass_all, free_all, look_at, get, sets}
+use Rattle.x25_c.proofs.Names.{List, [], ◌∷◌, ◌++◌, refl, sym, subst, Val, ent, ftrue, fsep, tables, WpFn, Item, ‵, raw, ◌⊛◌, ◌$◌, ◌∵◌, !, qed, by, move, keep}
+use Rattle.x25_c.proofs.Names.{drop, join, split, fsplit, fjoin, suffices, done, agg, no_more, and_then, returns, enter, alloc_all, pass_all, free_all, look_at}
+use Rattle.x25_c.proofs.Names.{get, sets, yes, plain, type_at, nothing, says, Stays, stay_dropped, walk_of, ends_at, Goes-dropped, proved_at}
+use Rattle.std.{proofs.ResultValues.{and_tt}, proofs.alloc.Calls.{α, handle_tells}, specs.declared.option.Option.TheVariants.{None}}
+use Rattle.x25_c.proofs.BoxLemmas.{boxed}
+use Rattle.x25_c.proofs.handle.Handle.empty.Statement.{statement}
+use base.Logic.{emp}
 use denote.Builtin.{RawPtr}
-use denote.Exit.{yes}
 use denote.Param.{layout}
 use denote.RattleType.{Valss}
 use denote.RawPtr.{null_ptr}
-use denote.Signature.{Slot, plain, type_at}
-use denote.Steps.{nothing}
-use denote.Struct.Owning.{shape}
-use denote.Struct.Struct.{within}
-use denote.Triple.Walked.{says, Stays, stay_dropped, walk_of, ends_at, Goes-dropped}
-use Rattle.std.proofs.ResultValues.{and_tt}
-use Rattle.std.proofs.alloc.Calls.{α, handle_tells}
-use Rattle.std.proofs.raw_atomic.Walks.{proved_at}
+use denote.Signature.{Slot}
+use denote.Struct.{Owning.{shape}, Struct.{within}}
+use lib.Dec.{T, lit<}
+use mir.Val.{vnull, vstruct, vcons, vnil, has_ty, WT}
+use types.Kit.{fpack, feq_i}
+use types.Run.{lit}
 use Rattle.std_heap.specs.contracts.Global as Heap
-use Rattle.x25_c.proofs.BoxLemmas.{boxed}
 use Rattle.x25_c.specs.contracts.handle.Handle as Handle
 use Rattle.x25_c.specs.contracts.handle.Handle.empty as empty
-use Rattle.x25_c.proofs.handle.Handle.empty.Statement.{statement}
 use Rattle.x25_c.proofs.handle.Handle.empty.Code as code
 
 abbrev an_allocator : Slot 0

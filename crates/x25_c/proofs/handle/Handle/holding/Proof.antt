@@ -1,25 +1,12 @@
 -- `holding` casts the pointer, and the handle owns what the pieces owned.
-use Rattle.std.proofs.Common.{List, [], ◌∷◌, ◌++◌, refl, sym, subst}
-use mir.Val.{Val}
-use base.Logic.{ent, emp, id⊢}
-use base.Fml.{ftrue, fsep}
-use prog.Wp.{WpFn}
-use types.Kit.{Item, ‵, raw, ◌⊛◌, ◌$◌, ◌∵◌, !, qed, by, move, keep, drop, use1, join, split, fsplit, fjoin, suffices, rewrite, done}
-use types.Part.{whole, sub, agg}
-use types.Run.{stop, fld, no_more, and_then, of_opd, returns, enter}
-use types.ByLocal.{alloc_all, pass_all, free_all, look_at, get, get_in, sets}
-use contract.Running.{tables}
-use denote.Exit.{yes}
-use denote.Signature.{type_at}
-use denote.Steps.{nothing}
-use denote.Triple.Walked.{says, Stays, stay_dropped, walk_of, ends_at, Goes-dropped}
-use Rattle.std.proofs.raw_atomic.Walks.{proved_at}
-use Rattle.std.proofs.BoxSteps.Form.{D, B, word, box_typed}
-use Rattle.std.proofs.BoxSteps.Steps.{box_out, box_in}
-use Rattle.x25_c.proofs.BoxLemmas.{boxed, its_pieces}
+use Rattle.x25_c.proofs.Names.{List, [], ◌∷◌, ◌++◌, refl, sym, subst, Val, ent, id⊢, ftrue, fsep, WpFn, Item, ‵, raw, ◌⊛◌, ◌$◌, ◌∵◌, !, qed, by, keep, drop}
+use Rattle.x25_c.proofs.Names.{use1, join, split, fsplit, fjoin, suffices, done, whole, sub, agg, stop, fld, no_more, and_then, of_opd, returns, enter}
+use Rattle.x25_c.proofs.Names.{alloc_all, pass_all, free_all, look_at, get, get_in, sets, tables, yes, type_at, nothing, says, Stays, stay_dropped, walk_of}
 use Rattle.std.specs.declared.option.Option.TheVariants.{Some}
-use Rattle.x25_c.specs.contracts.handle.Handle.holding as holding
+use Rattle.x25_c.proofs.{BoxLemmas.{boxed, its_pieces}, Names.{ends_at, Goes-dropped, proved_at, D, B, word, box_typed, box_out, box_in}}
 use Rattle.x25_c.proofs.handle.Handle.holding.Statement.{statement}
+use base.Logic.{emp}
+use Rattle.x25_c.specs.contracts.handle.Handle.holding as holding
 use Rattle.x25_c.proofs.handle.Handle.holding.Code as code
 
 abbrev stays : Stays (holding.ended).signature.params (holding.ended).kept

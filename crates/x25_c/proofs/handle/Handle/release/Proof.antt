@@ -1,28 +1,13 @@
 -- `release` casts the pointer back, and the pieces own what the handle owned.
-use Rattle.std.proofs.Common.{List, [], ◌∷◌, ◌++◌, refl, sym, subst}
-use mir.Val.{Val}
-use base.Logic.{ent, id⊢}
-use base.Fml.{ftrue, fsep}
-use prog.Wp.{WpFn}
-use types.Kit.{Item, ‵, raw, ◌⊛◌, ◌$◌, ◌∵◌, !, qed, by, move, keep, drop, use1, join, split, fsplit, fjoin, suffices, rewrite, done}
-use types.Part.{whole, sub, agg}
-use types.Run.{stop, fld, no_more, and_then, of_opd, returns, enter}
-use types.ByLocal.{alloc_all, pass_all, free_all, look_at, get, get_in, sets}
-use contract.Monad.{fact}
-use contract.Running.{tables}
-use denote.Exit.{yes}
-use denote.Signature.{type_at}
-use denote.Steps.{nothing, heard}
-use denote.Triple.Walked.{says, Stays, stay_dropped, walk_of, ends_at, Goes-dropped}
-use Rattle.std.proofs.raw_atomic.Walks.{proved_at}
-use Rattle.std.proofs.BoxSteps.Form.{D, B, word, box_typed}
-use Rattle.std.proofs.BoxSteps.Steps.{box_out, box_in}
+use Rattle.x25_c.proofs.Names.{List, [], ◌∷◌, ◌++◌, refl, sym, subst, Val, ent, id⊢, ftrue, fsep, WpFn, Item, ‵, raw, ◌⊛◌, ◌$◌, ◌∵◌, !, qed, by, move, keep}
+use Rattle.x25_c.proofs.Names.{drop, use1, join, split, fsplit, fjoin, suffices, rewrite, done, whole, sub, agg, stop, fld, no_more, and_then, of_opd, returns}
+use Rattle.x25_c.proofs.Names.{enter, alloc_all, pass_all, free_all, look_at, get, get_in, sets, fact, tables, yes, type_at, nothing, heard, says, Stays}
+use Rattle.x25_c.proofs.Names.{stay_dropped, walk_of, ends_at, Goes-dropped, proved_at, D, B, word, box_typed, box_out, box_in, Held}
 use Rattle.std.specs.Prelude.{IsSome, Option}
-use Rattle.x25_c.specs.declared.held.Held.{Held}
 use Rattle.x25_c.proofs.BoxLemmas.{boxed, its_handle, held_of}
+use Rattle.x25_c.proofs.handle.Handle.release.Statement.{statement}
 use Rattle.x25_c.specs.contracts.handle.Handle as Handle
 use Rattle.x25_c.specs.contracts.handle.Handle.release as release
-use Rattle.x25_c.proofs.handle.Handle.release.Statement.{statement}
 use Rattle.x25_c.proofs.handle.Handle.release.Code as code
 
 abbrev stays : Stays (release.ended).signature.params (release.ended).kept

@@ -1,8 +1,6 @@
 use Rattle.std.proofs.Common.{refl, subst}
+use Rattle.x25_c.{proofs.HappenLemmas.{asks_or_fires, is_both, is_refused}, specs.Clocked.{Heeds}, specs.code.Happens.{event_of}}
 use Rattle.x25_clock.specs.Clock.{seen}
-use Rattle.x25_c.specs.Clocked.{Heeds}
-use Rattle.x25_c.specs.code.Happens.{event_of}
-use Rattle.x25_c.proofs.HappenLemmas.{asks_or_fires, is_both, is_refused}
 use Rattle.x25_c.proofs.held.Held.go_on.Goals as goal
 
 pub returns-in-Err-clause-happens : goal.returns-in-Err-clause-happens

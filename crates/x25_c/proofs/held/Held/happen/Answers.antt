@@ -1,5 +1,4 @@
-use Rattle.x25_c.specs.code.Happens.{event_of}
-use Rattle.x25_c.proofs.HappenLemmas.{from_still}
+use Rattle.x25_c.{proofs.HappenLemmas.{from_still}, specs.code.Happens.{event_of}}
 use Rattle.x25_c.proofs.held.Held.happen.Goals as goal
 
 pub returns-clause-happens : goal.returns-clause-happens

@@ -1,17 +1,10 @@
 use Rattle.std.proofs.Common.{◌≡◌, ◌∙◌, Ok, Err, Some, None, true, sym, ap, subst, true≢false, is_ok, Result, Option, MatchResult}
+use Rattle.x25_c.{proofs.held.Held.insist.Goals.{in-Some, in-None}, specs.Clocked.{event_for, event_of_command}, specs.Held.{IsAlone}}
+use Rattle.x25_c.specs.{code.Happens.{HappensTo}, declared.clocked.Passed.{Passed}, declared.held.Held.{Held}}
 use Rattle.x25_clock.specs.Due.{channel_for, timer_number}
 use Rattle.x25_layer.specs.code.FitsLayer.{awaited_at}
-use Rattle.x25_station.specs.declared.error.StationError.{StationError}
-use Rattle.x25_station.specs.Command.{Command}
-use Rattle.x25_station.specs.Config.{layer_settings}
-use Rattle.x25_station.specs.laws.TimerLaw.{StationEvent}
-use Rattle.x25_c.specs.declared.clocked.Passed.{Passed}
-use Rattle.x25_c.specs.declared.held.Held.{Held}
-use Rattle.x25_c.specs.Clocked.{event_for, event_of_command}
-use Rattle.x25_c.specs.Held.{IsAlone}
-use Rattle.x25_c.specs.code.Happens.{HappensTo}
+use Rattle.x25_station.specs.{Command.{Command}, Config.{layer_settings}, declared.error.StationError.{StationError}, laws.TimerLaw.{StationEvent}}
 use Rattle.x25_c.proofs.held.Held.insist.Goals as goal
-use Rattle.x25_c.proofs.held.Held.insist.Goals.{in-Some, in-None}
 
 -- which timer passed is no part of what happens
 passing : {old new : Held} {r : Result (Unit {0}) StationError} {e : StationEvent} (p : Option Passed)

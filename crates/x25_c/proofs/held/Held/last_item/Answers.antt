@@ -1,7 +1,5 @@
 use Rattle.std.proofs.Common.{◌∙◌, Some, ap, sym, arith}
-use Rattle.x25_c.specs.Held.{entries_of, timer_of}
-use Rattle.x25_c.specs.Item.{an_entry, the_timer}
-use Rattle.x25_c.proofs.ItemLemmas.{before_last, at_last, behind_last, past_from}
+use Rattle.x25_c.{proofs.ItemLemmas.{before_last, at_last, behind_last, past_from}, specs.Held.{entries_of, timer_of}, specs.Item.{an_entry, the_timer}}
 use Rattle.x25_c.proofs.held.Held.last_item.Goals as goal
 
 pub returns-then-i-count : goal.returns-then-i-count

@@ -1,9 +1,6 @@
-use Rattle.std.proofs.Common.{◌∙◌, arith, refl, subst, sym}
-use Rattle.std.specs.Prelude.{Ok}
-use Rattle.x25_station.specs.code.FitsStation.{FitsStation}
-use Rattle.x25_station.specs.laws.TimerLaw.{Comes}
-use Rattle.x25_c.specs.code.Happens.{HappensTo}
-use Rattle.x25_c.proofs.ReceiveLemmas.{ends_all, ends_full, ends_short, from_before, its_octets, one_more, sum_more, where_ok}
+use Rattle.std.{proofs.Common.{◌∙◌, arith, refl, subst, sym}, specs.Prelude.{Ok}}
+use Rattle.x25_c.{proofs.ReceiveLemmas.{ends_all, ends_full, ends_short, from_before, its_octets, one_more, sum_more, where_ok}, specs.code.Happens.{HappensTo}}
+use Rattle.x25_station.specs.{code.FitsStation.{FitsStation}, laws.TimerLaw.{Comes}}
 use Rattle.x25_c.proofs.held.Held.receive_all.Goals as goal
 
 pub returns-then-count-octets : goal.returns-then-count-octets

@@ -1,7 +1,5 @@
-use Rattle.std.proofs.Common.{◌≡◌, ◌≤◌, None, length, take}
-use Rattle.std.specs.Prelude.{sum}
-use Rattle.x25_c.specs.Held.{whole_of}
-use Rattle.x25_c.specs.code.Receives.{Received}
+use Rattle.std.{proofs.Common.{◌≡◌, ◌≤◌, None, length, take}, specs.Prelude.{sum}}
+use Rattle.x25_c.specs.{Held.{whole_of}, code.Receives.{Received}}
 use Rattle.x25_c.proofs.held.Held.receive_all.Given as goal
 
 abbrev pub invariant-loop-place : goal.invariant-loop-place

@@ -1,43 +1,30 @@
 -- `from_box` takes a box apart, and its pieces own what it owned.
-use Rattle.std.proofs.Common.{◌≡◌, List, [], ◌∷◌, ◌++◌, refl, sym, subst}
-use mir.Syntax.{Args, Fn, a_type, dcons, dnil}
-use mir.MapTy.{inst_fn}
-use mir.Raw.{raw as as_raw}
-use mir.Val.{Val}
-use base.Logic.{ent, id⊢, never, fst∗}
-use base.Fml.{ftrue, fsep, flft}
+use Rattle.x25_c.proofs.Names.{◌≡◌, List, [], ◌∷◌, ◌++◌, refl, sym, subst, dnil, Val, ent, id⊢, ftrue, fsep, fact, tables, WpFn, Item, ‵, raw, ◌⊛◌, ◌$◌, ◌∵◌, ! }
+use Rattle.x25_c.proofs.Names.{qed, by, move, drop, use1, join, split, rewrite, fsplit, fjoin, suffices, done, whole, sub, agg, stop, fld, no_more, and_then}
+use Rattle.x25_c.proofs.Names.{of_opd, returns, enter, alloc_all, pass_all, free_all, look_at, get, get_in, sets, Ptr, block_ptr, plain, heard, nothing, says}
+use Rattle.std.{proofs.BoxSteps.Form.{τ, R}, proofs.alloc.Calls.{token, Goes-blank}, specs.Box.Ownership.{box_owns}}
+use Rattle.x25_c.proofs.{BoxLemmas.{pair_out}, Names.{Stays, stay_dropped, walk_of, ends_at, proved_at, Bx, P, B, word, box_typed, box_out, box_in}}
+use Rattle.x25_c.proofs.unboxed.Unboxed.from_box.Statement.{statement}
+use base.Fml.{flft}
+use base.Logic.{never, fst∗}
 use contract.BorrowLft.{◌⊑◌}
-use contract.Monad.{fact}
-use contract.Running.{tables}
-use prog.Wp.{WpFn}
-use types.Logic.{sem}
-use types.Kit.{Item, ‵, raw, ◌⊛◌, some, later, ◌$◌, ◌∵◌, !, qed, by, move, drop, use1, join, split, split3, pick, rewrite, fsplit, fjoin, suffices, await, done}
-use types.Part.{whole, sub, agg}
-use types.Run.{stop, fld, no_more, and_then, of_opd, returns, enter}
-use types.ByLocal.{alloc_all, pass_all, free_all, look_at, get, get_in, sets, lands_as}
 use denote.Builtin.{RawPtr}
 use denote.Exit.{no}
 use denote.Param.{bounded}
-use denote.RawPtr.{Ptr, block_ptr, null_ptr, in_a_block}
 use denote.RattleType.{RattleType}
-use denote.Signature.{plain}
-use denote.Steps.{heard, nothing}
+use denote.RawPtr.{null_ptr, in_a_block}
 use denote.Struct.Tuple.{Tuple}
-use denote.Triple.Call.{calls_at}
-use denote.Triple.Spec.{triple_of}
-use denote.Triple.Table.{framed}
-use denote.Triple.Walked.{says, Stays, stay_dropped, walk_of, ends_at}
-use Rattle.std.proofs.alloc.Calls.{token, Goes-blank}
-use Rattle.std.proofs.raw_atomic.Walks.{proved_at}
-use Rattle.std.specs.Box.Ownership.{box_owns}
-use Rattle.std.proofs.BoxSteps.Form.{Bx, τ, R, P, B, word, box_typed}
-use Rattle.std.proofs.BoxSteps.Steps.{box_out, box_in}
+use denote.Triple.{Call.{calls_at}, Spec.{triple_of}, Table.{framed}}
+use mir.MapTy.{inst_fn}
+use mir.Raw.{raw as as_raw}
+use mir.Syntax.{Args, Fn, a_type, dcons}
+use types.ByLocal.{lands_as}
+use types.Kit.{some, later, split3, pick, await}
+use types.Logic.{sem}
 use Rattle.std_alloc.specs.contracts.boxed.Box.into_raw_with_allocator as into_raw
 use Rattle.std_alloc.proofs.boxed.Box.into_raw_with_allocator.Met as into_raw_met
-use Rattle.x25_c.proofs.BoxLemmas.{pair_out}
 use Rattle.x25_c.specs.contracts.unboxed.Unboxed as Unboxed
 use Rattle.x25_c.specs.contracts.unboxed.Unboxed.from_box as from_box
-use Rattle.x25_c.proofs.unboxed.Unboxed.from_box.Statement.{statement}
 use Rattle.x25_c.proofs.unboxed.Unboxed.from_box.Code as code
 
 pub from_box_spec : {M : Type 1} → statement M

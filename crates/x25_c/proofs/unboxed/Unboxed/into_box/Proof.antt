@@ -1,40 +1,28 @@
 -- `into_box` makes a box of the pieces, which owns what they owned.
-use Rattle.std.proofs.Common.{◌≡◌, List, [], ◌∷◌, ◌++◌, refl, sym, subst, ap}
-use lib.Dec.{T}
-use mir.Syntax.{Args, Fn, a_type, dcons, dnil}
-use mir.MapTy.{inst_fn}
-use mir.Val.{Val, vptr, has_ty, WT}
-use base.Logic.{ent, id⊢}
-use base.Fml.{ftrue, fsep, flft}
+use Rattle.x25_c.proofs.Names.{◌≡◌, List, [], ◌∷◌, ◌++◌, refl, sym, subst, ap, dnil, Val, ent, id⊢, ftrue, fsep, fact, tables, WpFn, Item, ‵, raw, ◌⊛◌, ◌$◌}
+use Rattle.x25_c.proofs.Names.{◌∵◌, !, qed, by, move, drop, use1, join, split, rewrite, fsplit, fjoin, suffices, done, whole, sub, stop, fld, no_more, and_then}
+use Rattle.x25_c.proofs.Names.{of_opd, returns, enter, alloc_all, pass_all, free_all, look_at, get, get_in, sets, block_ptr, plain, heard, nothing, says, Stays}
+use Rattle.x25_c.proofs.Names.{stay_dropped, walk_of, ends_at, proved_at, Bx, D, P, B, word, box_typed, box_out, box_in}
+use Rattle.std.proofs.{BoxSteps.Form.{R, box_ty}, alloc.Calls.{Goes-blank}, alloc.Shapes.{after}}
+use Rattle.x25_c.proofs.unboxed.Unboxed.into_box.Statement.{statement}
+use base.Fml.{flft}
 use contract.BorrowLft.{◌⊑◌}
-use contract.Monad.{fact}
-use contract.Running.{tables}
-use prog.Wp.{WpFn}
-use types.Kit.{Item, ‵, raw, ◌⊛◌, some, later, at_ret, ◌$◌, ◌∵◌, !, qed, by, move, drop, use1, join, split, split3, pick, rewrite, fsplit, fjoin}
-use types.Kit.{feq_i, suffices, await, done}
-use types.Part.{whole, sub}
-use types.Run.{stop, fld, no_more, and_then, of_opd, returns, enter, first, blocks, exec}
-use types.ByLocal.{alloc_all, pass_all, free_all, look_at, get, get_in, sets, lands_last, env}
 use denote.Exit.{no}
 use denote.Param.{bounded}
 use denote.RattleType.{RattleType}
-use denote.RawPtr.{block_ptr}
-use denote.Signature.{plain}
-use denote.Steps.{heard, nothing, only}
-use denote.Triple.Call.{calls_at_last}
-use denote.Triple.Spec.{triple_of}
-use denote.Triple.Table.{framed}
-use denote.Triple.Walked.{says, Stays, stay_dropped, walk_of, ends_at}
-use Rattle.std.proofs.alloc.Calls.{Goes-blank}
-use Rattle.std.proofs.alloc.Shapes.{after}
-use Rattle.std.proofs.raw_atomic.Walks.{proved_at}
-use Rattle.std.proofs.BoxSteps.Form.{Bx, D, R, P, B, box_ty, word, box_typed}
-use Rattle.std.proofs.BoxSteps.Steps.{box_out, box_in}
+use denote.Steps.{only}
+use denote.Triple.{Call.{calls_at_last}, Spec.{triple_of}, Table.{framed}}
+use lib.Dec.{T}
+use mir.MapTy.{inst_fn}
+use mir.Syntax.{Args, Fn, a_type, dcons}
+use mir.Val.{vptr, has_ty, WT}
+use types.ByLocal.{lands_last, env}
+use types.Kit.{some, later, at_ret, split3, pick, feq_i, await}
+use types.Run.{first, blocks, exec}
 use Rattle.std_alloc.specs.contracts.boxed.Box.from_raw as from_raw
 use Rattle.std_alloc.proofs.boxed.Box.from_raw.Met as from_raw_met
 use Rattle.x25_c.specs.contracts.unboxed.Unboxed as Unboxed
 use Rattle.x25_c.specs.contracts.unboxed.Unboxed.into_box as into_box
-use Rattle.x25_c.proofs.unboxed.Unboxed.into_box.Statement.{statement}
 use Rattle.x25_c.proofs.unboxed.Unboxed.into_box.Code as code
 
 pub into_box_spec : {M : Type 1} → statement M

@@ -1,9 +1,7 @@
 use Rattle.std.proofs.Common.{◌∙◌, ◌||◌, ◌++◌, ◌∷◌, ap, subst}
+use Rattle.x25_decode.{proofs.StreamLemmas.{answered, first_line, held_more}, specs.Decoding.{answer_to}}
+use Rattle.x25_io.proofs.{LineLemmas.{ends_line}, ToldLemmas.{more_waits}}
 use Rattle.x25_io.specs.HeldLine.{HoldsLine}
-use Rattle.x25_io.proofs.LineLemmas.{ends_line}
-use Rattle.x25_io.proofs.ToldLemmas.{more_waits}
-use Rattle.x25_decode.specs.Decoding.{answer_to}
-use Rattle.x25_decode.proofs.StreamLemmas.{answered, first_line, held_more}
 use Rattle.x25_decode.proofs.decoder.Decoder.close.Goals as goal
 
 pub returns-then-is_empty-clause-leads : goal.returns-then-is_empty-clause-leads

@@ -1,8 +1,6 @@
-use Rattle.std.proofs.Common.{[], refl}
-use Rattle.std.proofs.lemmas.Result.{err_from_is_err_and, MatchResult-weaker}
-use Rattle.x25_io.proofs.LineLemmas.{ends_text}
-use Rattle.x25_io.proofs.ToldLemmas.{more_waits, with_ok}
+use Rattle.std.proofs.{Common.{[], refl}, lemmas.Result.{err_from_is_err_and, MatchResult-weaker}}
 use Rattle.x25_decode.proofs.StreamLemmas.{answered, ended, part_written, written}
+use Rattle.x25_io.proofs.{LineLemmas.{ends_text}, ToldLemmas.{more_waits, with_ok}}
 use Rattle.x25_decode.proofs.decoder.Decoder.finish.Goals as goal
 
 pub returns-then-is_empty-clause-text : goal.returns-then-is_empty-clause-text

@@ -1,12 +1,9 @@
-use Rattle.std.proofs.Common.{◌∙◌, ◌+◌, ◌-◌, ◌||◌, ◌++◌, ◌∷◌, ap, append_assoc, drop, length, subst, sym, take}
+use Rattle.std.proofs.{Common.{◌∙◌, ◌+◌, ◌-◌, ◌||◌, ◌++◌, ◌∷◌, ap, append_assoc, drop, length, subst, sym, take}, Math.Bool.{or-false}}
 use Rattle.std.proofs.lemmas.Result.{err_from_is_err_and}
-use Rattle.std.proofs.Math.Bool.{or-false}
-use Rattle.x25_io.specs.HeldLine.{HoldsLine}
-use Rattle.x25_io.proofs.ToldLemmas.{more_waits}
-use Rattle.x25_decode.specs.Decoding.{answer_to}
+use Rattle.x25_decode.{proofs.FrontLemmas.{parted}, proofs.StreamLemmas.{answered, first_line, part_written, written}, specs.Decoding.{answer_to}}
 use Rattle.x25_decode.specs.code.Stream.{LeadsFrom}
-use Rattle.x25_decode.proofs.FrontLemmas.{parted}
-use Rattle.x25_decode.proofs.StreamLemmas.{answered, first_line, part_written, written}
+use Rattle.x25_io.proofs.ToldLemmas.{more_waits}
+use Rattle.x25_io.specs.HeldLine.{HoldsLine}
 use Rattle.x25_decode.proofs.decoder.Decoder.take_line.Goals as goal
 
 pub returns-in_err-make_room-clause-leads : goal.returns-in_err-make_room-clause-leads

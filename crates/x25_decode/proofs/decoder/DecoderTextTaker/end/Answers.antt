@@ -1,7 +1,6 @@
-use Rattle.std.proofs.Common.{◌≡◌, ℕ, Bool, true, false, if◌then◌else◌}
-use Rattle.std.proofs.lemmas.Result.{err_from_is_err_and}
-use mir.Val.{bool_byte}
+use Rattle.std.proofs.{Common.{◌≡◌, ℕ, Bool, true, false, if◌then◌else◌}, lemmas.Result.{err_from_is_err_and}}
 use Rattle.x25_decode.specs.Decoding.{has_refused, output_of}
+use mir.Val.{bool_byte}
 use Rattle.x25_decode.proofs.decoder.DecoderTextTaker.end.Goals as goal
 
 status_is : (n : ℕ) (b any : Bool) → n ≡ bool_byte b → b ≡ any → n ≡ (if any then 1 else 0)

@@ -1,8 +1,6 @@
 use Rattle.std.proofs.Common.{subst}
-use Rattle.x25_decode.specs.Decoding.{output_of}
-use Rattle.x25_decode.specs.code.Stream.{WritesEnded}
+use Rattle.x25_decode.{proofs.StreamLemmas.{ended_written, part_written, written}, specs.Decoding.{output_of}, specs.code.Stream.{WritesEnded}}
 use Rattle.x25_io.proofs.ToldLemmas.{told_prefix}
-use Rattle.x25_decode.proofs.StreamLemmas.{ended_written, part_written, written}
 use Rattle.x25_decode.proofs.decoder.DecoderTextTaker.give_up.Goals as goal
 
 pub returns-in-Err-clause-part : goal.returns-in-Err-clause-part

@@ -1,7 +1,5 @@
-use Rattle.std.proofs.Common.{◌∙◌}
-use Rattle.std.proofs.lemmas.Result.{err_from_is_err_and}
-use Rattle.x25_decode.specs.Decoding.{has_refused, output_of}
-use Rattle.x25_decode.proofs.StreamLemmas.{held_more, part_written, written}
+use Rattle.std.proofs.{Common.{◌∙◌}, lemmas.Result.{err_from_is_err_and}}
+use Rattle.x25_decode.{proofs.StreamLemmas.{held_more, part_written, written}, specs.Decoding.{has_refused, output_of}}
 use Rattle.x25_decode.proofs.decoder.DecoderTextTaker.take_piece.Goals as goal
 
 pub returns-in_err-left-clause-on : goal.returns-in_err-left-clause-on

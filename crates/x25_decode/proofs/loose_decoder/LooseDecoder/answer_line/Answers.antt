@@ -1,10 +1,7 @@
-use Rattle.std.proofs.Common.{◌≡◌, ◌∙◌, ◌<◌, ◌≤◌, ◌++◌, ◌||◌, ap, sym, subst, length, codes}
+use Rattle.std.proofs.{Common.{◌≡◌, ◌∙◌, ◌<◌, ◌≤◌, ◌++◌, ◌||◌, ap, sym, subst, length, codes}, Math.Bool.{or-true}, lemmas.Result.{on_ok_weaker}}
 use Rattle.std.specs.Prelude.{MatchOption, MatchResult}
-use Rattle.std.proofs.Math.Bool.{or-true}
-use Rattle.std.proofs.lemmas.Result.{on_ok_weaker}
-use Rattle.x25_io.specs.HeldLine.{most_line}
-use Rattle.x25_io.specs.code.Written.{AppendsPrefix, Tells}
 use Rattle.x25_decode.proofs.LooseLemmas.{long_answer, long_refused}
+use Rattle.x25_io.specs.{HeldLine.{most_line}, code.Written.{AppendsPrefix, Tells}}
 use Rattle.x25_decode.proofs.loose_decoder.LooseDecoder.answer_line.Goals as goal
 
 pub returns-in-None-clause-tells : goal.returns-in-None-clause-tells

@@ -1,11 +1,8 @@
-use Rattle.std.proofs.Common.{◌≡◌, ◌∙◌, ◌||◌, true, None, Some, ap, sym, subst, refl}
+use Rattle.std.proofs.{Common.{◌≡◌, ◌∙◌, ◌||◌, true, None, Some, ap, sym, subst, refl}, Math.Bool.{or-false}, lemmas.Result.{err_from_is_err_and, on_ok_weaker}}
 use Rattle.std.specs.Prelude.{MatchOption, OnOk}
-use Rattle.std.proofs.Math.Bool.{or-false}
-use Rattle.std.proofs.lemmas.Result.{err_from_is_err_and, on_ok_weaker}
-use Rattle.x25_io.specs.Loose.{asked}
+use Rattle.x25_decode.{proofs.LooseLemmas.{answer_parts, refuses_parts, told_behind}, specs.LooseDecoder.{answer_loosely, answer_to_asked}}
 use Rattle.x25_io.proofs.ToldLemmas.{part_of_all}
-use Rattle.x25_decode.specs.LooseDecoder.{answer_loosely, answer_to_asked}
-use Rattle.x25_decode.proofs.LooseLemmas.{answer_parts, refuses_parts, told_behind}
+use Rattle.x25_io.specs.Loose.{asked}
 use Rattle.x25_decode.proofs.loose_decoder.LooseDecoder.answer_parts.Goals as goal
 
 pub returns-in_err-tell-clause-tells : goal.returns-in_err-tell-clause-tells

@@ -1,10 +1,12 @@
+use Rattle.std.proofs.lemmas.Result.{err_from_is_err_and}
 use Rattle.x25_decode.proofs.LooseLemmas.{all_written, part_written}
 use Rattle.x25_decode.proofs.loose_decoder.LooseDecoderLineTaker.write_out.Goals as goal
 
-pub returns-in-Ok-clause-on : goal.returns-in-Ok-clause-on
-returns-in-Ok-clause-on g c = λ reading old lines input h. all_written reading old _ _ input c.args.self.now c.flush.new.self lines h
-    (c.in-Ok.ensures.tells old h.told h.tells) c.in-Ok.ensures.empty
+pub returns-clause-on : goal.returns-clause-on
+returns-clause-on g c = λ reading old lines input h. all_written reading old _ _ input c.args.self.now c.flush.new.self lines h
+    (c.in_ok-flush.ensures.tells old h.told h.tells) c.in_ok-flush.ensures.empty
 
-pub returns-in-Err-clause-on : goal.returns-in-Err-clause-on
-returns-in-Err-clause-on g c = λ reading old lines input h. part_written reading old _ _ input c.args.self.now lines h
-    (c.in-Err.ensures.tells old h.told h.tells)
+pub returns-in_err-flush-clause-on : goal.returns-in_err-flush-clause-on
+returns-in_err-flush-clause-on g c = λ reading old lines input h.
+    let p = err_from_is_err_and c.from_residual.result c.from_residual.ensures.1 in
+    rw p.1 (part_written reading old _ _ input c.args.self.now lines h (c.in_err-flush.ensures.tells old h.told h.tells))

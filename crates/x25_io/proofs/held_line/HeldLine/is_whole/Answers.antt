@@ -1,5 +1,4 @@
-use Rattle.std.proofs.Common.{length}
-use Rattle.std.proofs.lemmas.Bool.{leb-true}
+use Rattle.std.proofs.{Common.{length}, lemmas.Bool.{leb-true}}
 use Rattle.x25_io.proofs.held_line.HeldLine.is_whole.Goals as goal
 
 pub returns-then-is_empty : goal.returns-then-is_empty

@@ -1,9 +1,5 @@
-use Rattle.std.proofs.Common.{◌∷◌, List, ℕ, refl, subst}
-use Rattle.std.proofs.lemmas.Result.{MatchResult-weaker}
-use Rattle.x25_io.specs.HeldLine.{HoldsLine}
-use Rattle.x25_io.specs.Lines.{lines_of}
-use Rattle.x25_io.proofs.ToldLemmas.{with_ok}
-use Rattle.x25_io.proofs.TakerLemmas.{between, ends, ends_whole, more}
+use Rattle.std.proofs.{Common.{◌∷◌, List, ℕ, refl, subst}, lemmas.Result.{MatchResult-weaker}}
+use Rattle.x25_io.{proofs.TakerLemmas.{between, ends, ends_whole, more}, proofs.ToldLemmas.{with_ok}, specs.HeldLine.{HoldsLine}, specs.Lines.{lines_of}}
 use Rattle.x25_io.proofs.line_taker.LineByLine.close.Goals as goal
 
 pub returns-clause-on : goal.returns-clause-on

@@ -1,5 +1,4 @@
-use Rattle.std.proofs.Common.{[], List, ℕ}
-use Rattle.std.proofs.lemmas.Result.{err_from_is_err_and}
+use Rattle.std.proofs.{Common.{[], List, ℕ}, lemmas.Result.{err_from_is_err_and}}
 use Rattle.x25_io.proofs.TakerLemmas.{ends_last, none_left}
 use Rattle.x25_io.proofs.line_taker.LineByLineTextTaker.end.Goals as goal
 

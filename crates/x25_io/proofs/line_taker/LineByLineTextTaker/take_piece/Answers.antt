@@ -1,7 +1,5 @@
-use Rattle.std.proofs.Common.{◌∙◌, ◌++◌, ◌∷◌, List, ℕ, ap, append_assoc, subst}
-use Rattle.std.proofs.lemmas.Result.{err_from_is_err_and, MatchResult-weaker}
-use Rattle.x25_io.specs.code.LinesLead.{LinesLead}
-use Rattle.x25_io.proofs.TakerLemmas.{led, more}
+use Rattle.std.proofs.{Common.{◌∙◌, ◌++◌, ◌∷◌, List, ℕ, ap, append_assoc, subst}, lemmas.Result.{err_from_is_err_and, MatchResult-weaker}}
+use Rattle.x25_io.{proofs.TakerLemmas.{led, more}, specs.code.LinesLead.{LinesLead}}
 use Rattle.x25_io.proofs.line_taker.LineByLineTextTaker.take_piece.Goals as goal
 
 pub returns-in_err-close-clause-on : goal.returns-in_err-close-clause-on

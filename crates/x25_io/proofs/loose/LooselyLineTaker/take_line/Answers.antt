@@ -1,9 +1,5 @@
-use Rattle.std.proofs.Common.{◌≡◌, ◌<◌, ◌≤◌, List, ℕ, length, subst}
-use Rattle.std.specs.Prelude.{MatchOption}
-use Rattle.std.proofs.lemmas.Result.{MatchResult-weaker}
-use Rattle.x25_io.specs.HeldLine.{most_line}
-use Rattle.x25_io.specs.Loose.{asked_lines, asked_text}
-use Rattle.x25_io.proofs.LooseLemmas.{long_asked, one_asked}
+use Rattle.std.{proofs.Common.{◌≡◌, ◌<◌, ◌≤◌, List, ℕ, length, subst}, proofs.lemmas.Result.{MatchResult-weaker}, specs.Prelude.{MatchOption}}
+use Rattle.x25_io.{proofs.LooseLemmas.{long_asked, one_asked}, specs.HeldLine.{most_line}, specs.Loose.{asked_lines, asked_text}}
 use Rattle.x25_io.proofs.loose.LooselyLineTaker.take_line.Goals as goal
 
 -- a line that is too long is handed on

@@ -1,8 +1,5 @@
-use Rattle.std.proofs.Common.{◌∙◌, subst}
-use Rattle.std.proofs.lemmas.Result.{err_from_is_err_and}
-use Rattle.std.specs.Io.KnownBytes.{Appends}
-use Rattle.x25_io.specs.code.Written.{AppendsPrefix}
-use Rattle.x25_io.proofs.ToldLemmas.{all_written, part_written}
+use Rattle.std.{proofs.Common.{◌∙◌, subst}, proofs.lemmas.Result.{err_from_is_err_and}, specs.Io.KnownBytes.{Appends}}
+use Rattle.x25_io.{proofs.ToldLemmas.{all_written, part_written}, specs.code.Written.{AppendsPrefix}}
 use Rattle.x25_io.proofs.output.Output.flush.Goals as goal
 
 pub returns-in_err-write_all-clause-tells : goal.returns-in_err-write_all-clause-tells

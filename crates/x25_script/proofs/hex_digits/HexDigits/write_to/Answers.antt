@@ -1,5 +1,4 @@
-use Rattle.std.proofs.Common.{◌∙◌, [], ap, length, sym, arith}
-use Rattle.std.specs.Prelude.{unwrap_or}
+use Rattle.std.{proofs.Common.{◌∙◌, [], ap, length, sym, arith}, specs.Prelude.{unwrap_or}}
 use Rattle.x25_script.proofs.OctetLemmas.{length_written, written_are_digits}
 use Rattle.x25_script.proofs.hex_digits.HexDigits.write_to.Goals as goal
 
