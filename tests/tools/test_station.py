@@ -1,5 +1,7 @@
-"""Tests of `x25 station`: each answer is written before the next line is read, and two stations joined run a call."""
+"""Tests of `x25 station`: each answer is written before the next line is read, two stations joined
+run a call, and the channels of one send in turn."""
 
+import collections
 import subprocess
 import unittest
 
@@ -41,6 +43,52 @@ class Joined(unittest.TestCase):
         for line, answer, status in ((b"t1 dte\n", b"! 11\n. off busy\n", 1), (b"", b"", 0)):
             done = subprocess.run([support.PROGRAM, "station", "dte"], input=line, capture_output=True, timeout=60)
             self.assertEqual((done.stdout, done.returncode), (b". off busy\n" + answer, status))
+
+
+@support.needs_program
+class Turns(unittest.TestCase):
+    """More is sent on each channel than the line carries: in each turn the users of a DTE ask, that of
+    the highest channel first, and then FRAMES frames arrive."""
+
+    FRAMES = 8
+
+    def joined(self, channels):
+        """Both stations, with a call on each channel, of packets of 128 octets and windows of 7."""
+        words = ["--channels", str(channels)]
+        self.ends = {end: Station(support.PROGRAM, end, words) for end in ("dte", "dce")}
+        self.line, self.came = collections.deque(), collections.Counter()
+        for station in self.ends.values():
+            station.begin()
+            self.addCleanup(station.__exit__)
+        accepts = [f"dce accept {channel + 1}" for channel in range(channels)]
+        for line in ["dte connect", *["dte call 1 2 - 7 7 7 7"] * channels, *accepts]:
+            self.ask(line[:3], line)
+            self.arrives(10)
+
+    def ask(self, end, line):
+        answer = self.ends[end].ask(line)
+        self.line.extend((end, frame.text()) for frame in answer.frames)
+        messages = [entry for entry in answer.notices if entry.startswith("dce message ")]
+        self.came.update(entry.split()[2] for entry in messages)
+
+    def arrives(self, frames):
+        """So many frames at most arrive, in the order in which they were sent."""
+        while frames and self.line:
+            end, frame = self.line.popleft()
+            self.ask("dce" if end == "dte" else "dte", frame)
+            frames -= 1
+
+    def test_no_channel_waits_for_the_others(self):
+        for channels, turns in ((4, 100), (16, 120), (60, 160)):
+            with self.subTest(channels):
+                self.joined(channels)
+                for _ in range(turns):
+                    for channel in range(channels, 0, -1):
+                        self.ask("dte", f"dte send {channel} 0 -")
+                    self.arrives(self.FRAMES)
+                counts = [self.came[f"ch={channel + 1}"] for channel in range(channels)]
+                self.assertGreater(sum(counts), turns)
+                self.assertLessEqual(max(counts) - min(counts), 1, counts)
 
 
 if __name__ == "__main__":

@@ -1,10 +1,11 @@
 -- Where the link has room behind the rounds, a pull of any channel gives nothing.
-use Rattle.x25_layer.proofs.Names.{◌≡◌, ◌⊎◌, inl, inr, ℕ, zero, suc, ◌<◌, ◌≤◌, [], ◌∷◌, ◌++◌, length, Option, Some, None, Bool, true, false, nat_le, ◌==◌}
+use Rattle.x25_layer.proofs.Names.{◌≡◌, ◌⊎◌, inl, inr, ℕ, zero, suc, ◌+◌, ◌-◌, ◌<◌, ◌≤◌, [], ◌∷◌, ◌++◌, length, Option, Some, None, Bool, true, false, nat_le, ◌==◌}
 use Rattle.x25_layer.proofs.Names.{if◌then◌else◌, refl, sym, ap, subst, ◌∙◌, arith, and_parts, PlainPacket, LayerError, LayerSettings, Layer, is_ready}
 use Rattle.x25_layer.proofs.Names.{PullsAll, outcome_in, layer_outcome, layer_pulled, LinkView, Putting, begin, with_pulled, pull_one, round, rounds_of, rounds}
 use Rattle.x25_layer.proofs.Names.{leb-true, backlog, Went, Refuses, went}
 use Rattle.std.proofs.lemmas.{Bool.{lt-ltb}, List.{length_push}}
 use Rattle.x25_layer.proofs.SettleLemmas.{left, Lessens, one_lessens, lessens_then, round_lessens, split, rounds_settle}
+use Rattle.x25_layer.specs.laws.Rounds.{at_turn, rest_of_round, whole_rounds}
 use Rattle.x25_layer.specs.laws.WaitLaw.{PullsNone, RoundsLeaveNone, StillPullsNone}
 use Rattle.x25_layer.specs.declared.error.LayerError.TheVariants as error
 
@@ -12,10 +13,10 @@ use Rattle.x25_layer.specs.declared.error.LayerError.TheVariants as error
 one_none : (link : LinkView) (c : LayerSettings) (h : ℕ) (s : Putting) → link.waits s.put < 8 → pull_one link c h s ≡ s → (layer_pulled c s.layer h).packet
     ≡ None
 one_none link c h s room still = by (layer_pulled c s.layer h).packet refl
-    (subst (λ (b : Bool). (if b then with_pulled s (layer_pulled c s.layer h) (layer_pulled c s.layer h).packet else s) ≡ s) (lt-ltb (link.waits s.put) 8 room)
+    (subst (λ (b : Bool). (if b then with_pulled h s (layer_pulled c s.layer h) (layer_pulled c s.layer h).packet else s) ≡ s) (lt-ltb (link.waits s.put) 8 room)
     still)
   where
-    by : (o : Option PlainPacket) → (layer_pulled c s.layer h).packet ≡ o → with_pulled s (layer_pulled c s.layer h) o ≡ s → (layer_pulled c s.layer h).packet
+    by : (o : Option PlainPacket) → (layer_pulled c s.layer h).packet ≡ o → with_pulled h s (layer_pulled c s.layer h) o ≡ s → (layer_pulled c s.layer h).packet
         ≡ None
     by None is same = is
     by (Some packet) is same =
@@ -23,31 +24,38 @@ one_none link c h s room still = by (layer_pulled c s.layer h).packet refl
         absurd (omega (arith, more, length_push s.put packet))
 
 -- of a round that leaves all as it was, so does each pull
-pulls_none : (link : LinkView) (c : LayerSettings) (n : ℕ) → n ≤ c.channels.count → (s : Putting) → link.waits s.put < 8 → round link c n s ≡ s → (h : ℕ) → 1
-    ≤ h → h ≤ n → (layer_pulled c s.layer h).packet ≡ None
-pulls_none link c zero few s room still h low high = absurd (omega (arith, low, high))
-pulls_none link c (suc n) few s room still h low high = by (round_lessens link c n (let e : n ≤ c.channels.count = omega (arith, few) in e) s)
-    (λ r. λ lower. pulls_none link c n (let e : n ≤ c.channels.count = omega (arith, few) in e) s room r h low lower)
+pulls_none : (link : LinkView) (c : LayerSettings) (b n : ℕ) → n ≤ c.channels.count - b → (s : Putting) → link.waits s.put < 8 → round link c b n s ≡ s
+    → (h : ℕ) → b < h → h ≤ b + n → (layer_pulled c s.layer h).packet ≡ None
+pulls_none link c b zero few s room still h low high = absurd (omega (arith, low, high))
+pulls_none link c b (suc n) few s room still h low high = by (round_lessens link c b n (let e : n ≤ c.channels.count - b = omega (arith, few) in e) s)
+    (λ r. λ lower. pulls_none link c b n (let e : n ≤ c.channels.count - b = omega (arith, few) in e) s room r h low lower)
   where
-    by : Lessens c s (round link c n s) → (round link c n s ≡ s → h ≤ n → (layer_pulled c s.layer h).packet ≡ None) → (layer_pulled c s.layer h).packet ≡ None
-    by (inr less) below = absurd (fewer (one_lessens link c (suc n) (let e : 1 ≤ suc n = omega arith in e) few (round link c n s)))
+    by : Lessens c s (round link c b n s) → (round link c b n s ≡ s → h ≤ b + n → (layer_pulled c s.layer h).packet ≡ None)
+        → (layer_pulled c s.layer h).packet ≡ None
+    by (inr less) below = absurd (fewer (one_lessens link c (b + suc n) (let e : 1 ≤ b + suc n = omega arith in e)
+        (let e : b + suc n ≤ c.channels.count = omega (arith, few) in e) (round link c b n s)))
       where
-        fewer : Lessens c (round link c n s) (pull_one link c (suc n) (round link c n s)) → ⊥
-        fewer (inl same) = let e : left c s ≡ left c (round link c n s) = ap (λ (t : Putting). left c t) (sym still ∙ same) in omega (arith, less, e)
-        fewer (inr more) = let e : left c s ≡ left c (pull_one link c (suc n) (round link c n s)) = ap (λ (t : Putting). left c t) (sym still) in
+        fewer : Lessens c (round link c b n s) (pull_one link c (b + suc n) (round link c b n s)) → ⊥
+        fewer (inl same) = let e : left c s ≡ left c (round link c b n s) = ap (λ (t : Putting). left c t) (sym still ∙ same) in omega (arith, less, e)
+        fewer (inr more) = let e : left c s ≡ left c (pull_one link c (b + suc n) (round link c b n s)) = ap (λ (t : Putting). left c t) (sym still) in
             omega (arith, less, more, e)
-    by (inl same) below = either (split h n high)
+    by (inl same) below = either (split h (b + n) (let e : h ≤ suc (b + n) = omega (arith, high) in e))
       where
-        either : (h ≤ n) ⊎ (h ≡ suc n) → (layer_pulled c s.layer h).packet ≡ None
+        either : (h ≤ b + n) ⊎ (h ≡ suc (b + n)) → (layer_pulled c s.layer h).packet ≡ None
         either (inl lower) = below same lower
-        either (inr top) = subst (λ (k : ℕ). (layer_pulled c s.layer k).packet ≡ None) (sym top)
-            (one_none link c (suc n) s room (sym (ap (λ (t : Putting). pull_one link c (suc n) t) same) ∙ still))
+        either (inr top) = subst (λ (k : ℕ). (layer_pulled c s.layer k).packet ≡ None) (let e : b + suc n ≡ h = omega (arith, top) in e)
+            (one_none link c (b + suc n) s room (sym (ap (λ (t : Putting). pull_one link c (b + suc n) t) same) ∙ still))
+
+-- behind whole rounds
+whole_leave_none : (link : LinkView) (c : LayerSettings) (s : Putting) → link.waits (whole_rounds link c s).put < 8 → PullsNone c (whole_rounds link c s).layer
+whole_leave_none link c s room h is =
+    let both = and_parts (nat_le 1 h) (nat_le h c.channels.count) is in
+    pulls_none link c 0 c.channels.count (let e : c.channels.count ≤ c.channels.count - 0 = omega arith in e) (whole_rounds link c s) room (rounds_settle link c s) h
+    (let low = leb-true 1 h both.0 in let e : 0 < h = omega (arith, low) in e)
+    (let high = leb-true h c.channels.count both.1 in let e : h ≤ 0 + c.channels.count = omega (arith, high) in e)
 
 pub rounds_leave_none : RoundsLeaveNone
-rounds_leave_none link c s room h is =
-    let both = and_parts (nat_le 1 h) (nat_le h c.channels.count) is in
-    pulls_none link c c.channels.count (let e : c.channels.count ≤ c.channels.count = omega arith in e) (rounds link c s) room (rounds_settle link c s) h
-    (leb-true 1 h both.0) (leb-true h c.channels.count both.1)
+rounds_leave_none link c s room = whole_leave_none link c (rest_of_round link c s) room
 
 -- ---- a pull of all
 
@@ -55,15 +63,20 @@ rounds_leave_none link c s room h is =
 rounds_lessen : (n : ℕ) (link : LinkView) (c : LayerSettings) (s : Putting) → Lessens c s (rounds_of n link c s)
 rounds_lessen zero link c s = inl refl
 rounds_lessen (suc n) link c s =
-    lessens_then c s (round link c c.channels.count s) (rounds_of n link c (round link c c.channels.count s))
-    (round_lessens link c c.channels.count (let e : c.channels.count ≤ c.channels.count = omega arith in e) s)
-    (rounds_lessen n link c (round link c c.channels.count s))
+    lessens_then c s (round link c 0 c.channels.count s) (rounds_of n link c (round link c 0 c.channels.count s))
+    (round_lessens link c 0 c.channels.count (let e : c.channels.count ≤ c.channels.count - 0 = omega arith in e) s)
+    (rounds_lessen n link c (round link c 0 c.channels.count s))
 
 -- rounds that leave the layer as it was give nothing
-rounds_still : (link : LinkView) (c : LayerSettings) (s : Putting) → (rounds link c s).layer ≡ s.layer → rounds link c s ≡ s
-rounds_still link c s same = by (rounds_lessen (left c s) link c s)
+rounds_still : (link : LinkView) (c : LayerSettings) (s : Putting) → (rounds link c s).layer ≡ s.layer
+    → whole_rounds link c (rest_of_round link c s) ≡ at_turn link.turn s
+rounds_still link c s same =
+    let rest : Putting = rest_of_round link c s in
+    by (lessens_then c (at_turn link.turn s) rest (whole_rounds link c rest)
+    (round_lessens link c link.turn (c.channels.count - link.turn) (let e : c.channels.count - link.turn ≤ c.channels.count - link.turn = omega arith in e)
+    (at_turn link.turn s)) (rounds_lessen (left c rest) link c rest))
   where
-    by : Lessens c s (rounds link c s) → rounds link c s ≡ s
+    by : Lessens c (at_turn link.turn s) (whole_rounds link c (rest_of_round link c s)) → whole_rounds link c (rest_of_round link c s) ≡ at_turn link.turn s
     by (inl is) = is
     by (inr less) = let e : left c (rounds link c s) ≡ left c s = ap (λ (l : Layer). backlog l.circuits c.channels.count) same in
         absurd (omega (arith, less, e))
@@ -83,7 +96,7 @@ still_pulls_none link c l s is same few = by_up link.is_up is
     done : l.restarting ≡ false → rounds link c begun ≡ s → PullsNone c l
     done ready all =
         let at : is_ready l.restarts l.circuits ≡ l = ap (λ (b : Bool). record { restarting = b; restarts = l.restarts; circuits = l.circuits }) (sym ready) in
-        let settled : rounds link c begun ≡ begun = rounds_still link c begun (ap (λ (t : Putting). t.layer) all ∙ same ∙ sym at) in
+        let settled : whole_rounds link c (rest_of_round link c begun) ≡ at_turn link.turn begun = rounds_still link c begun (ap (λ (t : Putting). t.layer) all ∙ same ∙ sym at) in
         subst (λ (m : Layer). PullsNone c m) (ap (λ (t : Putting). t.layer) settled ∙ at)
         (rounds_leave_none link c begun (subst (λ (t : Putting). link.waits t.put < 8) (sym settled) few))
 

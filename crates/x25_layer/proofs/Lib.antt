@@ -28,6 +28,7 @@ pub mod NameLemmas
 pub mod CountLemmas
 pub mod AcknowledgedLemmas
 pub mod ApartLemmas
+pub mod FairLemmas
 pub mod FirstLemmas
 pub mod WaitLemmas
 pub mod LeftLemmas

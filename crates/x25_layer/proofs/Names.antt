@@ -40,7 +40,7 @@ pub use Rattle.x25_layer.specs.laws.Apart.{AlwaysApart, ApartEvent, AreInOrder, 
 pub use Rattle.x25_layer.specs.laws.Law.{Always, KeepsOrder, ArrivesAll, HasAllOf, IsIdleTo, IsLawfulWorld, IsQuietEnd, IsQuietWorld}
 pub use Rattle.x25_layer.specs.laws.NameLaw.{NoClearComesInP1, FrontIsNoClearInP1, IsNoClearInP1, NamesAreCounted, named_by}
 pub use Rattle.x25_layer.specs.laws.Quiet.{AreNoFaults, AreQuiet, IsQuiet}
-pub use Rattle.x25_layer.specs.laws.Rounds.{LinkView, Putting, backlog, begin, pull_one, round, rounds, rounds_of, with_pulled, Refuses, Went, went}
+pub use Rattle.x25_layer.specs.laws.Rounds.{LinkView, Putting, backlog, begin, pull_one, round, rounds, rounds_of, whole_rounds, with_pulled, Refuses, Went, went}
 pub use Rattle.x25_layer.specs.laws.Transcript.{Handed, Entry, name_of, under, messages_in, interrupts_in, nothing_handed, added, calls_in, told_by_all}
 pub use Rattle.x25_layer.specs.laws.Transcript.{asked_by}
 pub use Rattle.x25_layer.specs.laws.TwoLayers.{HandsUp, Pulls, Requests, entries_asked, EndMove, GoesDown, happens, answered, moves, puts}

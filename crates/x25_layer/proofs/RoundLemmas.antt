@@ -1,11 +1,11 @@
 -- The rounds of a step are pulls of configured channels, one after another.
-use Rattle.x25_layer.proofs.Names.{◌≡◌, ℕ, zero, suc, ◌≤◌, List, [], ◌∷◌, ◌++◌, Option, Some, None, Bool, true, false, nat_lt, ◌==◌, if◌then◌else◌}
+use Rattle.x25_layer.proofs.Names.{◌≡◌, ℕ, zero, suc, ◌+◌, ◌-◌, ◌≤◌, List, [], ◌∷◌, ◌++◌, Option, Some, None, Bool, true, false, nat_lt, ◌==◌, if◌then◌else◌}
 use Rattle.x25_layer.proofs.Names.{option_to_list, refl, sym, ap, subst, ◌∙◌, append_assoc, arith, PlainPacket, Ranges, LayerSettings, Layer, LayerAnswer}
 use Rattle.x25_layer.proofs.Names.{is_channel, layer_answers, LayerOutcome, Accepted, Declined, layer_outcome, layer_pulled, LinkView, Putting, begin}
 use Rattle.x25_layer.proofs.Names.{with_pulled, pull_one, round, rounds_of, rounds, backlog, LayerError, TwoLayers, Move, Requests, Pulls, HandsUp, requested}
 use Rattle.x25_layer.proofs.{LayerLemmas.{is_between}, Names.{pulled_in, handed_up, moves_in, answer_to, Went, Refuses, went, answered, moves}}
 use Rattle.x25_layer.{proofs.NoteLemmas.{append_nil}, specs.laws.RoundLaw.{moves_all, pulls_of, AreChannels, IsRun, CallsRun, HearsRun}}
-use Rattle.x25_layer.specs.laws.Rounds.{Answered, heard}
+use Rattle.x25_layer.specs.laws.Rounds.{Answered, heard, at_turn, turn_behind, whole_rounds, rest_of_round}
 use Rattle.x25_layer.specs.declared.error.LayerError.TheVariants as error
 
 -- the pulls that lead from s to s₂, at an end that stands as s
@@ -77,10 +77,11 @@ moves_pull : (c : LayerSettings) (w : TwoLayers) (h : ℕ) → w.near.is_out ≡
 moves_pull c w h up is =
     ap (λ (o : Bool). moves_in c w o (Pulls h)) up ∙ ap (λ (b : Bool). if b then pulled_in w (layer_pulled c w.near.layer h) else w) is
 
-one_there : (c : LayerSettings) (w : TwoLayers) (h : ℕ) (put : List PlainPacket) → w.near.is_out ≡ false → is_channel c.channels h ≡ true
+one_there : (c : LayerSettings) (w : TwoLayers) (h : ℕ) (put : List PlainPacket) (turn : ℕ) → w.near.is_out ≡ false → is_channel c.channels h ≡ true
     → (packet : PlainPacket) → (layer_pulled c w.near.layer h).packet ≡ Some packet
-    → Pulled c w (record { layer = w.near.layer; put = put }) (record { layer = (layer_pulled c w.near.layer h).next; put = put ++ packet ∷ [] })
-one_there c w h put up is packet found =
+    → Pulled c w (record { layer = w.near.layer; put = put; turn = turn })
+    (record { layer = (layer_pulled c w.near.layer h).next; put = put ++ packet ∷ []; turn = h })
+one_there c w h put turn up is packet found =
     let all : moves c w (Pulls h) ≡ pulled_in w (layer_pulled c w.near.layer h) = moves_pull c w h up is in
     let listed : option_to_list (layer_pulled c w.near.layer h).packet ≡ packet ∷ [] = ap (λ o. option_to_list o) found in
     record {
@@ -99,42 +100,72 @@ one_there c w h put up is packet found =
       far = ap (λ (x : TwoLayers). x.far) all;
     }
 
-one_here : (link : LinkView) (c : LayerSettings) (w : TwoLayers) (h : ℕ) (put : List PlainPacket) → w.near.is_out ≡ false → is_channel c.channels h ≡ true
-    → Pulled c w (record { layer = w.near.layer; put = put }) (pull_one link c h (record { layer = w.near.layer; put = put }))
-one_here link c w h put up is = room (nat_lt (link.waits put) 8)
+one_here : (link : LinkView) (c : LayerSettings) (w : TwoLayers) (h : ℕ) (put : List PlainPacket) (turn : ℕ) → w.near.is_out ≡ false → is_channel c.channels h ≡ true
+    → Pulled c w (record { layer = w.near.layer; put = put; turn = turn }) (pull_one link c h (record { layer = w.near.layer; put = put; turn = turn }))
+one_here link c w h put turn up is = room (nat_lt (link.waits put) 8)
   where
     given : (o : Option PlainPacket) → (layer_pulled c w.near.layer h).packet ≡ o
-        → Pulled c w (record { layer = w.near.layer; put = put }) (with_pulled (record { layer = w.near.layer; put = put }) (layer_pulled c w.near.layer h) o)
-    given None found = pulled_nothing c w (record { layer = w.near.layer; put = put }) refl up
-    given (Some packet) found = one_there c w h put up is packet found
+        → Pulled c w (record { layer = w.near.layer; put = put; turn = turn }) (with_pulled h (record { layer = w.near.layer; put = put; turn = turn }) (layer_pulled c w.near.layer h) o)
+    given None found = pulled_nothing c w (record { layer = w.near.layer; put = put; turn = turn }) refl up
+    given (Some packet) found = one_there c w h put turn up is packet found
 
     room : (b : Bool)
-        → Pulled c w (record { layer = w.near.layer; put = put })
-        (if b then with_pulled (record { layer = w.near.layer; put = put }) (layer_pulled c w.near.layer h) (layer_pulled c w.near.layer h).packet
-        else record { layer = w.near.layer; put = put })
+        → Pulled c w (record { layer = w.near.layer; put = put; turn = turn })
+        (if b then with_pulled h (record { layer = w.near.layer; put = put; turn = turn }) (layer_pulled c w.near.layer h) (layer_pulled c w.near.layer h).packet
+        else record { layer = w.near.layer; put = put; turn = turn })
     room true = given (layer_pulled c w.near.layer h).packet refl
-    room false = pulled_nothing c w (record { layer = w.near.layer; put = put }) refl up
+    room false = pulled_nothing c w (record { layer = w.near.layer; put = put; turn = turn }) refl up
 
 pulled_one : (link : LinkView) (c : LayerSettings) (w : TwoLayers) (h : ℕ) (s : Putting) → w.near.layer ≡ s.layer → w.near.is_out ≡ false
     → is_channel c.channels h ≡ true → Pulled c w s (pull_one link c h s)
 pulled_one link c w h s same up is =
-    subst (λ (l : Layer). Pulled c w (record { layer = l; put = s.put }) (pull_one link c h (record { layer = l; put = s.put }))) same
-    (one_here link c w h s.put up is)
+    subst (λ (l : Layer). Pulled c w (record { layer = l; put = s.put; turn = s.turn }) (pull_one link c h (record { layer = l; put = s.put; turn = s.turn }))) same
+    (one_here link c w h s.put s.turn up is)
 
-pulled_round : (link : LinkView) (c : LayerSettings) (n : ℕ) → n ≤ c.channels.count → (w : TwoLayers) (s : Putting) → w.near.layer ≡ s.layer → w.near.is_out
-    ≡ false → Pulled c w s (round link c n s)
-pulled_round link c zero low w s same up = pulled_nothing c w s same up
-pulled_round link c (suc n) low w s same up =
-    pulled_then c w s (round link c n s) (round link c (suc n) s) (pulled_round link c n (let e : n ≤ c.channels.count = omega (arith, low) in e) w s same up)
-    (λ v here there. pulled_one link c v (suc n) (round link c n s) here there (is_between c.channels.count (suc n) (let e : 1 ≤ suc n = omega arith in e) low))
+pulled_round : (link : LinkView) (c : LayerSettings) (b n : ℕ) → n ≤ c.channels.count - b → (w : TwoLayers) (s : Putting) → w.near.layer ≡ s.layer → w.near.is_out
+    ≡ false → Pulled c w s (round link c b n s)
+pulled_round link c b zero low w s same up = pulled_nothing c w s same up
+pulled_round link c b (suc n) low w s same up =
+    pulled_then c w s (round link c b n s) (round link c b (suc n) s)
+    (pulled_round link c b n (let e : n ≤ c.channels.count - b = omega (arith, low) in e) w s same up)
+    (λ v here there. pulled_one link c v (b + suc n) (round link c b n s) here there
+    (is_between c.channels.count (b + suc n) (let e : 1 ≤ b + suc n = omega arith in e) (let e : b + suc n ≤ c.channels.count = omega (arith, low) in e)))
 
 pulled_rounds : (k : ℕ) (link : LinkView) (c : LayerSettings) (w : TwoLayers) (s : Putting) → w.near.layer ≡ s.layer → w.near.is_out ≡ false
     → Pulled c w s (rounds_of k link c s)
 pulled_rounds zero link c w s same up = pulled_nothing c w s same up
 pulled_rounds (suc k) link c w s same up =
-    pulled_then c w s (round link c c.channels.count s) (rounds_of k link c (round link c c.channels.count s))
-    (pulled_round link c c.channels.count (let e : c.channels.count ≤ c.channels.count = omega arith in e) w s same up)
-    (λ v here there. pulled_rounds k link c v (round link c c.channels.count s) here there)
+    pulled_then c w s (round link c 0 c.channels.count s) (rounds_of k link c (round link c 0 c.channels.count s))
+    (pulled_round link c 0 c.channels.count (let e : c.channels.count ≤ c.channels.count - 0 = omega arith in e) w s same up)
+    (λ v here there. pulled_rounds k link c v (round link c 0 c.channels.count s) here there)
+
+-- whatever the turn
+pulled_at : {c : LayerSettings} {w : TwoLayers} {s s₂ : Putting} (turn turn₂ : ℕ) → Pulled c w (at_turn turn s) s₂ → Pulled c w s (at_turn turn₂ s₂)
+pulled_at turn turn₂ p = record {
+  channels = p.channels;
+  are = p.are;
+  more = p.more;
+  put = p.put;
+  layer = p.layer;
+  given = p.given;
+  out = p.out;
+  back = p.back;
+  up = p.up;
+  taken = p.taken;
+  told = p.told;
+  entries = p.entries;
+  far = p.far;
+}
+
+pulled_all : (link : LinkView) (c : LayerSettings) (w : TwoLayers) (s : Putting) → w.near.layer ≡ s.layer → w.near.is_out ≡ false
+    → Pulled c w s (rounds link c s)
+pulled_all link c w s same up =
+    let rest : Putting = rest_of_round link c s in
+    pulled_at link.turn (turn_behind link (whole_rounds link c rest))
+    (pulled_then c w (at_turn link.turn s) rest (whole_rounds link c rest)
+    (pulled_round link c link.turn (c.channels.count - link.turn)
+    (let e : c.channels.count - link.turn ≤ c.channels.count - link.turn = omega arith in e) w (at_turn link.turn s) same up)
+    (λ v here there. pulled_rounds (backlog rest.layer.circuits c.channels.count) link c v rest here there))
 
 -- a first move, and then the rounds
 run_then : (link : LinkView) (c : LayerSettings) (w : TwoLayers) (move : Move) (first : Putting) (behind : List PlainPacket) → (moves c w move).near.layer
@@ -144,7 +175,7 @@ run_then : (link : LinkView) (c : LayerSettings) (w : TwoLayers) (move : Move) (
     → (pulled : List ℕ) × AreChannels c.channels pulled × IsRun c w (move ∷ pulls_of pulled) (moves c w move) (rounds link c first) behind
 run_then link c w move first behind layer up given out back far =
     let p : Pulled c (moves c w move) first (rounds link c first) =
-    pulled_rounds (backlog first.layer.circuits c.channels.count) link c (moves c w move) first layer up in (
+    pulled_all link c (moves c w move) first layer up in (
       p.channels,
       p.are,
       record {

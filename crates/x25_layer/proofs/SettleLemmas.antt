@@ -1,8 +1,8 @@
 -- Behind the rounds of a step, one round more gives nothing.
-use Rattle.x25_layer.proofs.Names.{◌≡◌, ◌⊎◌, inl, inr, ℕ, zero, suc, ◌+◌, ◌<◌, ◌≤◌, ◌%◌, List, [], ◌∷◌, ◌++◌, length, Option, Some, None, Bool, true, false}
+use Rattle.x25_layer.proofs.Names.{◌≡◌, ◌⊎◌, inl, inr, ℕ, zero, suc, ◌+◌, ◌-◌, ◌<◌, ◌≤◌, ◌%◌, List, [], ◌∷◌, ◌++◌, length, Option, Some, None, Bool, true, false}
 use Rattle.x25_layer.proofs.Names.{nat_lt, ◌==◌, ◌&&◌, if◌then◌else◌, refl, sym, ap, ◌∙◌, eq-eqb, arith, none-some, eqb-true, PlainPacket, State, Open, Piece}
 use Rattle.x25_layer.proofs.Names.{CircuitSettings, Talk, Circuit, outgoing, Pulled, pulls_nothing, pull_open, pull_in, pulled, LayerSettings, put_at}
-use Rattle.x25_layer.proofs.Names.{packet_on, layer_pulled, LinkView, Putting, begin, with_pulled, pull_one, data_packet, begun, round, rounds_of, rounds}
+use Rattle.x25_layer.proofs.Names.{packet_on, layer_pulled, LinkView, Putting, begin, with_pulled, pull_one, data_packet, begun, round, rounds_of, whole_rounds}
 use Rattle.x25_circuit.specs.Circuit.{talking}
 use Rattle.x25_layer.{proofs.Names.{backlog, goes_up}, specs.laws.RoundLaw.{RoundsSettle, ComesUpAlone}}
 
@@ -32,7 +32,7 @@ shorter_open c x t (piece ∷ rest) p same found = test (t.peer_ready && nat_lt 
     test true is = let l : length x.talk.rest ≡ length (piece ∷ rest) = ap length same in omega (arith, l)
     test false is = absurd (none-some p is)
 
-shorter : (c : CircuitSettings) (x : Circuit) (p : PlainPacket) → (pulled c x).packet ≡ Some p → suc (length (pulled c x).next.talk.rest) ≡ length x.talk.rest
+pub shorter : (c : CircuitSettings) (x : Circuit) (p : PlainPacket) → (pulled c x).packet ≡ Some p → suc (length (pulled c x).next.talk.rest) ≡ length x.talk.rest
 shorter c x p found = at x.state found
   where
     at : (s : State) → (pull_in c x s).packet ≡ Some p → suc (length (pull_in c x s).next.talk.rest) ≡ length x.talk.rest
@@ -107,14 +107,14 @@ one_lessens link c h low high s = room (nat_lt (link.waits s.put) 8)
     y = (pulled c.circuit (s.layer.circuits h)).next
 
     given : (o : Option PlainPacket) → (pulled c.circuit (s.layer.circuits h)).packet ≡ o
-        → Lessens c s (with_pulled s (layer_pulled c s.layer h) (packet_on h o))
+        → Lessens c s (with_pulled h s (layer_pulled c s.layer h) (packet_on h o))
     given None found = inl refl
     given (Some packet) found =
         let less : suc (length y.talk.rest) ≡ length (s.layer.circuits h).talk.rest = shorter c.circuit (s.layer.circuits h) packet found in
         let sum = backlog_put s.layer.circuits h y c.channels.count low high in
         inr (let e : backlog (put_at s.layer.circuits h y) c.channels.count < backlog s.layer.circuits c.channels.count = omega (arith, less, sum) in e)
 
-    room : (b : Bool) → Lessens c s (if b then with_pulled s (layer_pulled c s.layer h) (layer_pulled c s.layer h).packet else s)
+    room : (b : Bool) → Lessens c s (if b then with_pulled h s (layer_pulled c s.layer h) (layer_pulled c s.layer h).packet else s)
     room true = given (pulled c.circuit (s.layer.circuits h)).packet refl
     room false = inl refl
 
@@ -124,70 +124,67 @@ lessens_then c s s₂ s₃ (inl p) (inr q) = inr (let l = ap (λ (t : Putting). 
 lessens_then c s s₂ s₃ (inr p) (inl q) = inr (let l = ap (λ (t : Putting). left c t) q in omega (arith, p, l))
 lessens_then c s s₂ s₃ (inr p) (inr q) = inr (omega (arith, p, q))
 
-pub round_lessens : (link : LinkView) (c : LayerSettings) (n : ℕ) → n ≤ c.channels.count → (s : Putting) → Lessens c s (round link c n s)
-round_lessens link c zero low s = inl refl
-round_lessens link c (suc n) low s =
-    lessens_then c s (round link c n s) (round link c (suc n) s) (round_lessens link c n (let e : n ≤ c.channels.count = omega (arith, low) in e) s)
-    (one_lessens link c (suc n) (let e : 1 ≤ suc n = omega arith in e) low (round link c n s))
+pub round_lessens : (link : LinkView) (c : LayerSettings) (b n : ℕ) → n ≤ c.channels.count - b → (s : Putting) → Lessens c s (round link c b n s)
+round_lessens link c b zero low s = inl refl
+round_lessens link c b (suc n) low s =
+    lessens_then c s (round link c b n s) (round link c b (suc n) s)
+    (round_lessens link c b n (let e : n ≤ c.channels.count - b = omega (arith, low) in e) s)
+    (one_lessens link c (b + suc n) (let e : 1 ≤ b + suc n = omega arith in e) (let e : b + suc n ≤ c.channels.count = omega (arith, low) in e)
+    (round link c b n s))
 
 -- where a round gives nothing, no more rounds do
-stays : (k : ℕ) (link : LinkView) (c : LayerSettings) (s : Putting) → round link c c.channels.count s ≡ s → rounds_of k link c s ≡ s
+stays : (k : ℕ) (link : LinkView) (c : LayerSettings) (s : Putting) → round link c 0 c.channels.count s ≡ s → rounds_of k link c s ≡ s
 stays zero link c s is = refl
 stays (suc k) link c s is = ap (λ (t : Putting). rounds_of k link c t) is ∙ stays k link c s is
 
-settled : (k : ℕ) (link : LinkView) (c : LayerSettings) (s : Putting) → left c s ≤ k → round link c c.channels.count (rounds_of k link c s)
+settled : (k : ℕ) (link : LinkView) (c : LayerSettings) (s : Putting) → left c s ≤ k → round link c 0 c.channels.count (rounds_of k link c s)
     ≡ rounds_of k link c s
-settled zero link c s enough = by (round_lessens link c c.channels.count (let e : c.channels.count ≤ c.channels.count = omega arith in e) s)
+settled zero link c s enough = by (round_lessens link c 0 c.channels.count (let e : c.channels.count ≤ c.channels.count - 0 = omega arith in e) s)
   where
-    by : Lessens c s (round link c c.channels.count s) → round link c c.channels.count s ≡ s
+    by : Lessens c s (round link c 0 c.channels.count s) → round link c 0 c.channels.count s ≡ s
     by (inl is) = is
     by (inr less) = absurd (omega (arith, enough, less))
-settled (suc j) link c s enough = by (round_lessens link c c.channels.count (let e : c.channels.count ≤ c.channels.count = omega arith in e) s)
-    (λ small. settled j link c (round link c c.channels.count s) small)
+settled (suc j) link c s enough = by (round_lessens link c 0 c.channels.count (let e : c.channels.count ≤ c.channels.count - 0 = omega arith in e) s)
+    (λ small. settled j link c (round link c 0 c.channels.count s) small)
   where
-    by : Lessens c s (round link c c.channels.count s)
-        → (left c (round link c c.channels.count s) ≤ j → round link c c.channels.count (rounds_of j link c (round link c c.channels.count s))
-        ≡ rounds_of j link c (round link c c.channels.count s))
-        → round link c c.channels.count (rounds_of j link c (round link c c.channels.count s)) ≡ rounds_of j link c (round link c c.channels.count s)
+    by : Lessens c s (round link c 0 c.channels.count s)
+        → (left c (round link c 0 c.channels.count s) ≤ j → round link c 0 c.channels.count (rounds_of j link c (round link c 0 c.channels.count s))
+        ≡ rounds_of j link c (round link c 0 c.channels.count s))
+        → round link c 0 c.channels.count (rounds_of j link c (round link c 0 c.channels.count s)) ≡ rounds_of j link c (round link c 0 c.channels.count s)
     by (inl is) again =
-        let end : rounds_of j link c (round link c c.channels.count s) ≡ s = stays (suc j) link c s is in
-        ap (λ (t : Putting). round link c c.channels.count t) end ∙ is ∙ sym end
-    by (inr less) again = again (let e : left c (round link c c.channels.count s) ≤ j = omega (arith, enough, less) in e)
+        let end : rounds_of j link c (round link c 0 c.channels.count s) ≡ s = stays (suc j) link c s is in
+        ap (λ (t : Putting). round link c 0 c.channels.count t) end ∙ is ∙ sym end
+    by (inr less) again = again (let e : left c (round link c 0 c.channels.count s) ≤ j = omega (arith, enough, less) in e)
 
 -- rounds behind one that gives nothing
-stays_on : (n k : ℕ) (link : LinkView) (c : LayerSettings) (s : Putting) → n ≤ k → round link c c.channels.count (rounds_of n link c s) ≡ rounds_of n link c s
+stays_on : (n k : ℕ) (link : LinkView) (c : LayerSettings) (s : Putting) → n ≤ k → round link c 0 c.channels.count (rounds_of n link c s) ≡ rounds_of n link c s
     → rounds_of k link c s ≡ rounds_of n link c s
 stays_on zero k link c s low is = stays k link c s is
 stays_on (suc n) zero link c s low is = absurd (omega (arith, low))
-stays_on (suc n) (suc k) link c s low is = stays_on n k link c (round link c c.channels.count s) (let e : n ≤ k = omega (arith, low) in e) is
+stays_on (suc n) (suc k) link c s low is = stays_on n k link c (round link c 0 c.channels.count s) (let e : n ≤ k = omega (arith, low) in e) is
 
 -- more rounds than there are packets to be sent do no more
-more_rounds : (k : ℕ) (link : LinkView) (c : LayerSettings) (s : Putting) → left c s ≤ k → rounds_of k link c s ≡ rounds link c s
+more_rounds : (k : ℕ) (link : LinkView) (c : LayerSettings) (s : Putting) → left c s ≤ k → rounds_of k link c s ≡ whole_rounds link c s
 more_rounds k link c s enough = stays_on (left c s) k link c s enough (settled (left c s) link c s (let e : left c s ≤ left c s = omega arith in e))
 
 -- a round leads to where all of them do
-pub rounds_behind : (link : LinkView) (c : LayerSettings) (s : Putting) → rounds link c (round link c c.channels.count s) ≡ rounds link c s
-rounds_behind link c s = by (round_lessens link c c.channels.count (let e : c.channels.count ≤ c.channels.count = omega arith in e) s)
+pub rounds_behind : (link : LinkView) (c : LayerSettings) (s : Putting) → whole_rounds link c (round link c 0 c.channels.count s) ≡ whole_rounds link c s
+rounds_behind link c s = by (round_lessens link c 0 c.channels.count (let e : c.channels.count ≤ c.channels.count - 0 = omega arith in e) s)
   where
-    by : Lessens c s (round link c c.channels.count s) → rounds link c (round link c c.channels.count s) ≡ rounds link c s
-    by (inl is) = ap (λ (t : Putting). rounds link c t) is
+    by : Lessens c s (round link c 0 c.channels.count s) → whole_rounds link c (round link c 0 c.channels.count s) ≡ whole_rounds link c s
+    by (inl is) = ap (λ (t : Putting). whole_rounds link c t) is
     by (inr less) =
-        sym (more_rounds (left c s) link c (round link c c.channels.count s)
-        (let e : left c (round link c c.channels.count s) ≤ left c s = omega (arith, less) in e))
+        sym (more_rounds (left c s) link c (round link c 0 c.channels.count s)
+        (let e : left c (round link c 0 c.channels.count s) ≤ left c s = omega (arith, less) in e))
         ∙ more_rounds (suc (left c s)) link c s (let e : left c s ≤ suc (left c s) = omega arith in e)
 
 -- where a round gives nothing, that is where all of them lead
-pub rounds_at_end : (link : LinkView) (c : LayerSettings) (s : Putting) → round link c c.channels.count s ≡ s → rounds link c s ≡ s
+pub rounds_at_end : (link : LinkView) (c : LayerSettings) (s : Putting) → round link c 0 c.channels.count s ≡ s → whole_rounds link c s ≡ s
 rounds_at_end link c s is = stays (left c s) link c s is
 
 -- one round more gives nothing
 pub rounds_settle : RoundsSettle
 rounds_settle link c s = settled (left c s) link c s (let e : left c s ≤ left c s = omega arith in e)
 
--- circuits that begin have nothing to send
-begun_backlog : (n : ℕ) → backlog (λ k. begun) n ≡ 0
-begun_backlog zero = refl
-begun_backlog (suc n) = let e : backlog (λ k. begun) n ≡ 0 = begun_backlog n in omega (arith, e)
-
 pub comes_up_alone : ComesUpAlone
-comes_up_alone link c = ap (λ (n : ℕ). rounds_of n link c (begin (goes_up c).next (goes_up c).owed)) (begun_backlog c.channels.count)
+comes_up_alone link c = refl

@@ -3,6 +3,7 @@ pub mod Acknowledged
 pub mod Law
 pub mod Rounds
 pub mod RoundLaw
+pub mod FairLaw
 pub mod NameLaw
 pub mod ApartLaw
 pub mod WaitLaw

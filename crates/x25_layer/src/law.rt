@@ -6,6 +6,7 @@ ghost use Rattle.x25_layer.specs.laws.Acknowledged.{AcknowledgedAreHandedUp};
 ghost use Rattle.x25_layer.specs.laws.Apart.{AlwaysApart};
 ghost use Rattle.x25_layer.specs.laws.ApartLaw.{IsOverLinks, RestartsFirst, BeginsAlone, OwnMovesDecide, StaysDown};
 ghost use Rattle.x25_layer.specs.laws.ApartLaw.{EventsRunOn};
+ghost use Rattle.x25_layer.specs.laws.FairLaw.{EachHasItsTurn};
 ghost use Rattle.x25_layer.specs.laws.RoundLaw.{CallsRun, HearsRun, RoundsSettle, RoundsGoOn, RoundsEnd, ComesUpAlone};
 ghost use Rattle.x25_layer.specs.laws.PeerClaims.{WithAnyPeer, FindsNoError, IsAllInOrder, AllHaveArrived};
 ghost use Rattle.x25_layer.specs.laws.WaitLaw.{RoundsLeaveNone, StillPullsNone, ClosedKeepNone, NoneOpenInRestart};
@@ -16,11 +17,9 @@ ghost use Rattle.x25_layer.specs.laws.WaitLaw.{WaitForUsersAlone};
 /// - what each link was given is what the other handed up, and then what is in flight;
 /// - no end sent the other or reported to its user an error of procedure;
 /// - on each channel and under each name of a stretch, what an end handed up is a beginning of what the other handed
-/// down, of
-///   messages, of interrupts and of calls;
+///   down, of messages, of interrupts and of calls;
 /// - and all of the messages and interrupts of a stretch that is open at both ends, where all that the giver handed
-/// down is
-///   acknowledged and none of its messages waits.
+///   down is acknowledged and none of its messages waits.
 pub fn two_layers_keep_order()
     ensures order { (long_data : Bool) (channels : Ranges) → Always KeepsOrder long_data channels }
     ensures quiet { (long_data : Bool) (channels : Ranges) → Always (IsQuietWorld channels) long_data channels }
@@ -135,3 +134,10 @@ pub fn messages_wait_for_users()
     x25_handshakes::drained_ends_know();
     apart_layers_keep_order();
 }
+
+/// No channel that may send a data packet waits for ever, whatever the others have to send. In the rounds of a step it
+/// sends one; or its circuit is as it was, 8 packets wait, and each packet that the others sent brought its turn nearer
+/// by one channel at least. So at most n - 1 packets of n - 1 others go before its next one.
+pub fn each_channel_has_its_turn()
+    ensures turn { EachHasItsTurn }
+{}

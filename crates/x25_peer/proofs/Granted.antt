@@ -55,7 +55,7 @@ did_granted c s request step is = by (is_up s.link.phase) (may_ask c.wide reques
 
     by : (up may : Bool) (o : LayerOutcome)
         → where_asked may (did c (alone s.link) (entries o)
-        (if up then went (view_of (link_settings c) s.link) (layer_settings c) o else Refuses layer_error.NotUp)) ≡ Did step
+        (if up then went (view_of (link_settings c) s.turn s.link) (layer_settings c) o else Refuses layer_error.NotUp)) ≡ Did step
         → IsGranted up may o (entries o) step
     by true true (Accepted next own) is = record { is_up = refl; is_taken = refl; next = next; own = own; accepted = refl; entries = entries_did step _ is }
     by false true o is = refused_did (error.Layer layer_error.NotUp) step is
@@ -76,7 +76,7 @@ gave_granted c s g request step is = by (is_up s.link.phase) (is_taken c g reque
 
     by : (up taken : Bool) (o : LayerOutcome)
         → gave c g taken (alone s.link) (entries o)
-        (if up then went (view_given (link_settings c) g s.link) (layer_settings c) o else Refuses layer_error.NotUp) ≡ Did step
+        (if up then went (view_given (link_settings c) g s.turn s.link) (layer_settings c) o else Refuses layer_error.NotUp) ≡ Did step
         → IsGranted up taken o (entries o) step
     by true true (Accepted next own) is = record { is_up = refl; is_taken = refl; next = next; own = own; accepted = refl; entries = entries_did step _ is }
     by true false (Accepted next own) is = refused_did not_taken step is

@@ -12,6 +12,7 @@ use Rattle.x25_circuit.specs.declared.error.CircuitError.TheVariants as circuit_
 use Rattle.x25_circuit.specs.Calling as circuit
 use Rattle.x25_layer.specs.declared.layer.Layer as layer_code
 use Rattle.x25_layer.specs.declared.error.LayerError.TheVariants as layer_error
+use Rattle.x25_station.specs.code.OverLink.{TurnGives}
 use Rattle.x25_station.specs.code.OverLink as over
 use Rattle.x25_station.specs.declared.step.Step as code_step
 use Rattle.x25_station.specs.declared.error.StationError.TheVariants as error
@@ -31,17 +32,18 @@ after_puts c m packets t fits = subst (λ (x : LinkState). FitsWhole m x) (put_b
 -- ---- an accepted call
 
 pub leaves_did : {T : Type 0} {manner : Manner} (u : T) (c : Settings) → manner ≡ manner_of c
-    → (s : LinkStation) (m n : ShownLink) (z : layer_code.Layer) (entries : List StationEntry) (a : Answered) → LayerGives (layer_settings c) z (Ok u) a
-    → LinkGives m (kept_of (link_settings c) (alone s)) (Ok u) a → n.station ≡ m.station → n.frames ≡ [] → KeptBy (did c (alone s) entries a)
-    → station.LeavesParts {T = Unit} c manner n z (Ok tt) (did c (alone s) entries a)
-leaves_did u c as_set s m n z entries (Went p) layer link same none kept = record {
+    → (s : LinkStation) (m n : ShownLink) (z : layer_code.Layer) (turn : ℕ) (entries : List StationEntry) (a : Answered)
+    → LayerGives (layer_settings c) z (Ok u) a → LinkGives m (kept_of (link_settings c) (alone s)) (Ok u) a → TurnGives turn (Ok u) a → n.station ≡ m.station → n.frames ≡ [] → KeptBy (did c (alone s) entries a)
+    → station.LeavesParts {T = Unit} c manner n z turn (Ok tt) (did c (alone s) entries a)
+leaves_did u c as_set s m n z turn entries (Went p) layer link turns same none kept = record {
   link = taken_link (link_settings c) m n _ same (after_puts (link_settings c) m p.put (alone s) link).link;
   layer = layer;
+  turned = turns;
   kept = kept;
   sent = none;
   same = as_set;
 }
-leaves_did u c as_set s m n z entries (Refuses e) layer link same none kept = absurd (ok_err u e layer)
+leaves_did u c as_set s m n z turn entries (Refuses e) layer link turns same none kept = absurd (ok_err u e layer)
 
 pub sends_did : {T : Type 0} (u : T) (c : Settings) (s : LinkStation) (m : ShownLink) (r : code_step.Step) (entries : List StationEntry) (a : Answered)
     → LinkGives m (kept_of (link_settings c) (alone s)) (Ok u) a → r.frames ≡ m.frames → station.Sends {T = Unit} c r (Ok tt) (did c (alone s) entries a)
@@ -133,91 +135,107 @@ calls_named view c l request = test view.is_up
 
 -- ---- the calls, by the layer's clauses
 
-abbrev pub Layers : {T : Type 0} → ShownLink → layer_code.Layer → layer_code.Layer → Result T LayerError → LayerRequest → Type 0
-Layers l y z result request = (d : LayerSettings) (k : Layer) (x : LinkState) → FitsLayer d y k → FitsWhole l x
-    → LayerGives d z result (calls (over.seen_at x) d k request)
+abbrev pub Layers : {T : Type 0} → ShownLink → layer_code.Layer → ℕ → layer_code.Layer → Result T LayerError → LayerRequest → Type 0
+Layers l y turn z result request = (d : LayerSettings) (k : Layer) (x : LinkState) → FitsLayer d y k → FitsWhole l x
+    → LayerGives d z result (calls (over.seen_at turn x) d k request)
 
-abbrev pub Links : {T : Type 0} → ShownLink → ShownLink → layer_code.Layer → Result T LayerError → LayerRequest → Type 0
-Links l m y result request =
-    (d : LayerSettings) (k : Layer) (x : LinkState) → FitsLayer d y k → FitsWhole l x → LinkGives m x result (calls (over.seen_at x) d k request)
+abbrev pub Links : {T : Type 0} → ShownLink → ShownLink → layer_code.Layer → ℕ → Result T LayerError → LayerRequest → Type 0
+Links l m y turn result request =
+    (d : LayerSettings) (k : Layer) (x : LinkState) → FitsLayer d y k → FitsWhole l x → LinkGives m x result (calls (over.seen_at turn x) d k request)
+
+abbrev pub Turns : {T : Type 0} → ShownLink → layer_code.Layer → ℕ → ℕ → Result T LayerError → LayerRequest → Type 0
+Turns l y turn turn₂ result request =
+    (d : LayerSettings) (k : Layer) (x : LinkState) → FitsLayer d y k → FitsWhole l x → TurnGives turn₂ result (calls (over.seen_at turn x) d k request)
 
 -- why the layer would refuse it
 abbrev pub Judges : Option LayerError → ShownLink → layer_code.Layer → LayerRequest → Type 0
-Judges o l y request = (d : LayerSettings) (k : Layer) (x : LinkState) → FitsLayer d y k → FitsWhole l x → o ≡ refusal_of (calls (over.seen_at x) d k request)
+Judges o l y request =
+    (d : LayerSettings) (k : Layer) (turn : ℕ) (x : LinkState) → FitsLayer d y k → FitsWhole l x → o ≡ refusal_of (calls (over.seen_at turn x) d k request)
 
 -- the frames are kept from nothing on
-whole : {manner : Manner} (c : Settings) (l : ShownLink) (y : layer_code.Layer) (s : Station) → FitsParts c manner l y s
+whole : {manner : Manner} {turn : ℕ} (c : Settings) (l : ShownLink) (y : layer_code.Layer) (s : Station) → FitsParts c manner l y turn s
     → FitsWhole l (kept_of (link_settings c) (alone s.link))
 whole c l y s fits = record { link = fits.link; kept = fits.sent }
 
 -- the layer's call, whatever may be asked
 abbrev pub requested : Settings → Station → LayerRequest → Outcome
-requested c s request = requests_of c s.link s.layer (view_of (link_settings c) s.link) request
+requested c s request = requests_of c s.link s.layer (view_of (link_settings c) s.turn s.link) request
 
 abbrev pub answered_by : Settings → Station → LayerRequest → Answered
-answered_by c s request = calls (view_of (link_settings c) s.link) (layer_settings c) s.layer request
+answered_by c s request = calls (view_of (link_settings c) s.turn s.link) (layer_settings c) s.layer request
 
-pub judged_by : {manner : Manner} (o : Option LayerError) (c : Settings) (l : ShownLink) (y : layer_code.Layer) (s : Station) (request : LayerRequest)
-    → FitsParts c manner l y s → Judges o l y request → o ≡ refusal_of (answered_by c s request)
+pub judged_by : {manner : Manner} {turn : ℕ} (o : Option LayerError) (c : Settings) (l : ShownLink) (y : layer_code.Layer) (s : Station) (request : LayerRequest)
+    → FitsParts c manner l y turn s → Judges o l y request → o ≡ refusal_of (answered_by c s request)
 judged_by o c l y s request fits judges =
-    judges (layer_settings c) s.layer (kept_of (link_settings c) (alone s.link)) fits.layer (whole c l y s fits)
-    ∙ ap (λ (view : LinkView). refusal_of (calls view (layer_settings c) s.layer request)) (same_view (link_settings c) (alone s.link))
+    judges (layer_settings c) s.layer s.turn (kept_of (link_settings c) (alone s.link)) fits.layer (whole c l y s fits)
+    ∙ ap (λ (view : LinkView). refusal_of (calls view (layer_settings c) s.layer request)) (same_view (link_settings c) s.turn (alone s.link))
 
-pub layer_gives : {manner : Manner} {T : Type 0} (result : Result T LayerError) (c : Settings) (l : ShownLink) (y z : layer_code.Layer) (s : Station)
-    (request : LayerRequest) → FitsParts c manner l y s → Layers l y z result request
+pub layer_gives : {manner : Manner} {turn : ℕ} {T : Type 0} (result : Result T LayerError) (c : Settings) (l : ShownLink) (y z : layer_code.Layer) (s : Station)
+    (request : LayerRequest) → FitsParts c manner l y turn s → Layers l y turn z result request
     → LayerGives (layer_settings c) z result (answered_by c s request)
 layer_gives result c l y z s request fits clause =
     subst (λ (view : LinkView). LayerGives (layer_settings c) z result (calls view (layer_settings c) s.layer request))
-    (same_view (link_settings c) (alone s.link))
-    (clause (layer_settings c) s.layer (kept_of (link_settings c) (alone s.link)) fits.layer (whole c l y s fits))
+    (same_view (link_settings c) s.turn (alone s.link))
+    (subst (λ (at : ℕ). Layers l y at z result request) fits.turned clause (layer_settings c) s.layer (kept_of (link_settings c) (alone s.link)) fits.layer
+    (whole c l y s fits))
 
-pub link_gives : {manner : Manner} {T : Type 0} (result : Result T LayerError) (c : Settings) (l m : ShownLink) (y : layer_code.Layer) (s : Station)
-    (request : LayerRequest) → FitsParts c manner l y s → Links l m y result request
+pub link_gives : {manner : Manner} {turn : ℕ} {T : Type 0} (result : Result T LayerError) (c : Settings) (l m : ShownLink) (y : layer_code.Layer) (s : Station)
+    (request : LayerRequest) → FitsParts c manner l y turn s → Links l m y turn result request
     → LinkGives m (kept_of (link_settings c) (alone s.link)) result (answered_by c s request)
 link_gives result c l m y s request fits clause =
     subst (λ (view : LinkView). LinkGives m (kept_of (link_settings c) (alone s.link)) result (calls view (layer_settings c) s.layer request))
-    (same_view (link_settings c) (alone s.link))
-    (clause (layer_settings c) s.layer (kept_of (link_settings c) (alone s.link)) fits.layer (whole c l y s fits))
+    (same_view (link_settings c) s.turn (alone s.link))
+    (subst (λ (at : ℕ). Links l m y at result request) fits.turned clause (layer_settings c) s.layer (kept_of (link_settings c) (alone s.link)) fits.layer
+    (whole c l y s fits))
 
-pub record Answers (c : Settings) (manner : Manner) (n : ShownLink) (z : layer_code.Layer) (r : code_step.Step) (outcome : Outcome) : Type 0 where
-  pub state : station.LeavesParts {T = Unit} c manner n z (Ok tt) outcome
+pub turn_gives : {manner : Manner} {turn : ℕ} (turn₂ : ℕ) {T : Type 0} (result : Result T LayerError) (c : Settings) (l : ShownLink) (y : layer_code.Layer) (s : Station)
+    (request : LayerRequest) → FitsParts c manner l y turn s → Turns l y turn turn₂ result request → TurnGives turn₂ result (answered_by c s request)
+turn_gives turn₂ result c l y s request fits clause =
+    subst (λ (view : LinkView). TurnGives turn₂ result (calls view (layer_settings c) s.layer request))
+    (same_view (link_settings c) s.turn (alone s.link))
+    (subst (λ (at : ℕ). Turns l y at turn₂ result request) fits.turned clause (layer_settings c) s.layer (kept_of (link_settings c) (alone s.link)) fits.layer
+    (whole c l y s fits))
+
+pub record Answers (c : Settings) (manner : Manner) (n : ShownLink) (z : layer_code.Layer) (turn : ℕ) (r : code_step.Step) (outcome : Outcome) : Type 0 where
+  pub state : station.LeavesParts {T = Unit} c manner n z turn (Ok tt) outcome
   pub frames : station.Sends {T = Unit} c r (Ok tt) outcome
   pub refused : station.Refuses {T = Unit} (Ok tt) outcome
 
 -- an accepted call of the layer, from the link l and the layer y to m and z, and then to n, from which the frames are taken
-pub answers : {manner : Manner} {T : Type 0} (u : T) (c : Settings) (l m n : ShownLink) (y z : layer_code.Layer) (r : code_step.Step) (s : Station)
-    (request : LayerRequest) → FitsParts c manner l y s → Layers l y z (Ok u) request → Links l m y (Ok u) request
-    → n.station ≡ m.station → n.frames ≡ [] → r.frames ≡ m.frames → may_ask c.wide request ≡ true → KeptBy (requests c s request)
-    → Answers c manner n z r (requests c s request)
-answers {manner = manner} u c l m n y z r s request fits layers links same none made may kept =
+pub answers : {manner : Manner} {turn turn₂ : ℕ} {T : Type 0} (u : T) (c : Settings) (l m n : ShownLink) (y z : layer_code.Layer) (r : code_step.Step) (s : Station)
+    (request : LayerRequest) → FitsParts c manner l y turn s → Layers l y turn z (Ok u) request → Links l m y turn (Ok u) request
+    → Turns l y turn turn₂ (Ok u) request → n.station ≡ m.station → n.frames ≡ [] → r.frames ≡ m.frames → may_ask c.wide request ≡ true → KeptBy (requests c s request)
+    → Answers c manner n z turn₂ r (requests c s request)
+answers {manner = manner} {turn₂ = turn₂} u c l m n y z r s request fits layers links turns same none made may kept =
     let a : Answered = answered_by c s request in
     let layer = layer_gives (Ok u) c l y z s request fits layers in
     let link = link_gives (Ok u) c l m y s request fits links in
+    let turned = turn_gives turn₂ (Ok u) c l y s request fits turns in
     let lc : LayerSettings = layer_settings c in
     let entries : List StationEntry = entries_of_outcome lc s.layer request
     (layer_outcome lc (waiting_after (link_settings c) s.link [] == 256) s.layer request) in
     let o : Outcome = did c (alone s.link) entries a in
-    subst (λ (b : Bool). Answers c manner n z r (where_asked b o)) (sym may) (record {
-      state = leaves_did u c fits.same s.link m n z entries a layer link same none (subst (λ (b : Bool). KeptBy (where_asked b o)) may kept);
+    subst (λ (b : Bool). Answers c manner n z turn₂ r (where_asked b o)) (sym may) (record {
+      state = leaves_did u c fits.same s.link m n z turn₂ entries a layer link turned same none (subst (λ (b : Bool). KeptBy (where_asked b o)) may kept);
       frames = sends_did u c s.link m r entries a link made;
       refused = goes_did u c s.link z entries a layer;
     })
 
 -- a call of the layer that is refused, or finds no memory
-pub refuses : {manner : Manner} (T U : Type 0) (e : LayerError) (found : StationError) (c : Settings) (l : ShownLink) (y z : layer_code.Layer) (s : Station)
-    (request : LayerRequest) → FitsParts c manner l y s → found ≡ of_layer e
-    → (let x : Result T LayerError = Err e in Layers l y z x request) → (let x : Result U StationError = Err found in station.Refuses x (requested c s request))
+pub refuses : {manner : Manner} {turn : ℕ} (T U : Type 0) (e : LayerError) (found : StationError) (c : Settings) (l : ShownLink) (y z : layer_code.Layer) (s : Station)
+    (request : LayerRequest) → FitsParts c manner l y turn s → found ≡ of_layer e
+    → (let x : Result T LayerError = Err e in Layers l y turn z x request) → (let x : Result U StationError = Err found in station.Refuses x (requested c s request))
 refuses T U e found c l y z s request fits is layers =
     let x : Result T LayerError = Err e in
     let lc : LayerSettings = layer_settings c in
     let entries : List StationEntry = entries_of_outcome lc s.layer request
     (layer_outcome lc (waiting_after (link_settings c) s.link [] == 256) s.layer request) in
-    refused_did T U e found c s.link z entries (answered_by c s request) (calls_named (view_of (link_settings c) s.link) lc s.layer request) is
+    refused_did T U e found c s.link z entries (answered_by c s request) (calls_named (view_of (link_settings c) s.turn s.link) lc s.layer request) is
     (layer_gives x c l y z s request fits layers)
 
 -- then the station is as before
-pub still_fits : {manner : Manner} (c : Settings) (l m : ShownLink) (y z : layer_code.Layer) (s : Station) → FitsParts c manner l y s
-    → FitsLayer (layer_settings c) z s.layer → ((x : LinkState) → FitsWhole l x → FitsWhole m x) → FitsParts c manner m z s
+pub still_fits : {manner : Manner} {turn : ℕ} (c : Settings) (l m : ShownLink) (y z : layer_code.Layer) (s : Station) → FitsParts c manner l y turn s
+    → FitsLayer (layer_settings c) z s.layer → ((x : LinkState) → FitsWhole l x → FitsWhole m x) → FitsParts c manner m z turn s
 still_fits c l m y z s fits layer links =
     let after : FitsWhole m (kept_of (link_settings c) (alone s.link)) = links (kept_of (link_settings c) (alone s.link)) (whole c l y s fits) in
-    record { link = after.link; layer = layer; kept = fits.kept; sent = after.kept; same = fits.same }
+    record { link = after.link; layer = layer; turned = fits.turned; kept = fits.kept; sent = after.kept; same = fits.same }

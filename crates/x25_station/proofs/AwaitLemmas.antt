@@ -13,6 +13,8 @@ use Rattle.x25_station.proofs.Names.{answers_restarting, answers_in, undecoded_i
 use Rattle.x25_station.proofs.Names.{rounds_of, rounds, backlog, Asked, Told, name_of, shown, Up, PlainPacket, call, accept, clear, clear_conf, reset}
 use Rattle.x25_station.proofs.Names.{reset_conf, restart, restart_conf, channel_in, channel_of, PacketError, Marks, StationEntry, of_channel, restart_asked}
 use Rattle.x25_station.proofs.Names.{was_restarted, restart_confirmed, at_fault, station_told, station_asked, is_answered_on, is_left_on, rank_in, rank_of}
+use Rattle.x25_station.proofs.Names.{◌+◌, ◌-◌}
+use Rattle.x25_layer.specs.laws.Rounds.{at_turn, rest_of_round}
 use Rattle.x25_circuit.specs.{Calling.{Outcome as CircuitOutcome, Refused as CircuitRefused}, declared.awaits.Awaits.TheVariants.{Nothing}}
 use Rattle.x25_layer.specs.laws.Transcript.{Said}
 use Rattle.x25_station.specs.laws.EndLaw.{is_answer, is_answer_in, clears_in}
@@ -487,28 +489,32 @@ same_trans l m n p q = (q.0 ∙ p.0, λ k. q.1 k ∙ p.1 k)
 one_same : (link : LinkView) (c : LayerSettings) (h : ℕ) (s : Putting) → SameStates s.layer (pull_one link c h s).layer
 one_same link c h s = test (nat_lt (link.waits s.put) 8)
   where
-    given : (o : Option PlainPacket) → SameStates s.layer (with_pulled s (layer_pulled c s.layer h) o).layer
+    given : (o : Option PlainPacket) → SameStates s.layer (with_pulled h s (layer_pulled c s.layer h) o).layer
     given None = (refl, λ k. refl)
     given (Some packet) = pulled_same c s.layer h
 
-    test : (b : Bool) → (let n : Putting = if b then with_pulled s (layer_pulled c s.layer h) (layer_pulled c s.layer h).packet else s in
+    test : (b : Bool) → (let n : Putting = if b then with_pulled h s (layer_pulled c s.layer h) (layer_pulled c s.layer h).packet else s in
         SameStates s.layer n.layer)
     test true = given (layer_pulled c s.layer h).packet
     test false = (refl, λ k. refl)
 
-round_same : (link : LinkView) (c : LayerSettings) (n : ℕ) (s : Putting) → SameStates s.layer (round link c n s).layer
-round_same link c zero s = (refl, λ k. refl)
-round_same link c (suc n) s = same_trans s.layer (round link c n s).layer (pull_one link c (suc n) (round link c n s)).layer (round_same link c n s)
-    (one_same link c (suc n) (round link c n s))
+round_same : (link : LinkView) (c : LayerSettings) (b n : ℕ) (s : Putting) → SameStates s.layer (round link c b n s).layer
+round_same link c b zero s = (refl, λ k. refl)
+round_same link c b (suc n) s =
+    same_trans s.layer (round link c b n s).layer (pull_one link c (b + suc n) (round link c b n s)).layer (round_same link c b n s)
+    (one_same link c (b + suc n) (round link c b n s))
 
 rounds_of_same : (n : ℕ) (link : LinkView) (c : LayerSettings) (s : Putting) → SameStates s.layer (rounds_of n link c s).layer
 rounds_of_same zero link c s = (refl, λ k. refl)
 rounds_of_same (suc n) link c s =
-    same_trans s.layer (round link c c.channels.count s).layer (rounds_of n link c (round link c c.channels.count s)).layer
-    (round_same link c c.channels.count s) (rounds_of_same n link c (round link c c.channels.count s))
+    same_trans s.layer (round link c 0 c.channels.count s).layer (rounds_of n link c (round link c 0 c.channels.count s)).layer
+    (round_same link c 0 c.channels.count s) (rounds_of_same n link c (round link c 0 c.channels.count s))
 
 pub rounds_same : (link : LinkView) (c : LayerSettings) (s : Putting) → SameStates s.layer (rounds link c s).layer
-rounds_same link c s = rounds_of_same (backlog s.layer.circuits c.channels.count) link c s
+rounds_same link c s =
+    let rest : Putting = rest_of_round link c s in
+    same_trans s.layer rest.layer (rounds link c s).layer (round_same link c link.turn (c.channels.count - link.turn) (at_turn link.turn s))
+    (rounds_of_same (backlog rest.layer.circuits c.channels.count) link c rest)
 
 pub moves_on : (c : LayerSettings) (h : ℕ) (l m n : Layer) (entries : List StationEntry) → LayerMoves c h l m entries → SameStates m n
     → LayerMoves c h l n entries

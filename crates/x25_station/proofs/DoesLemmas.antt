@@ -1,11 +1,12 @@
 -- A call does what the definition says of it, by what the calls of its link or of its layer did.
+use Rattle.x25_station.proofs.Names.{ℕ}
 use Rattle.x25_station.proofs.Names.{◌≡◌, ◌≤◌, List, [], length, Bool, true, false, Some, None, Result, Ok, Err, OnErr, refl, ap, sym, ◌∙◌, subst, arith}
 use Rattle.x25_station.proofs.Names.{LayerRequest, LayerSettings, Layer, FitsLayer, LayerError, Answered, Went, refusal_of, alone, LinkStation, Side}
 use Rattle.x25_station.proofs.Names.{WindowIsSmall, FewStand, ShownLink, LinkState, FitsWhole, may_ask, Settings, link_settings, layer_settings, StationEntry}
 use Rattle.x25_station.proofs.Names.{of_layer, not_taken, kept_of, Station, all_put, view_of, Outcome, Did, Refused, did, requests, where_asked, FitsParts}
 use Rattle.x25_station.proofs.Names.{AreMeant, FitsStation, Does, IsEmpty, Enters, Leaves, LinkGives, Manner, StationError, Timer, RequestKeeps}
 use Rattle.x25_layer.specs.laws.Rounds.{Refuses as LayerRefuses}
-use Rattle.x25_station.proofs.AskLemmas.{Layers, Links, Judges, Answers, IsNamed, answers, answered_by, requested, calls_named, judged_by, link_gives}
+use Rattle.x25_station.proofs.AskLemmas.{Layers, Links, Turns, Judges, Answers, IsNamed, answers, answered_by, requested, calls_named, judged_by, link_gives}
 use Rattle.x25_station.proofs.{AskLemmas.{after_puts, refuses, still_fits}, FrameLemmas.{few_put}}
 use Rattle.x25_station.{proofs.ResultLemmas.{ok_err}, proofs.TakeLemmas.{least_by_meaning, few_made}, specs.code.FitsStation.{Sends, Refuses}}
 use Rattle.x25_layer.specs.declared.layer.Layer as layer_code
@@ -88,23 +89,24 @@ puts_few u c s m (Went p) small low link = few_made c.role m.frames (all_put (li
     (after_puts (link_settings c) m p.put (alone s) link).kept (few_put (link_settings c) p.put (alone s) small low)
 puts_few u c s m (LayerRefuses e) small low link = absurd (ok_err u e link)
 
-pub made_few : {T : Type 0} {manner : Manner} (u : T) (l m : ShownLink) (y : layer_code.Layer) (request : LayerRequest) → AreMeant manner l y
-    → Links l m y (Ok u) request → WindowIsSmall → FewStand → length m.frames ≤ 8
+pub made_few : {T : Type 0} {manner : Manner} {turn : ℕ} (u : T) (l m : ShownLink) (y : layer_code.Layer) (request : LayerRequest) → AreMeant manner l y turn
+    → Links l m y turn (Ok u) request → WindowIsSmall → FewStand → length m.frames ≤ 8
 made_few u l m y request h links small stand = least_by_meaning l y (length m.frames) 8 h (λ c s fits.
     puts_few u c s.link m (answered_by c s request) (small (link_settings c) l s.link fits.link) (stand (link_settings c) l s.link fits.link).place_low
     (link_gives (Ok u) c l m y s request fits links))
 
 -- From the link and the layer of the old station its call led to the link m, from which the frames were taken, and to the layer of the new one.
 pub did_request : {T : Type 0} (u : T) (old new : code.Station) (m : ShownLink) (r : code_step.Step) (request : LayerRequest)
-    → Layers old.link old.layer new.layer (Ok u) request → Links old.link m old.layer (Ok u) request
+    → Layers old.link old.layer old.turn new.layer (Ok u) request → Links old.link m old.layer old.turn (Ok u) request
+    → Turns old.link old.layer old.turn new.turn (Ok u) request
     → new.link.station ≡ m.station → new.link.frames ≡ [] → r.frames ≡ m.frames → RequestKeeps → WindowIsSmall → FewStand
     → ((c : Settings) (s : Station) → FitsStation c old s → may_ask c.wide request ≡ true)
     → ((c : Settings) (s : Station) → FitsStation c old s → Enters {T = Unit} r (Ok tt) (requests c s request)) → old.manner ≡ new.manner
     → Does old new r (Ok tt) (λ c s. requests c s request)
-did_request u old new m r request layers links same none made keeps small stand may entered manner =
-    let parts : (c : Settings) (s : Station) → FitsStation c old s → Answers c new.manner new.link new.layer r (requests c s request) =
-    λ c s fits. answers u c old.link m new.link old.layer new.layer r s request (subst (λ (b : Manner). FitsParts c b old.link old.layer s) manner fits) layers
-    links same none made (may c s fits) (keeps c s request fits.kept) in
+did_request u old new m r request layers links turns same none made keeps small stand may entered manner =
+    let parts : (c : Settings) (s : Station) → FitsStation c old s → Answers c new.manner new.link new.layer new.turn r (requests c s request) =
+    λ c s fits. answers u c old.link m new.link old.layer new.layer r s request (subst (λ (b : Manner). FitsParts c b old.link old.layer old.turn s) manner fits) layers
+    links turns same none made (may c s fits) (keeps c s request fits.kept) in
     let put = made_few u old.link m old.layer request old.meant links small stand in
     let same : length r.frames ≡ length m.frames = ap length made in
     record {
@@ -152,7 +154,7 @@ pub declines_early : (found : StationError) (e : LayerError) (old new : code.Sta
 declines_early found e old new out request is judges stays empty =
     declines old new out found (λ c s. requests c s request)
     (λ c s fits. refused_asked found e is c (may_ask c.wide request) (alone s.link) _ (answered_by c s request)
-    (calls_named (view_of (link_settings c) s.link) (layer_settings c) s.layer request) (judged_by (Some e) c old.link old.layer s request fits judges))
+    (calls_named (view_of (link_settings c) s.turn s.link) (layer_settings c) s.layer request) (judged_by (Some e) c old.link old.layer s request fits judges))
     stays empty
 
 pub declines_asked : (old new : code.Station) (out : code_step.Step) (request : LayerRequest) → Judges None old.link old.layer request
@@ -166,14 +168,15 @@ declines_asked old new out request judges not stays empty =
 
 pub declines_request : (T : Type 0) (e : LayerError) (found : StationError) (old new : code.Station) (out : code_step.Step) (request : LayerRequest) → found
     ≡ of_layer e
-    → (let x : Result T LayerError = Err e in Layers old.link old.layer new.layer x request)
+    → (let x : Result T LayerError = Err e in Layers old.link old.layer old.turn new.layer x request)
     → ((d : LayerSettings) (k : Layer) → FitsLayer d old.layer k → FitsLayer d new.layer k)
-    → ((x : LinkState) → FitsWhole old.link x → FitsWhole new.link x) → IsEmpty out → old.manner ≡ new.manner
+    → ((x : LinkState) → FitsWhole old.link x → FitsWhole new.link x) → new.turn ≡ old.turn → IsEmpty out → old.manner ≡ new.manner
     → ((c : Settings) (s : Station) → FitsStation c old s → may_ask c.wide request ≡ true)
     → Does old new out (Err found) (λ c s. requests c s request)
-declines_request T e found old new out request is layers layer_stays link_stays empty manner may =
+declines_request T e found old new out request is layers layer_stays link_stays turn_stays empty manner may =
     declines old new out found (λ c s. requests c s request) (λ c s fits.
     subst (λ (b : Bool). (let r : Result Unit StationError = Err found in Refuses r (where_asked b (requested c s request)))) (sym (may c s fits))
     (refuses T Unit e found c old.link old.layer new.layer s request fits is layers))
-    (λ c s fits. still_fits c old.link new.link old.layer new.layer s (subst (λ (b : Manner). FitsParts c b old.link old.layer s) manner fits)
-    (layer_stays (layer_settings c) s.layer fits.layer) link_stays) empty
+    (λ c s fits. subst (λ (at : ℕ). FitsParts c new.manner new.link new.layer at s) (sym turn_stays)
+    (still_fits c old.link new.link old.layer new.layer s (subst (λ (b : Manner). FitsParts c b old.link old.layer old.turn s) manner fits)
+    (layer_stays (layer_settings c) s.layer fits.layer) link_stays)) empty

@@ -9,15 +9,15 @@ use Rattle.x25_station.proofs.OutcomeLemmas.{leaves_unless}
 use Rattle.x25_layer.specs.declared.layer.Layer as layer_code
 
 -- the layer rests where it went down, and nothing is put
-abbrev pub downs : Layer → Side → Option Reason → Step
-downs l t down = record { near = record { link = t.near; layer = layer_down l down }; out = t.out; entries = entries_down down }
+abbrev pub downs : Station → Side → Option Reason → Step
+downs s t down = record { near = record { link = t.near; layer = layer_down s.layer down; turn = s.turn }; out = t.out; entries = entries_down down }
 
-noted_down : (c : Settings) (l : Layer) (t : Side) (down : Option Reason)
+noted_down : (c : Settings) (l : Station) (t : Side) (down : Option Reason)
     → follows c l (record { side = t; packet = None; notes = record { down = down; up = false } }) ≡ downs l t down
 noted_down c l t None = refl
 noted_down c l t (Some reason) = refl
 
-pub follows_down : (c : Settings) (l : Layer) (k : LinkStep) → k.packet ≡ None → k.notes.up ≡ false → follows c l k ≡ downs l k.side k.notes.down
+pub follows_down : (c : Settings) (l : Station) (k : LinkStep) → k.packet ≡ None → k.notes.up ≡ false → follows c l k ≡ downs l k.side k.notes.down
 follows_down c l k none not_up =
     ap (λ (o : Option (List ℕ)). follows c l (record { side = k.side; packet = o; notes = k.notes })) none
     ∙ ap (λ (b : Bool). follows c l (record { side = k.side; packet = None; notes = record { down = k.notes.down; up = b } })) not_up
@@ -33,19 +33,19 @@ timer_stays c s = test (nat_lt s.tries c.retries)
     test true = refl
     test false = refl
 
-pub timer_down : (c : Settings) (l : Layer) (s : LinkStation)
+pub timer_down : (c : Settings) (l : Station) (s : LinkStation)
     → (let k : LinkStep = timer_step (link_settings c) s in follows c l k ≡ downs l k.side k.notes.down)
 timer_down c l s = follows_down c l (timer_step (link_settings c) s) (timer_none (link_settings c) s) (timer_stays (link_settings c) s)
 
-pub disconnect_down : (c : Settings) (l : Layer) (s : LinkStation)
+pub disconnect_down : (c : Settings) (l : Station) (s : LinkStation)
     → (let k : LinkStep = disconnect_step (link_settings c) s in follows c l k ≡ downs l k.side k.notes.down)
 disconnect_down c l s = follows_down c l (disconnect_step (link_settings c) s) refl refl
 
-pub relink_down : (c : Settings) (l : Layer) (s : LinkStation)
+pub relink_down : (c : Settings) (l : Station) (s : LinkStation)
     → (let k : LinkStep = relink_step (link_settings c) s in follows c l k ≡ downs l k.side k.notes.down)
 relink_down c l s = follows_down c l (relink_step (link_settings c) s) refl refl
 
-pub call_down : (call : LinkCall) (c : Settings) (l : Layer) (s : LinkStation)
+pub call_down : (call : LinkCall) (c : Settings) (l : Station) (s : LinkStation)
     → (let k : LinkStep = step_of_call call (link_settings c) s in follows c l k ≡ downs l k.side k.notes.down)
 call_down Connect c l s = follows_down c l (connect_step (link_settings c) s) refl refl
 call_down Disconnect c l s = disconnect_down c l s
@@ -54,36 +54,37 @@ call_down call c l s = timer_down c l s
 
 -- ---- the station after it
 
-pub fits_down : {manner : Manner} (c : Settings) → manner ≡ manner_of c
-    → (v : ShownLink) (y : layer_code.Layer) (l : Layer) (k : LinkStep) (step : Step) (down : Option Reason) → step.near ≡ (downs l k.side k.notes.down).near
+pub fits_down : {manner : Manner} {turn : ℕ} (c : Settings) → manner ≡ manner_of c
+    → (v : ShownLink) (y : layer_code.Layer) (l : Station) → turn ≡ l.turn → (k : LinkStep) (step : Step) (down : Option Reason) → step.near ≡ (downs l k.side k.notes.down).near
     → down ≡ k.notes.down
-    → FitsLink (link_settings c) v k.side.near → FitsLayer (layer_settings c) y (layer_down l down) → v.frames ≡ [] → IsKept step.near
-    → FitsParts c manner v y step.near
-fits_down c as_set v y l k step down near is link layer sent kept =
-    let moved : layer_down l down ≡ step.near.layer = ap (layer_down l) is ∙ sym (ap (λ (x : Station). x.layer) near) in
+    → FitsLink (link_settings c) v k.side.near → FitsLayer (layer_settings c) y (layer_down l.layer down) → v.frames ≡ [] → IsKept step.near
+    → FitsParts c manner v y turn step.near
+fits_down c as_set v y l turned k step down near is link layer sent kept =
+    let moved : layer_down l.layer down ≡ step.near.layer = ap (layer_down l.layer) is ∙ sym (ap (λ (x : Station). x.layer) near) in
     record {
       link = subst (λ (x : LinkStation). FitsLink (link_settings c) v x) (sym (ap (λ (x : Station). x.link) near)) link;
       layer = subst (λ (x : Layer). FitsLayer (layer_settings c) y x) moved layer;
+      turned = turned ∙ sym (ap (λ (x : Station). x.turn) near);
       kept = kept;
       sent = sent;
       same = as_set;
     }
 
 pub leaves_down : {manner : Manner} (c : Settings) → manner ≡ manner_of c
-    → (v : ShownLink) (y : layer_code.Layer) (o : Option LinkError) (l : Layer) (k : LinkStep) (step : Step) (down : Option Reason) → step.near
+    → (v : ShownLink) (y : layer_code.Layer) (turn : ℕ) (o : Option LinkError) (l : Station) → turn ≡ l.turn → (k : LinkStep) (step : Step) (down : Option Reason) → step.near
     ≡ (downs l k.side k.notes.down).near
-    → down ≡ k.notes.down → FitsLink (link_settings c) v k.side.near → FitsLayer (layer_settings c) y (layer_down l down) → v.frames ≡ []
-    → KeptBy (unless o step) → LeavesParts {T = Unit} c manner v y (Ok tt) (unless o step)
-leaves_down c as_set v y o l k step down near is link layer sent kept =
-    leaves_unless c v y o step kept (λ now. fits_down c as_set v y l k step down near is link layer sent now)
+    → down ≡ k.notes.down → FitsLink (link_settings c) v k.side.near → FitsLayer (layer_settings c) y (layer_down l.layer down) → v.frames ≡ []
+    → KeptBy (unless o step) → LeavesParts {T = Unit} c manner v y turn (Ok tt) (unless o step)
+leaves_down c as_set v y turn o l turned k step down near is link layer sent kept =
+    leaves_unless c v y turn o step kept (λ now. fits_down c as_set v y l turned k step down near is link layer sent now)
 
 -- ---- what it answers
 
-pub frames_down : (c : Settings) (l : Layer) (k : LinkStep) (frames : List (List ℕ)) (step : Step) → step ≡ downs l k.side k.notes.down → frames
+pub frames_down : (c : Settings) (l : Station) (k : LinkStep) (frames : List (List ℕ)) (step : Step) → step ≡ downs l k.side k.notes.down → frames
     ≡ map (spelling_of c.role) k.side.out → frames ≡ map (spelling_of c.role) step.out
 frames_down c l k frames step is made = made ∙ ap (λ (x : Step). map (spelling_of c.role) x.out) (sym is)
 
-pub entries_noted_down : (l : Layer) (k : LinkStep) (before after : List StationEntry) (down : Option Reason) (step : Step) → step
+pub entries_noted_down : (l : Station) (k : LinkStep) (before after : List StationEntry) (down : Option Reason) (step : Step) → step
     ≡ downs l k.side k.notes.down → down ≡ k.notes.down → after ≡ before ++ entries_down down
     → after ≡ before ++ step.entries
 entries_noted_down l k before after down step is same noted =

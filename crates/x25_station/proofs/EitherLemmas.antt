@@ -1,4 +1,5 @@
 -- A command with or without something given beside its packet, by what the calls of its layer did.
+use Rattle.x25_station.proofs.Names.{subst}
 use Rattle.x25_station.proofs.Names.{◌≡◌, ℕ, List, [], ◌∷◌, Option, Some, None, Result, Ok, Err, Bool, true, false, ◌&&◌, refl, ap, sym, ◌∙◌, IsErrOf, IfSome}
 use Rattle.x25_station.proofs.Names.{Proposal, in_brief, PlainGiven, may_give, LayerRequest, Asks, Dials, free_channel, asks_memory, Layer, is_channel}
 use Rattle.x25_station.proofs.Names.{FitsLayer, LayerError, Asked, name_of, shown, WindowIsSmall, FewStand, ShownLink, may_ask, said_by, Settings}
@@ -37,49 +38,49 @@ suits_asked wide (Some g) request may = (both wide (may_give g) (suits g request
 
 -- ---- an accepted call
 
-abbrev Drove : {T : Type 0} → T → Option PlainGiven → layer_code.Layer → ShownLink → layer_code.Layer → ShownLink → LayerRequest → Type 0
-Drove {T = T} u o y l z m request = let r : Result T LayerError = Ok u in DrivesAsked o y l z m r request
+abbrev Drove : {T : Type 0} → T → Option PlainGiven → layer_code.Layer → ShownLink → ℕ → layer_code.Layer → ShownLink → ℕ → LayerRequest → Type 0
+Drove {T = T} u o y l turn z m turn₂ request = let r : Result T LayerError = Ok u in DrivesAsked o y l turn z m turn₂ r request
 
-pub meant_asked : {T : Type 0} {manner : Manner} (u : T) (o : Option PlainGiven) (l m n : ShownLink) (y z : layer_code.Layer) (r : code_step.Step)
-    (request : LayerRequest) → AreMeant manner l y → Drove u o y l z m request → n.station ≡ m.station → n.frames ≡ [] → r.frames ≡ m.frames
-    → RequestKeeps → GivenKeeps → may_ask_with manner.wide o request ≡ true → AreMeant manner n z
-meant_asked {manner = manner} u None l m n y z r request meant d same none made keeps with_given may = still_meant l n y z meant (λ c s fits.
-    let a = answers u c l m n y z r s request fits d.layer d.link same none made (may_as true manner c request fits.same may) (keeps c s request fits.kept) in
-    leaves_some c n z (requests c s request) a.state a.refused)
+pub meant_asked : {T : Type 0} {manner : Manner} {turn turn₂ : ℕ} (u : T) (o : Option PlainGiven) (l m n : ShownLink) (y z : layer_code.Layer) (r : code_step.Step)
+    (request : LayerRequest) → AreMeant manner l y turn → Drove u o y l turn z m turn₂ request → n.station ≡ m.station → n.frames ≡ [] → r.frames ≡ m.frames
+    → RequestKeeps → GivenKeeps → may_ask_with manner.wide o request ≡ true → AreMeant manner n z turn₂
+meant_asked {manner = manner} {turn₂ = turn₂} u None l m n y z r request meant d same none made keeps with_given may = still_meant l n y z meant (λ c s fits.
+    let a = answers u c l m n y z r s request fits d.layer d.link d.turns same none made (may_as true manner c request fits.same may) (keeps c s request fits.kept) in
+    leaves_some c n z turn₂ (requests c s request) a.state a.refused)
 meant_asked u (Some g) l m n y z r request meant d same none made keeps with_given may =
-    given.meant_given u g l m n y z r request meant d.layer d.link same none made with_given may
+    given.meant_given u g l m n y z r request meant d.layer d.link d.turns same none made with_given may
 
 pub did_asked : {T : Type 0} (u : T) (o : Option PlainGiven) (old new : code.Station) (m : ShownLink) (r : code_step.Step) (request : LayerRequest)
-    → Drove u o old.layer old.link new.layer m request → new.link.station ≡ m.station → new.link.frames ≡ [] → r.frames ≡ m.frames
+    → Drove u o old.layer old.link old.turn new.layer m new.turn request → new.link.station ≡ m.station → new.link.frames ≡ [] → r.frames ≡ m.frames
     → RequestKeeps → GivenKeeps → WindowIsSmall → FewStand → may_ask_with old.manner.wide o request ≡ true
     → ((c : Settings) (s : Station) → FitsStation c old s → Enters {T = Unit} r (Ok tt) (asks c s o request)) → old.manner ≡ new.manner
     → Does old new r (Ok tt) (λ c s. asks c s o request)
 did_asked u None old new m r request d same none made keeps with_given small stand may entered manner =
-    plain.did_request u old new m r request d.layer d.link same none made keeps small stand
+    plain.did_request u old new m r request d.layer d.link d.turns same none made keeps small stand
     (λ c s fits. may_as true old.manner c request fits.same may) entered manner
 did_asked u (Some g) old new m r request d same none made keeps with_given small stand may entered manner =
-    given.did_given u old new m r g request d.layer d.link same none made with_given small stand may entered manner
+    given.did_given u old new m r g request d.layer d.link d.turns same none made with_given small stand may entered manner
 
-pub enters_asked : {T : Type 0} {manner : Manner} (u : T) (o : Option PlainGiven) (c : Settings) (l m : ShownLink) (y z : layer_code.Layer) (s : Station)
-    (r : code_step.Step) (h : ℕ) (request : circuit.Request) → FitsParts c manner l y s → Drove u o y l z m (Asks h request)
+pub enters_asked : {T : Type 0} {manner : Manner} {turn : ℕ} (turn₂ : ℕ) (u : T) (o : Option PlainGiven) (c : Settings) (l m : ShownLink) (y z : layer_code.Layer) (s : Station)
+    (r : code_step.Step) (h : ℕ) (request : circuit.Request) → FitsParts c manner l y turn s → Drove u o y l turn z m turn₂ (Asks h request)
     → may_ask_with manner.wide o (Asks h request) ≡ true
     → ((k : Layer) → FitsLayer (layer_settings c) z k → is_channel c.channels h ≡ true → IsBrief request → r.entries.items
     ≡ of_channel (record { channel = h; name = name_of k h; said = Asked (shown (k.circuits h) request) }) ∷ [])
     → Enters {T = Unit} r (Ok tt) (asks c s o (Asks h request))
-enters_asked u None c l m y z s r h request fits d may entered = asked_enters u c l y z s r h request fits d.layer entered
-enters_asked u (Some g) c l m y z s r h request fits d may entered = given.asked_given u c g l y z s r h request fits d.layer may entered
+enters_asked turn₂ u None c l m y z s r h request fits d may entered = asked_enters u c l y z s r h request fits d.layer entered
+enters_asked turn₂ u (Some g) c l m y z s r h request fits d may entered = given.asked_given u c g l y z s r h request fits d.layer may entered
 
-pub enters_dialled : {manner : Manner} (o : Option PlainGiven) (c : Settings) (l m : ShownLink) (y z : layer_code.Layer) (s : Station)
-    (r : code_step.Step) (h : ℕ) (called calling user : List ℕ) (proposal : Proposal) → FitsParts c manner l y s
-    → Drove h o y l z m (Dials called calling user proposal) → may_ask_with manner.wide o (Dials called calling user proposal) ≡ true
+pub enters_dialled : {manner : Manner} {turn : ℕ} (turn₂ : ℕ) (o : Option PlainGiven) (c : Settings) (l m : ShownLink) (y z : layer_code.Layer) (s : Station)
+    (r : code_step.Step) (h : ℕ) (called calling user : List ℕ) (proposal : Proposal) → FitsParts c manner l y turn s
+    → Drove h o y l turn z m turn₂ (Dials called calling user proposal) → may_ask_with manner.wide o (Dials called calling user proposal) ≡ true
     → free_channel c.role s.layer.circuits c.channels ≡ Some h
     → ((k : Layer) → FitsLayer (layer_settings c) z k → is_channel c.channels h ≡ true → IsBrief (circuit.Calls called calling user proposal) →
     r.entries.items ≡ of_channel
     (record { channel = h; name = name_of k h; said = Asked (circuit.Calls called calling user (in_brief proposal.params)) }) ∷ [])
     → Enters {T = Unit} r (Ok tt) (asks c s o (Dials called calling user proposal))
-enters_dialled None c l m y z s r h called calling user proposal fits d may free entered =
+enters_dialled turn₂ None c l m y z s r h called calling user proposal fits d may free entered =
     dialled_enters c l y z s r h called calling user proposal fits d.layer free entered
-enters_dialled (Some g) c l m y z s r h called calling user proposal fits d may free entered =
+enters_dialled turn₂ (Some g) c l m y z s r h called calling user proposal fits d may free entered =
     given.dialled_given c g l y z s r h called calling user proposal fits d.layer may free entered
 
 -- ---- a refused call
@@ -99,26 +100,36 @@ declines_then None old new out request judges may stays empty =
     plain.declines_asked old new out request judges (λ c s fits. may_as false old.manner c request fits.same may) stays empty
 declines_then (Some g) old new out request judges may stays empty = given.declines_given old new out g request judges may stays empty
 
-abbrev DroveNot : (T : Type 0) → LayerError → Option PlainGiven → layer_code.Layer → ShownLink → layer_code.Layer → ShownLink → LayerRequest → Type 0
-DroveNot T e o y l z m request = let r : Result T LayerError = Err e in DrivesAsked o y l z m r request
+abbrev DroveNot : (T : Type 0) → LayerError → Option PlainGiven → layer_code.Layer → ShownLink → ℕ → layer_code.Layer → ShownLink → ℕ → LayerRequest → Type 0
+DroveNot T e o y l turn z m turn₂ request = let r : Result T LayerError = Err e in DrivesAsked o y l turn z m turn₂ r request
 
 pub declines_last : (T : Type 0) (o : Option PlainGiven) (e : LayerError) (found : StationError) (old new : code.Station) (out : code_step.Step)
-    (request : LayerRequest) → found ≡ of_layer e → DroveNot T e o old.layer old.link new.layer new.link request
+    (request : LayerRequest) → found ≡ of_layer e → DroveNot T e o old.layer old.link old.turn new.layer new.link new.turn request
     → may_ask_with old.manner.wide o request ≡ true → IsEmpty out → old.manner ≡ new.manner
     → Does old new out (Err found) (λ c s. asks c s o request)
 declines_last T None e found old new out request is d may empty manner =
-    plain.declines_request T e found old new out request is d.layer d.layer_stays d.link_stays empty manner
+    plain.declines_request T e found old new out request is d.layer d.layer_stays d.link_stays d.turn_stays empty manner
     (λ c s fits. may_as true old.manner c request fits.same may)
 declines_last T (Some g) e found old new out request is d may empty manner =
-    given.declines_late T e found old new out g request is d.layer may d.layer_stays d.link_stays empty manner
+    given.declines_late T e found old new out g request is d.layer may d.layer_stays d.link_stays d.turn_stays empty manner
 
 -- the station stands for what it stood for
-pub meant_declined : (T : Type 0) (o : Option PlainGiven) (e : LayerError) (manner : Manner) (l m : ShownLink) (y z : layer_code.Layer)
-    (request : LayerRequest) → AreMeant manner l y → DroveNot T e o y l z m request → AreMeant manner m z
+pub meant_declined : (T : Type 0) (o : Option PlainGiven) (e : LayerError) (manner : Manner) {turn turn₂ : ℕ} (l m : ShownLink) (y z : layer_code.Layer)
+    (request : LayerRequest) → AreMeant manner l y turn → DroveNot T e o y l turn z m turn₂ request → AreMeant manner m z turn₂
 meant_declined T None e manner l m y z request meant d =
-    still_meant l m y z meant (λ c s fits. (c, s, still_fits c l m y z s fits (d.layer_stays (layer_settings c) s.layer fits.layer) d.link_stays))
+    still_meant l m y z meant (λ c s fits. (
+      c,
+      s,
+      subst (λ (at : ℕ). FitsParts c manner m z at s) (sym d.turn_stays)
+          (still_fits c l m y z s fits (d.layer_stays (layer_settings c) s.layer fits.layer) d.link_stays),
+    ))
 meant_declined T (Some g) e manner l m y z request meant d =
-    still_meant l m y z meant (λ c s fits. (c, s, still_fits c l m y z s fits (d.layer_stays (layer_settings c) s.layer fits.layer) d.link_stays))
+    still_meant l m y z meant (λ c s fits. (
+      c,
+      s,
+      subst (λ (at : ℕ). FitsParts c manner m z at s) (sym d.turn_stays)
+          (still_fits c l m y z s fits (d.layer_stays (layer_settings c) s.layer fits.layer) d.link_stays),
+    ))
 
 -- ---- for want of memory nothing is refused that asks for none
 
@@ -144,17 +155,17 @@ only_then o old new out request does c s fits =
     other : (let x : Result Unit LayerError = Err (layer_error.Circuit circuit_error.BadParameter) in IsErrOf x layer_error.NoMemory) → ⊥
     other is = cc
 
-missing_asked : (T : Type 0) (o : Option PlainGiven) (e : LayerError) (y z : layer_code.Layer) (l m : ShownLink) (request : LayerRequest)
-    → DroveNot T e o y l z m request → (let x : Result T LayerError = Err e in IsErrOf x layer_error.NoMemory) → asks_memory request ≡ true
-missing_asked T None e y z l m request d lacks = d.missing lacks
-missing_asked T (Some g) e y z l m request d lacks = d.missing lacks
+missing_asked : (T : Type 0) (o : Option PlainGiven) (e : LayerError) (y z : layer_code.Layer) (l m : ShownLink) (turn turn₂ : ℕ) (request : LayerRequest)
+    → DroveNot T e o y l turn z m turn₂ request → (let x : Result T LayerError = Err e in IsErrOf x layer_error.NoMemory) → asks_memory request ≡ true
+missing_asked T None e y z l m turn turn₂ request d lacks = d.missing lacks
+missing_asked T (Some g) e y z l m turn turn₂ request d lacks = d.missing lacks
 
 pub only_last : (o : Option PlainGiven) (e : LayerError) (found : StationError) (old new : code.Station) (out : code_step.Step) (request : LayerRequest)
-    → found ≡ of_layer e → DroveNot Unit e o old.layer old.link new.layer new.link request → asks_memory request ≡ false
+    → found ≡ of_layer e → DroveNot Unit e o old.layer old.link old.turn new.layer new.link new.turn request → asks_memory request ≡ false
     → Does old new out (Err found) (λ c s. asks c s o request) → (c : Settings) (s : Station) → FitsStation c old s
     → (let r : Result Unit StationError = Err found in RefusesOnly r (asks c s o request))
 only_last o e found old new out request is d none does c s fits =
-    never_lacks found e (asks c s o request) is (λ lacks. sym none ∙ missing_asked Unit o e old.layer new.layer old.link new.link request d lacks)
+    never_lacks found e (asks c s o request) is (λ lacks. sym none ∙ missing_asked Unit o e old.layer new.layer old.link new.link old.turn new.turn request d lacks)
     (does.refused c s fits)
 
 -- ---- what a call and an acceptance say

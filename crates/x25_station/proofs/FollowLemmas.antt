@@ -19,7 +19,7 @@ pub at_up : (P : Putting → Type 0) (view : LinkView) (c : LayerSettings) (wide
 at_up P view c wide l o d u up is = subst (λ (b : Bool). P (layer_at view c wide l o d b)) (sym up) is
 
 pub at_down : (P : Putting → Type 0) (view : LinkView) (c : LayerSettings) (wide : Bool) (l : Layer) (o : Option (List ℕ)) (d : Option Reason) (u : Bool) → u
-    ≡ false → is_some d ≡ true → P (rests (layer_down l d)) → P (layer_at view c wide l o d u)
+    ≡ false → is_some d ≡ true → P (rests view.turn (layer_down l d)) → P (layer_at view c wide l o d u)
 at_down P view c wide l o None u off down is = absurd (true_false (sym down))
 at_down P view c wide l o (Some reason) u off down is = subst (λ (b : Bool). P (layer_at view c wide l o (Some reason) b)) (sym off) is
 
@@ -32,7 +32,7 @@ at_heard P view c wide l o octets d u off stays handed is =
     (subst (λ (p : Option (List ℕ)). P (layer_at view c wide l p None false)) (sym handed) is))
 
 pub at_quiet : (P : Putting → Type 0) (view : LinkView) (c : LayerSettings) (wide : Bool) (l : Layer) (o : Option (List ℕ)) (d : Option Reason) (u : Bool) → u
-    ≡ false → is_some d ≡ false → o ≡ None → P (rests l) → P (layer_at view c wide l o d u)
+    ≡ false → is_some d ≡ false → o ≡ None → P (rests view.turn l) → P (layer_at view c wide l o d u)
 at_quiet P view c wide l o d u off stays none is =
     subst (λ (b : Bool). P (layer_at view c wide l o d b)) (sym off)
     (subst (λ (e : Option Reason). P (layer_at view c wide l o e false)) (sym (is_none d stays))

@@ -20,7 +20,7 @@ refused_did : (e : StationError) (step : Step) → Refused e ≡ Did step → �
 refused_did e step is = cc
 
 pub given_joined : CallsRun → PutTells → GivenIsJoined
-given_joined runs tells c g link w request step up few is = at (is_up link.phase) refl (layer_outcome lc full w.near.layer request) refl is
+given_joined runs tells c g link w turn request step up few is = at (is_up link.phase) refl (layer_outcome lc full w.near.layer request) refl is
   where
     lc : LayerSettings
     lc = layer_settings c
@@ -32,7 +32,7 @@ given_joined runs tells c g link w request step up few is = at (is_up link.phase
     full = waits link.outgoing == 256
 
     view : LinkView
-    view = view_given lk g link
+    view = view_given lk g turn link
 
     taken : Bool
     taken = is_taken c g request
@@ -64,7 +64,7 @@ given_joined runs tells c g link w request step up few is = at (is_up link.phase
           record {
             packets = s.put;
             link = record {
-              accepted = rounds_given tells (backlog next.circuits lc.channels.count) lk g link lc (begin next put) up_link
+              accepted = rounds_given tells turn lk g link lc (begin next put) up_link
                   (owed next put up_link found);
               link = refl;
               out = refl;

@@ -10,6 +10,9 @@ use Rattle.x25_station.proofs.Names.{Settings, link_settings, layer_settings, ma
 use Rattle.x25_station.proofs.Names.{view_given, not_taken, kept_of, Station, view_of, behind, Step, Outcome, Did, Refused, entries_of_outcome, with_given}
 use Rattle.x25_station.proofs.Names.{gave, gives, IsBrief, FitsParts, AreMeant, FitsStation, Does, IsEmpty, LayerGives, all_with, seen_with, GoesWith, Manner}
 use Rattle.x25_frame.specs.Spelling.{spelling_of}
+use Rattle.x25_station.proofs.Names.{◌+◌, ◌-◌}
+use Rattle.x25_layer.specs.laws.Rounds.{at_turn, rest_of_round}
+use Rattle.x25_station.specs.code.OverLink.{TurnGives}
 use Rattle.x25_station.proofs.AskLemmas.{taken_link, IsNamed, calls_named, still_fits, Judges}
 use Rattle.x25_station.proofs.{AskedEntryLemmas.{asked_entry, dialled_entry, asked_channel, free_is_channel}, BriefLemmas.{asked_brief, dialled_brief}}
 use Rattle.x25_station.proofs.{DoesLemmas.{declines}, FrameLemmas.{count_of, put_lower, all_lower, said_few}, KeepLemmas.{put_few, room_of, all_few, below}}
@@ -38,8 +41,8 @@ given_by_put c g (p ∷ packets) t =
     ∙ put_by_put c packets (behind t step.side)
 
 -- what the layer sees of it
-seen_given : (c : LinkSettings) (g : PlainGiven) (s : LinkStation) → seen_with g (kept_of c (alone s)) ≡ view_given c g s
-seen_given c g s = ap (λ (f : List PlainPacket → ℕ). record { is_up = is_up s.phase; waits = f })
+seen_given : (c : LinkSettings) (g : PlainGiven) (turn : ℕ) (s : LinkStation) → seen_with g turn (kept_of c (alone s)) ≡ view_given c g turn s
+seen_given c g turn s = ap (λ (f : List PlainPacket → ℕ). record { is_up = is_up s.phase; waits = f; turn = turn })
     (fun_ext (λ packets. ap waits_of (given_by_put c g packets (alone s))))
 
 -- ---- the link accepts the packets
@@ -64,33 +67,42 @@ given_few c g (p ∷ packets) t all few =
     let octets = write g (packet.spelling_of p) in
     all_few c packets (behind t (put_step c octets t.near).side) all.1 (put_few c octets t.near (room_of t.near all.0 few))
 
-pull_given : PutTells → (c : LinkSettings) (g : PlainGiven) (s : LinkStation) (lc : LayerSettings) (h : ℕ) (p : Putting) → is_up s.phase ≡ true
+pull_given : PutTells → (turn : ℕ) (c : LinkSettings) (g : PlainGiven) (s : LinkStation) (lc : LayerSettings) (h : ℕ) (p : Putting) → is_up s.phase ≡ true
     → AreTaken c g p.put (alone s)
-    → AreTaken c g (pull_one (view_given c g s) lc h p).put (alone s)
-pull_given tells c g s lc h p up all = test (nat_lt ((view_given c g s).waits p.put) 8) refl
+    → AreTaken c g (pull_one (view_given c g turn s) lc h p).put (alone s)
+pull_given tells turn c g s lc h p up all = test (nat_lt ((view_given c g turn s).waits p.put) 8) refl
   where
-    put : (o : Option PlainPacket) → (view_given c g s).waits p.put < 8 → AreTaken c g (with_pulled p (layer_pulled lc p.layer h) o).put (alone s)
+    put : (o : Option PlainPacket) → (view_given c g turn s).waits p.put < 8 → AreTaken c g (with_pulled h p (layer_pulled lc p.layer h) o).put (alone s)
     put None low = all
     put (Some q) low = given_append c g p.put q (alone s) all
         (accepts (all_given c g p.put (alone s)).near (given_up tells c g p.put (alone s) up) (omega (arith, low)))
 
-    test : (b : Bool) → nat_lt ((view_given c g s).waits p.put) 8 ≡ b
-        → AreTaken c g (let n : Putting = if b then with_pulled p (layer_pulled lc p.layer h) (layer_pulled lc p.layer h).packet else p in n.put) (alone s)
+    test : (b : Bool) → nat_lt ((view_given c g turn s).waits p.put) 8 ≡ b
+        → AreTaken c g (let n : Putting = if b then with_pulled h p (layer_pulled lc p.layer h) (layer_pulled lc p.layer h).packet else p in n.put) (alone s)
     test true is = put (layer_pulled lc p.layer h).packet (ltb-true _ _ is)
     test false is = all
 
-round_given : PutTells → (c : LinkSettings) (g : PlainGiven) (s : LinkStation) (lc : LayerSettings) (n : ℕ) (p : Putting) → is_up s.phase ≡ true
+round_given : PutTells → (turn : ℕ) (c : LinkSettings) (g : PlainGiven) (s : LinkStation) (lc : LayerSettings) (b n : ℕ) (p : Putting) → is_up s.phase ≡ true
     → AreTaken c g p.put (alone s)
-    → AreTaken c g (round (view_given c g s) lc n p).put (alone s)
-round_given tells c g s lc zero p up all = all
-round_given tells c g s lc (suc n) p up all = pull_given tells c g s lc (suc n) (round (view_given c g s) lc n p) up (round_given tells c g s lc n p up all)
+    → AreTaken c g (round (view_given c g turn s) lc b n p).put (alone s)
+round_given tells turn c g s lc b zero p up all = all
+round_given tells turn c g s lc b (suc n) p up all =
+    pull_given tells turn c g s lc (b + suc n) (round (view_given c g turn s) lc b n p) up (round_given tells turn c g s lc b n p up all)
 
-pub rounds_given : PutTells → (k : ℕ) (c : LinkSettings) (g : PlainGiven) (s : LinkStation) (lc : LayerSettings) (p : Putting) → is_up s.phase ≡ true
+rounds_of_given : PutTells → (turn k : ℕ) (c : LinkSettings) (g : PlainGiven) (s : LinkStation) (lc : LayerSettings) (p : Putting) → is_up s.phase ≡ true
     → AreTaken c g p.put (alone s)
-    → AreTaken c g (rounds_of k (view_given c g s) lc p).put (alone s)
-rounds_given tells zero c g s lc p up all = all
-rounds_given tells (suc k) c g s lc p up all = rounds_given tells k c g s lc (round (view_given c g s) lc lc.channels.count p) up
-    (round_given tells c g s lc lc.channels.count p up all)
+    → AreTaken c g (rounds_of k (view_given c g turn s) lc p).put (alone s)
+rounds_of_given tells turn zero c g s lc p up all = all
+rounds_of_given tells turn (suc k) c g s lc p up all =
+    rounds_of_given tells turn k c g s lc (round (view_given c g turn s) lc 0 lc.channels.count p) up
+    (round_given tells turn c g s lc 0 lc.channels.count p up all)
+
+pub rounds_given : PutTells → (turn : ℕ) (c : LinkSettings) (g : PlainGiven) (s : LinkStation) (lc : LayerSettings) (p : Putting) → is_up s.phase ≡ true
+    → AreTaken c g p.put (alone s) → AreTaken c g (rounds (view_given c g turn s) lc p).put (alone s)
+rounds_given tells turn c g s lc p up all =
+    let rest : Putting = rest_of_round (view_given c g turn s) lc p in
+    rounds_of_given tells turn (backlog rest.layer.circuits lc.channels.count) c g s lc rest up
+    (round_given tells turn c g s lc turn (lc.channels.count - turn) (at_turn turn p) up all)
 
 -- ---- what each such step keeps
 
@@ -114,7 +126,7 @@ given_kept tells c s g request kept = at (is_up s.link.phase) refl (layer_outcom
     full = waits s.link.outgoing == 256
 
     view : LinkView
-    view = view_given (link_settings c) g s.link
+    view = view_given (link_settings c) g s.turn s.link
 
     accepted : (next : Layer) (put : Option PlainPacket) → is_up s.link.phase ≡ true → layer_outcome lc full s.layer request ≡ Accepted next put
         → AreTaken lk g (option_to_list put) (alone s.link)
@@ -130,7 +142,7 @@ given_kept tells c s g request kept = at (is_up s.link.phase) refl (layer_outcom
         let p : Putting = rounds view lc (begin next put) in
         if_taken (is_taken c g request) (with_given c g (alone s.link) p (entries_of_outcome lc s.layer request (Accepted next put))) (record {
           few = given_few lk g p.put (alone s.link)
-              (rounds_given tells (backlog next.circuits lc.channels.count) lk g s.link lc (begin next put) up (accepted next put up found)) kept.few;
+              (rounds_given tells s.turn lk g s.link lc (begin next put) up (accepted next put up found)) kept.few;
           rests = λ is. absurd (true_false (sym (given_up tells lk g p.put (alone s.link) up) ∙ is));
         })
 
@@ -151,31 +163,44 @@ few_given c g packets s small low =
 
 -- ---- the calls, by the layer's clauses
 
-abbrev pub LayersGiven : {T : Type 0} → PlainGiven → ShownLink → layer_code.Layer → layer_code.Layer → Result T LayerError → LayerRequest → Type 0
-LayersGiven g l y z result request = (d : LayerSettings) (k : Layer) (x : LinkState) → FitsLayer d y k → FitsWhole l x
-    → LayerGives d z result (calls (seen_with g x) d k request)
+abbrev pub LayersGiven : {T : Type 0} → PlainGiven → ShownLink → layer_code.Layer → ℕ → layer_code.Layer → Result T LayerError → LayerRequest → Type 0
+LayersGiven g l y turn z result request = (d : LayerSettings) (k : Layer) (x : LinkState) → FitsLayer d y k → FitsWhole l x
+    → LayerGives d z result (calls (seen_with g turn x) d k request)
 
-abbrev pub LinksGiven : {T : Type 0} → PlainGiven → ShownLink → ShownLink → layer_code.Layer → Result T LayerError → LayerRequest → Type 0
-LinksGiven g l m y result request = (d : LayerSettings) (k : Layer) (x : LinkState) → FitsLayer d y k → FitsWhole l x
-    → GoesWith m g x result (calls (seen_with g x) d k request)
+abbrev pub LinksGiven : {T : Type 0} → PlainGiven → ShownLink → ShownLink → layer_code.Layer → ℕ → Result T LayerError → LayerRequest → Type 0
+LinksGiven g l m y turn result request = (d : LayerSettings) (k : Layer) (x : LinkState) → FitsLayer d y k → FitsWhole l x
+    → GoesWith m g x result (calls (seen_with g turn x) d k request)
+
+abbrev pub TurnsGiven : {T : Type 0} → PlainGiven → ShownLink → layer_code.Layer → ℕ → ℕ → Result T LayerError → LayerRequest → Type 0
+TurnsGiven g l y turn turn₂ result request = (d : LayerSettings) (k : Layer) (x : LinkState) → FitsLayer d y k → FitsWhole l x
+    → TurnGives turn₂ result (calls (seen_with g turn x) d k request)
 
 pub none_of : {A : Type 0} (o : Option A) → ((a : A) → o ≡ Some a → ⊥) → o ≡ None
 none_of None other = refl
 none_of (Some a) other = absurd (other a refl)
 
 abbrev pub answered_given : Settings → PlainGiven → Station → LayerRequest → Answered
-answered_given c g s request = calls (view_given (link_settings c) g s.link) (layer_settings c) s.layer request
+answered_given c g s request = calls (view_given (link_settings c) g s.turn s.link) (layer_settings c) s.layer request
 
 abbrev pub entries_given : Settings → Station → LayerRequest → List StationEntry
 entries_given c s request = entries_of_outcome (layer_settings c) s.layer request
     (layer_outcome (layer_settings c) (waits s.link.outgoing == 256) s.layer request)
 
-pub layer_given : {manner : Manner} {T : Type 0} (result : Result T LayerError) (c : Settings) (g : PlainGiven) (l : ShownLink) (y z : layer_code.Layer)
-    (s : Station) (request : LayerRequest) → FitsParts c manner l y s
-    → LayersGiven g l y z result request → LayerGives (layer_settings c) z result (answered_given c g s request)
+pub layer_given : {manner : Manner} {turn : ℕ} {T : Type 0} (result : Result T LayerError) (c : Settings) (g : PlainGiven) (l : ShownLink) (y z : layer_code.Layer)
+    (s : Station) (request : LayerRequest) → FitsParts c manner l y turn s
+    → LayersGiven g l y turn z result request → LayerGives (layer_settings c) z result (answered_given c g s request)
 layer_given result c g l y z s request fits clause =
-    subst (λ (view : LinkView). LayerGives (layer_settings c) z result (calls view (layer_settings c) s.layer request)) (seen_given (link_settings c) g s.link)
-    (clause (layer_settings c) s.layer (kept_of (link_settings c) (alone s.link)) fits.layer (record { link = fits.link; kept = fits.sent }))
+    subst (λ (view : LinkView). LayerGives (layer_settings c) z result (calls view (layer_settings c) s.layer request)) (seen_given (link_settings c) g s.turn s.link)
+    (subst (λ (at : ℕ). LayersGiven g l y at z result request) fits.turned clause (layer_settings c) s.layer (kept_of (link_settings c) (alone s.link))
+    fits.layer (record { link = fits.link; kept = fits.sent }))
+
+turn_given : {manner : Manner} {turn : ℕ} (turn₂ : ℕ) {T : Type 0} (result : Result T LayerError) (c : Settings) (g : PlainGiven) (l : ShownLink)
+    (y : layer_code.Layer) (s : Station) (request : LayerRequest) → FitsParts c manner l y turn s → TurnsGiven g l y turn turn₂ result request
+    → TurnGives turn₂ result (answered_given c g s request)
+turn_given turn₂ result c g l y s request fits clause =
+    subst (λ (view : LinkView). TurnGives turn₂ result (calls view (layer_settings c) s.layer request)) (seen_given (link_settings c) g s.turn s.link)
+    (subst (λ (at : ℕ). TurnsGiven g l y at turn₂ result request) fits.turned clause (layer_settings c) s.layer (kept_of (link_settings c) (alone s.link))
+    fits.layer (record { link = fits.link; kept = fits.sent }))
 
 abbrev LinkLeft : Settings → PlainGiven → LinkStation → ShownLink → Answered → Type 0
 LinkLeft c g s m (Went p) = FitsWhole m (kept_of (link_settings c) (all_given (link_settings c) g p.put (alone s)))
@@ -187,30 +212,32 @@ left_by : {T : Type 0} (u : T) (c : Settings) (g : PlainGiven) (s : LinkStation)
 left_by u c g s m (Went p) h = subst (λ (x : LinkState). FitsWhole m x) (given_by_put (link_settings c) g p.put (alone s)) h
 left_by u c g s m (Refuses e) h = tt
 
-link_given : {manner : Manner} {T : Type 0} (u : T) (c : Settings) (g : PlainGiven) (l m : ShownLink) (y : layer_code.Layer) (s : Station)
-    (request : LayerRequest) → FitsParts c manner l y s
-    → (let r : Result T LayerError = Ok u in LinksGiven g l m y r request) → LinkLeft c g s.link m (answered_given c g s request)
+link_given : {manner : Manner} {turn : ℕ} {T : Type 0} (u : T) (c : Settings) (g : PlainGiven) (l m : ShownLink) (y : layer_code.Layer) (s : Station)
+    (request : LayerRequest) → FitsParts c manner l y turn s
+    → (let r : Result T LayerError = Ok u in LinksGiven g l m y turn r request) → LinkLeft c g s.link m (answered_given c g s request)
 link_given {T = T} u c g l m y s request fits clause =
     let r : Result T LayerError = Ok u in
     left_by u c g s.link m (answered_given c g s request)
     (subst (λ (view : LinkView). GoesWith m g (kept_of (link_settings c) (alone s.link)) r (calls view (layer_settings c) s.layer request))
-    (seen_given (link_settings c) g s.link)
-    (clause (layer_settings c) s.layer (kept_of (link_settings c) (alone s.link)) fits.layer (record { link = fits.link; kept = fits.sent })))
+    (seen_given (link_settings c) g s.turn s.link)
+    (subst (λ (at : ℕ). LinksGiven g l m y at r request) fits.turned clause (layer_settings c) s.layer (kept_of (link_settings c) (alone s.link))
+    fits.layer (record { link = fits.link; kept = fits.sent })))
 
 -- ---- an accepted call
 
 leaves_given : {T : Type 0} {manner : Manner} (u : T) (c : Settings) (g : PlainGiven) → manner ≡ manner_of c
-    → (s : LinkStation) (m n : ShownLink) (z : layer_code.Layer) (entries : List StationEntry) (a : Answered) → LayerGives (layer_settings c) z (Ok u) a
-    → LinkLeft c g s m a → n.station ≡ m.station → n.frames ≡ [] → KeptBy (gave c g true (alone s) entries a)
-    → station.LeavesParts {T = Unit} c manner n z (Ok tt) (gave c g true (alone s) entries a)
-leaves_given u c g as_set s m n z entries (Went p) layer link same none kept = record {
+    → (s : LinkStation) (m n : ShownLink) (z : layer_code.Layer) (turn : ℕ) (entries : List StationEntry) (a : Answered)
+    → LayerGives (layer_settings c) z (Ok u) a → LinkLeft c g s m a → TurnGives turn (Ok u) a → n.station ≡ m.station → n.frames ≡ [] → KeptBy (gave c g true (alone s) entries a)
+    → station.LeavesParts {T = Unit} c manner n z turn (Ok tt) (gave c g true (alone s) entries a)
+leaves_given u c g as_set s m n z turn entries (Went p) layer link turns same none kept = record {
   link = taken_link (link_settings c) m n _ same link.link;
   layer = layer;
+  turned = turns;
   kept = kept;
   sent = none;
   same = as_set;
 }
-leaves_given u c g as_set s m n z entries (Refuses e) layer link same none kept = absurd (ok_err u e layer)
+leaves_given u c g as_set s m n z turn entries (Refuses e) layer link turns same none kept = absurd (ok_err u e layer)
 
 sends_given : (c : Settings) (g : PlainGiven) (s : LinkStation) (m : ShownLink) (r : code_step.Step) (entries : List StationEntry) (a : Answered)
     → LinkLeft c g s m a → r.frames ≡ m.frames
@@ -249,25 +276,26 @@ as_told b manner c g request same is = sym (ap (λ (m : Manner). m.wide && (may_
 abbrev outcome_at : Settings → PlainGiven → Station → LayerRequest → Bool → Outcome
 outcome_at c g s request taken = gives_of c s.link g taken s request
 
-pub record GivenAnswers (c : Settings) (manner : Manner) (n : ShownLink) (z : layer_code.Layer) (r : code_step.Step) (outcome : Outcome) : Type 0 where
-  pub state : station.LeavesParts {T = Unit} c manner n z (Ok tt) outcome
+pub record GivenAnswers (c : Settings) (manner : Manner) (n : ShownLink) (z : layer_code.Layer) (turn : ℕ) (r : code_step.Step) (outcome : Outcome) : Type 0 where
+  pub state : station.LeavesParts {T = Unit} c manner n z turn (Ok tt) outcome
   pub frames : station.Sends {T = Unit} c r (Ok tt) outcome
   pub refused : station.Refuses {T = Unit} (Ok tt) outcome
 
-pub answers_given : {manner : Manner} {T : Type 0} (u : T) (c : Settings) (g : PlainGiven) (l m n : ShownLink) (y z : layer_code.Layer) (r : code_step.Step)
-    (s : Station) (request : LayerRequest) → FitsParts c manner l y s
-    → (let x : Result T LayerError = Ok u in LayersGiven g l y z x request) → (let x : Result T LayerError = Ok u in LinksGiven g l m y x request)
-    → n.station ≡ m.station → n.frames ≡ [] → r.frames ≡ m.frames → GivenKeeps → TakesIt manner g request → GivenAnswers c manner n z r (gives c s g request)
-answers_given {manner = manner} {T = T} u c g l m n y z r s request fits layers links same none made keeps takes =
+pub answers_given : {manner : Manner} {turn turn₂ : ℕ} {T : Type 0} (u : T) (c : Settings) (g : PlainGiven) (l m n : ShownLink) (y z : layer_code.Layer) (r : code_step.Step)
+    (s : Station) (request : LayerRequest) → FitsParts c manner l y turn s
+    → (let x : Result T LayerError = Ok u in LayersGiven g l y turn z x request) → (let x : Result T LayerError = Ok u in LinksGiven g l m y turn x request)
+    → (let x : Result T LayerError = Ok u in TurnsGiven g l y turn turn₂ x request) → n.station ≡ m.station → n.frames ≡ [] → r.frames ≡ m.frames → GivenKeeps → TakesIt manner g request → GivenAnswers c manner n z turn₂ r (gives c s g request)
+answers_given {manner = manner} {turn₂ = turn₂} {T = T} u c g l m n y z r s request fits layers links turns same none made keeps takes =
     let x : Result T LayerError = Ok u in
     let taken : is_taken c g request ≡ true = as_told true manner c g request fits.same takes in
     let a : Answered = answered_given c g s request in
     let layer = layer_given x c g l y z s request fits layers in
     let link = link_given u c g l m y s request fits links in
+    let turned = turn_given turn₂ x c g l y s request fits turns in
     let entries : List StationEntry = entries_given c s request in
     let kept : KeptBy (outcome_at c g s request true) = subst (λ (b : Bool). KeptBy (outcome_at c g s request b)) taken (keeps c s g request fits.kept) in
-    subst (λ (b : Bool). GivenAnswers c manner n z r (outcome_at c g s request b)) (sym taken) (record {
-      state = leaves_given u c g fits.same s.link m n z entries a layer link same none kept;
+    subst (λ (b : Bool). GivenAnswers c manner n z turn₂ r (outcome_at c g s request b)) (sym taken) (record {
+      state = leaves_given u c g fits.same s.link m n z turn₂ entries a layer link turned same none kept;
       frames = sends_given c g s.link m r entries a link made;
       refused = goes_given u c g s.link z entries a layer;
     })
@@ -286,23 +314,23 @@ entered_at c g s r request manner same takes entered =
     subst (λ (b : Bool). station.Enters {T = Unit} r (Ok tt) (outcome_at c g s request b)) (sym (as_told true manner c g request same takes))
     (enters_given c g s.link r (entries_given c s request) (answered_given c g s request) entered)
 
-pub asked_given : {T : Type 0} {manner : Manner} (u : T) (c : Settings) (g : PlainGiven) (l : ShownLink) (y z : layer_code.Layer) (s : Station)
-    (r : code_step.Step) (h : ℕ) (request : circuit.Request) → FitsParts c manner l y s
-    → (let x : Result T LayerError = Ok u in LayersGiven g l y z x (Asks h request)) → TakesIt manner g (Asks h request)
+pub asked_given : {T : Type 0} {manner : Manner} {turn : ℕ} (u : T) (c : Settings) (g : PlainGiven) (l : ShownLink) (y z : layer_code.Layer) (s : Station)
+    (r : code_step.Step) (h : ℕ) (request : circuit.Request) → FitsParts c manner l y turn s
+    → (let x : Result T LayerError = Ok u in LayersGiven g l y turn z x (Asks h request)) → TakesIt manner g (Asks h request)
     → ((k : Layer) → FitsLayer (layer_settings c) z k → is_channel c.channels h ≡ true → IsBrief request → r.entries.items
     ≡ of_channel (record { channel = h; name = name_of k h; said = Asked (shown (k.circuits h) request) }) ∷ [])
     → station.Enters {T = Unit} r (Ok tt) (gives c s g (Asks h request))
 asked_given {T = T} {manner = manner} u c g l y z s r h request fits layers takes entered =
     let x : Result T LayerError = Ok u in
-    let view : LinkView = view_given (link_settings c) g s.link in
+    let view : LinkView = view_given (link_settings c) g s.turn s.link in
     let lc : LayerSettings = layer_settings c in
     entered_at c g s r (Asks h request) manner fits.same takes (λ p is.
     entered p.layer (went_fits u c z _ p (layer_given x c g l y z s (Asks h request) fits layers) is) (asked_channel view lc s.layer h request p is)
     (asked_brief view lc fits.layer.message s.layer h request p is) ∙ sym (asked_entry view lc s.layer h request p is))
 
-pub dialled_given : {manner : Manner} (c : Settings) (g : PlainGiven) (l : ShownLink) (y z : layer_code.Layer) (s : Station) (r : code_step.Step) (h : ℕ)
-    (called calling user : List ℕ) (proposal : Proposal) → FitsParts c manner l y s
-    → (let x : Result ℕ LayerError = Ok h in LayersGiven g l y z x (Dials called calling user proposal)) → TakesIt manner g (Dials called calling user proposal)
+pub dialled_given : {manner : Manner} {turn : ℕ} (c : Settings) (g : PlainGiven) (l : ShownLink) (y z : layer_code.Layer) (s : Station) (r : code_step.Step) (h : ℕ)
+    (called calling user : List ℕ) (proposal : Proposal) → FitsParts c manner l y turn s
+    → (let x : Result ℕ LayerError = Ok h in LayersGiven g l y turn z x (Dials called calling user proposal)) → TakesIt manner g (Dials called calling user proposal)
     → free_channel c.role s.layer.circuits c.channels ≡ Some h
     → ((k : Layer) → FitsLayer (layer_settings c) z k → is_channel c.channels h ≡ true → IsBrief (circuit.Calls called calling user proposal) →
     r.entries.items ≡ of_channel
@@ -310,7 +338,7 @@ pub dialled_given : {manner : Manner} (c : Settings) (g : PlainGiven) (l : Shown
     → station.Enters {T = Unit} r (Ok tt) (gives c s g (Dials called calling user proposal))
 dialled_given {manner = manner} c g l y z s r h called calling user proposal fits layers takes free entered =
     let x : Result ℕ LayerError = Ok h in
-    let view : LinkView = view_given (link_settings c) g s.link in
+    let view : LinkView = view_given (link_settings c) g s.turn s.link in
     let lc : LayerSettings = layer_settings c in
     let request : LayerRequest = Dials called calling user proposal in
     entered_at c g s r request manner fits.same takes (λ p is.
@@ -320,16 +348,17 @@ dialled_given {manner = manner} c g l y z s r h called calling user proposal fit
 
 -- From the link and the layer of the old station its call led to the link m, from which the frames were taken, and to the layer of the new one.
 pub did_given : {T : Type 0} (u : T) (old new : code.Station) (m : ShownLink) (r : code_step.Step) (g : PlainGiven) (request : LayerRequest)
-    → (let x : Result T LayerError = Ok u in LayersGiven g old.link old.layer new.layer x request)
-    → (let x : Result T LayerError = Ok u in LinksGiven g old.link m old.layer x request)
+    → (let x : Result T LayerError = Ok u in LayersGiven g old.link old.layer old.turn new.layer x request)
+    → (let x : Result T LayerError = Ok u in LinksGiven g old.link m old.layer old.turn x request)
+    → (let x : Result T LayerError = Ok u in TurnsGiven g old.link old.layer old.turn new.turn x request)
     → new.link.station ≡ m.station → new.link.frames ≡ [] → r.frames ≡ m.frames → GivenKeeps → WindowIsSmall → FewStand → TakesIt old.manner g request
     → ((c : Settings) (s : Station) → FitsStation c old s → station.Enters {T = Unit} r (Ok tt) (gives c s g request)) → old.manner ≡ new.manner
     → Does old new r (Ok tt) (λ c s. gives c s g request)
-did_given {T = T} u old new m r g request layers links same none made keeps small stand takes entered manner =
+did_given {T = T} u old new m r g request layers links turns same none made keeps small stand takes entered manner =
     let x : Result T LayerError = Ok u in
-    let parts : (c : Settings) (s : Station) → FitsStation c old s → GivenAnswers c new.manner new.link new.layer r (gives c s g request) =
+    let parts : (c : Settings) (s : Station) → FitsStation c old s → GivenAnswers c new.manner new.link new.layer new.turn r (gives c s g request) =
     λ c s fits. answers_given u c g old.link m new.link old.layer new.layer r s request
-    (subst (λ (b : Manner). FitsParts c b old.link old.layer s) manner fits) layers links same none made keeps
+    (subst (λ (b : Manner). FitsParts c b old.link old.layer old.turn s) manner fits) layers links turns same none made keeps
     (subst (λ (b : Manner). TakesIt b g request) manner takes) in
     let put : length m.frames ≤ 8 = least_by_meaning old.link old.layer (length m.frames) 8 old.meant (λ c s fits.
     frames_given u c g s.link m new.layer (answered_given c g s request) (small (link_settings c) old.link s.link fits.link)
@@ -368,19 +397,19 @@ refusal_same v w c (Accepted next put) true = refl
 refusal_same v w c (Declined e) true = refl
 refusal_same v w c o false = refl
 
-judged_same : (c : Settings) (g : PlainGiven) (s : Station) (request : LayerRequest)
-    → refusal_of (calls (over.seen_at (kept_of (link_settings c) (alone s.link))) (layer_settings c) s.layer request)
+judged_same : (turn : ℕ) (c : Settings) (g : PlainGiven) (s : Station) (request : LayerRequest)
+    → refusal_of (calls (over.seen_at turn (kept_of (link_settings c) (alone s.link))) (layer_settings c) s.layer request)
     ≡ refusal_of (answered_given c g s request)
-judged_same c g s request =
-    ap (λ (view : LinkView). refusal_of (calls view (layer_settings c) s.layer request)) (same_view (link_settings c) (alone s.link))
-    ∙ refusal_same (view_of (link_settings c) s.link) (view_given (link_settings c) g s.link) (layer_settings c)
+judged_same turn c g s request =
+    ap (λ (view : LinkView). refusal_of (calls view (layer_settings c) s.layer request)) (same_view (link_settings c) turn (alone s.link))
+    ∙ refusal_same (view_of (link_settings c) turn s.link) (view_given (link_settings c) g s.turn s.link) (layer_settings c)
     (layer_outcome (layer_settings c) (waits s.link.outgoing == 256) s.layer request) (is_up s.link.phase)
 
 judged : (o : Option LayerError) (old : code.Station) (c : Settings) (g : PlainGiven) (s : Station) (request : LayerRequest) → FitsStation c old s
     → Judges o old.link old.layer request → o ≡ refusal_of (answered_given c g s request)
 judged o old c g s request fits judges =
-    judges (layer_settings c) s.layer (kept_of (link_settings c) (alone s.link)) fits.layer (record { link = fits.link; kept = fits.sent })
-    ∙ judged_same c g s request
+    judges (layer_settings c) s.layer s.turn (kept_of (link_settings c) (alone s.link)) fits.layer (record { link = fits.link; kept = fits.sent })
+    ∙ judged_same s.turn c g s request
 
 pub declines_early : (found : StationError) (e : LayerError) (old new : code.Station) (out : code_step.Step) (g : PlainGiven) (request : LayerRequest) → found
     ≡ of_layer e → Judges (Some e) old.link old.layer request
@@ -389,7 +418,7 @@ pub declines_early : (found : StationError) (e : LayerError) (old new : code.Sta
 declines_early found e old new out g request is judges stays empty =
     declines old new out found (λ c s. gives c s g request) (λ c s fits.
     refused_at found e is c g (is_taken c g request) (alone s.link) (entries_given c s request) (answered_given c g s request)
-    (calls_named (view_given (link_settings c) g s.link) (layer_settings c) s.layer request) (judged (Some e) old c g s request fits judges))
+    (calls_named (view_given (link_settings c) g s.turn s.link) (layer_settings c) s.layer request) (judged (Some e) old c g s request fits judges))
     stays empty
 
 only_at : (found : StationError) (e : LayerError) → found ≡ of_layer e
@@ -410,7 +439,7 @@ pub only_early : (found : StationError) (e : LayerError) (old : code.Station) (g
     → (let x : Result Unit StationError = Err found in station.RefusesOnly x (gives c s g request))
 only_early found e old g request is judges c s fits =
     only_at found e is c g (is_taken c g request) (alone s.link) (entries_given c s request) (answered_given c g s request)
-    (calls_named (view_given (link_settings c) g s.link) (layer_settings c) s.layer request) (judged (Some e) old c g s request fits judges)
+    (calls_named (view_given (link_settings c) g s.turn s.link) (layer_settings c) s.layer request) (judged (Some e) old c g s request fits judges)
 
 not_taken_at : (c : Settings) (g : PlainGiven) (taken : Bool) (t : Side) (entries : List StationEntry) (a : Answered) → taken ≡ false → None ≡ refusal_of a
     → (let x : Result Unit StationError = Err not_taken in station.Refuses x (gave c g taken t entries a))
@@ -440,30 +469,31 @@ late_at T found e is c g z t entries (Refuses x) named layer = is ∙ ap of_laye
 
 pub declines_late : (T : Type 0) (e : LayerError) (found : StationError) (old new : code.Station) (out : code_step.Step) (g : PlainGiven)
     (request : LayerRequest) → found ≡ of_layer e
-    → (let x : Result T LayerError = Err e in LayersGiven g old.link old.layer new.layer x request) → TakesIt old.manner g request
+    → (let x : Result T LayerError = Err e in LayersGiven g old.link old.layer old.turn new.layer x request) → TakesIt old.manner g request
     → ((d : LayerSettings) (k : Layer) → FitsLayer d old.layer k → FitsLayer d new.layer k)
-    → ((x : LinkState) → FitsWhole old.link x → FitsWhole new.link x) → IsEmpty out → old.manner ≡ new.manner
+    → ((x : LinkState) → FitsWhole old.link x → FitsWhole new.link x) → new.turn ≡ old.turn → IsEmpty out → old.manner ≡ new.manner
     → Does old new out (Err found) (λ c s. gives c s g request)
-declines_late T e found old new out g request is layers takes layer_stays link_stays empty manner =
+declines_late T e found old new out g request is layers takes layer_stays link_stays turn_stays empty manner =
     let r : Result T LayerError = Err e in
     declines old new out found (λ c s. gives c s g request) (λ c s fits.
     subst (λ (b : Bool). (let x : Result Unit StationError = Err found in station.Refuses x (outcome_at c g s request b)))
     (sym (as_told true old.manner c g request fits.same takes))
     (late_at T found e is c g new.layer (alone s.link) (entries_given c s request) (answered_given c g s request)
-    (calls_named (view_given (link_settings c) g s.link) (layer_settings c) s.layer request)
+    (calls_named (view_given (link_settings c) g s.turn s.link) (layer_settings c) s.layer request)
     (layer_given r c g old.link old.layer new.layer s request fits layers)))
-    (λ c s fits. still_fits c old.link new.link old.layer new.layer s (subst (λ (b : Manner). FitsParts c b old.link old.layer s) manner fits)
-    (layer_stays (layer_settings c) s.layer fits.layer) link_stays) empty
+    (λ c s fits. subst (λ (at : ℕ). FitsParts c new.manner new.link new.layer at s) (sym turn_stays)
+    (still_fits c old.link new.link old.layer new.layer s (subst (λ (b : Manner). FitsParts c b old.link old.layer old.turn s) manner fits)
+    (layer_stays (layer_settings c) s.layer fits.layer) link_stays)) empty
 
 -- so that the station stands for some state again
-pub meant_given : {T : Type 0} {manner : Manner} (u : T) (g : PlainGiven) (l m n : ShownLink) (y z : layer_code.Layer) (r : code_step.Step)
-    (request : LayerRequest) → AreMeant manner l y
-    → (let x : Result T LayerError = Ok u in LayersGiven g l y z x request) → (let x : Result T LayerError = Ok u in LinksGiven g l m y x request)
-    → n.station ≡ m.station → n.frames ≡ [] → r.frames ≡ m.frames → GivenKeeps → TakesIt manner g request → AreMeant manner n z
-meant_given {manner = manner} u g l m n y z r request meant layers links same none made keeps takes =
+pub meant_given : {T : Type 0} {manner : Manner} {turn turn₂ : ℕ} (u : T) (g : PlainGiven) (l m n : ShownLink) (y z : layer_code.Layer) (r : code_step.Step)
+    (request : LayerRequest) → AreMeant manner l y turn
+    → (let x : Result T LayerError = Ok u in LayersGiven g l y turn z x request) → (let x : Result T LayerError = Ok u in LinksGiven g l m y turn x request)
+    → (let x : Result T LayerError = Ok u in TurnsGiven g l y turn turn₂ x request) → n.station ≡ m.station → n.frames ≡ [] → r.frames ≡ m.frames → GivenKeeps → TakesIt manner g request → AreMeant manner n z turn₂
+meant_given {manner = manner} {turn₂ = turn₂} u g l m n y z r request meant layers links turns same none made keeps takes =
     still_meant l n y z meant (λ c s fits.
-    let a = answers_given u c g l m n y z r s request fits layers links same none made keeps takes in
-    leaves_some c n z (gives c s g request) a.state a.refused)
+    let a = answers_given u c g l m n y z r s request fits layers links turns same none made keeps takes in
+    leaves_some c n z turn₂ (gives c s g request) a.state a.refused)
 
 -- ---- an acceptance on a channel that isn't configured is refused, whatever it says
 
@@ -479,7 +509,7 @@ given_nowhere c s g h nowhere a b = by s.layer.restarting
 
     at : circuit.Request → LayerOutcome → Outcome
     at r o = gave c g (c.wide && (may_give g && true)) (alone s.link) (entries_of_outcome lc s.layer (Asks h r) o)
-        (if is_up s.link.phase then went (view_given (link_settings c) g s.link) lc o else Refuses layer_error.NotUp)
+        (if is_up s.link.phase then went (view_given (link_settings c) g s.turn s.link) lc o else Refuses layer_error.NotUp)
 
     there : circuit.Request → Bool → Outcome
     there r b = at r (if b then if_at_once (puts_at_once r) full

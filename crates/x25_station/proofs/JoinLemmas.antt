@@ -1,4 +1,6 @@
 -- Each step of a station is a step of its link joined with moves of its layer.
+use Rattle.x25_station.specs.laws.JoinLaw.{station_with}
+use Rattle.x25_station.proofs.Names.{Station}
 use Rattle.x25_station.proofs.Names.{◌≡◌, ℕ, ◌<◌, ◌≤◌, List, [], ◌∷◌, ◌++◌, Option, Some, None, Result, Ok, Bool, true, false, ◌==◌, if◌then◌else◌}
 use Rattle.x25_station.proofs.Names.{option_to_list, refl, sym, ap, subst, ◌∙◌, arith, eq-eqb, append-nil, LayerOutcome, Accepted, Declined, layer_outcome}
 use Rattle.x25_station.proofs.Names.{LayerSettings, Layer, LayerAnswer, LayerNotice, goes_up, layer_answers, answer_to, moves_all, pulls_of, AreChannels}
@@ -49,7 +51,7 @@ below n low not = differ (n == 256) refl
     differ b is = omega (arith, low, (λ (e : n ≡ 256). true_false (sym (eq-eqb n 256 e) ∙ not)))
 
 pub request_joined : CallsRun → PutTells → RequestIsJoined
-request_joined runs tells c link w request step up few is =
+request_joined runs tells c link w turn request step up few is =
     at (is_up link.phase) refl (layer_outcome lc full w.near.layer request) refl
     (asked_did (may_ask c.wide request) (requests_of c link w.near.layer view request) step is).1
   where
@@ -60,7 +62,7 @@ request_joined runs tells c link w request step up few is =
     full = waits link.outgoing == 256
 
     view : LinkView
-    view = view_of (link_settings c) link
+    view = view_of (link_settings c) turn link
 
     move : Move
     move = Requests full request
@@ -87,7 +89,7 @@ request_joined runs tells c link w request step up few is =
           r.0,
           r.1,
           joined c w (move ∷ pulls_of r.0) (moves lc w move) (alone link) w.back s (station_asked lc w.near.layer next request) r.2
-              (rounds_accepted tells (link_settings c) (alone link) lc (begin next packet) up_link (owed_accepted next packet up_link found))
+              (rounds_accepted tells turn (link_settings c) (alone link) lc (begin next packet) up_link (owed_accepted next packet up_link found))
               (ap (λ (x : TwoLayers). x.near.entries) all ∙ ap (λ (es : List Entry). w.near.entries ++ es) (sym (asked_entries lc w.near.layer next request)))
               (ap (λ (x : TwoLayers). x.near.told) all ∙ sym (append-nil w.near.told)
               ∙ ap (λ (ns : List LayerNotice). w.near.told ++ ns) (sym (asked_notices lc w.near.layer next request))),
@@ -111,26 +113,26 @@ quiet_joined c l k none quiet =
 pub down_joined : DownIsJoined
 down_joined c l k reason is = ap (λ (n : Notes). follows c l (record { side = k.side; packet = k.packet; notes = n })) is
 
-follows_heard : (c : Settings) (l : Layer) (k : LinkStep) (octets : List ℕ) → k.packet ≡ Some octets → IsQuiet k
-    → follows c l k ≡ with_puts c k.side (hears (view_of (link_settings c) k.side.near) (layer_settings c) c.wide l octets).step
-    (entries_of_packet (layer_settings c) c.wide l octets)
+follows_heard : (c : Settings) (l : Station) (k : LinkStep) (octets : List ℕ) → k.packet ≡ Some octets → IsQuiet k
+    → follows c l k ≡ with_puts c k.side (hears (view_of (link_settings c) l.turn k.side.near) (layer_settings c) c.wide l.layer octets).step
+    (entries_of_packet (layer_settings c) c.wide l.layer octets)
 follows_heard c l k octets some quiet =
     ap (λ (o : Option (List ℕ)). follows c l (record { side = k.side; packet = o; notes = k.notes })) some
     ∙ ap (λ (n : Notes). follows c l (record { side = k.side; packet = Some octets; notes = n })) quiet
 
-heard_joined : HearsRun → PutTells → (c : Settings) (w : TwoLayers) (k : LinkStep) (octets : List ℕ) (packet : PlainPacket) (back : List PlainPacket)
+heard_joined : HearsRun → PutTells → (c : Settings) (w : TwoLayers) (link : LinkStation) (turn : ℕ) (k : LinkStep) (octets : List ℕ) (packet : PlainPacket) (back : List PlainPacket)
     → w.near.is_out ≡ false → w.back ≡ packet ∷ back
     → k.packet ≡ Some octets → IsQuiet k → is_up k.side.near.phase ≡ true → waits k.side.near.outgoing < 256 → read_in c.wide (longest_user c.long_data) octets
     ≡ Ok packet
     → (pulled : List ℕ) × AreChannels c.channels pulled
-    × IsJoined c w (moves_all (layer_settings c) w (HandsUp ∷ pulls_of pulled)) k.side back (follows c w.near.layer k)
-heard_joined runs tells c w k octets packet back up front some quiet up_link low read =
-    subst (λ (step : Step). Goal step) (sym (follows_heard c w.near.layer k octets some quiet)) (
+    × IsJoined c w (moves_all (layer_settings c) w (HandsUp ∷ pulls_of pulled)) k.side back (follows c (station_with link w.near.layer turn) k)
+heard_joined runs tells c w link turn k octets packet back up front some quiet up_link low read =
+    subst (λ (step : Step). Goal step) (sym (follows_heard c (station_with link w.near.layer turn) k octets some quiet)) (
       r.0,
       r.1,
       joined c w (HandsUp ∷ pulls_of r.0) (moves lc w HandsUp) k.side back (hears view lc c.wide w.near.layer octets).step
           (entries_of_packet lc c.wide w.near.layer octets) r.2
-          (rounds_accepted tells (link_settings c) k.side lc (begin a.next a.owed) up_link (begin_accepted (link_settings c) k.side a.owed up_link low))
+          (rounds_accepted tells turn (link_settings c) k.side lc (begin a.next a.owed) up_link (begin_accepted (link_settings c) k.side a.owed up_link low))
           (ap (λ (x : TwoLayers). x.near.entries) all
           ∙ ap (λ (es : List Entry). w.near.entries ++ es)
           (sym (told_entries a.next a.notices _ (behind_entries a.next (named_by octets) count (beside_in c.wide octets) (bringing a.notices)))))
@@ -143,7 +145,7 @@ heard_joined runs tells c w k octets packet back up front some quiet up_link low
     lc = layer_settings c
 
     view : LinkView
-    view = view_of (link_settings c) k.side.near
+    view = view_of (link_settings c) turn k.side.near
 
     a : LayerAnswer
     a = layer_answer lc c.wide w.near.layer octets
@@ -166,9 +168,9 @@ heard_joined runs tells c w k octets packet back up front some quiet up_link low
     r = runs view lc c.wide w packet back octets up front read
 
 pub receive_joined : HearsRun → PutTells → TakeTells → TakeHandsUp → ReceiveIsJoined
-receive_joined runs tells takes hands c link w octets packet_octets packet back up front none some reads =
+receive_joined runs tells takes hands c link w turn octets packet_octets packet back up front none some reads =
     subst (λ (b : Bool). Goal (if b then abandon_step (link_settings c) link else k)) (sym none)
-    (heard_joined runs tells c w k packet_octets packet back up front some quiet up_after
+    (heard_joined runs tells c w link turn k packet_octets packet back up front some quiet up_after
     (omega (arith, (hands (link_settings c) octets link).few_after packet_octets some)) reads)
   where
     k : LinkStep
@@ -182,7 +184,7 @@ receive_joined runs tells takes hands c link w octets packet_octets packet back 
 
     Goal : LinkStep → Type 0
     Goal x = (pulled : List ℕ) × AreChannels c.channels pulled
-        × IsJoined c w (moves_all (layer_settings c) w (HandsUp ∷ pulls_of pulled)) k.side back (follows c w.near.layer x)
+        × IsJoined c w (moves_all (layer_settings c) w (HandsUp ∷ pulls_of pulled)) k.side back (follows c (station_with link w.near.layer turn) x)
 
 -- ---- LinkUp
 
@@ -205,11 +207,11 @@ up_joined alone_put c l k up is = subst (λ (step : Step). ComesUp c k step) (sy
     lc = layer_settings c
 
     view : LinkView
-    view = view_of (link_settings c) k.side.near
+    view = view_of (link_settings c) l.turn k.side.near
 
     whole : follows c l k ≡ with_puts c k.side (begin (goes_up lc).next (goes_up lc).owed) (entries_noted k.notes)
     whole =
-        ap (λ (b : Bool). with_puts c k.side (layer_at view lc c.wide l k.packet k.notes.down b)
-        (entries_noted k.notes ++ entries_heard lc c.wide l k.packet k.notes.down b)) up
+        ap (λ (b : Bool). with_puts c k.side (layer_at view lc c.wide l.layer k.packet k.notes.down b)
+        (entries_noted k.notes ++ entries_heard lc c.wide l.layer k.packet k.notes.down b)) up
         ∙ ap (λ (s : Putting). with_puts c k.side s (entries_noted k.notes ++ [])) (alone_put view lc)
         ∙ ap (λ (es : List StationEntry). with_puts c k.side (begin (goes_up lc).next (goes_up lc).owed) es) (append-nil (entries_noted k.notes))

@@ -91,12 +91,12 @@ up_kept tells c t s entries up few all = record {
   rests = λ is. absurd (true_false (sym (all_up tells (link_settings c) s.put t up) ∙ is));
 }
 
-answer_kept : PutTells → (c : Settings) (t : Side) (next : Layer) (owed : Option PlainPacket) (entries : List StationEntry) → is_up t.near.phase ≡ true
+answer_kept : PutTells → (turn : ℕ) (c : Settings) (t : Side) (next : Layer) (owed : Option PlainPacket) (entries : List StationEntry) → is_up t.near.phase ≡ true
     → waits t.near.outgoing < 256
-    → IsKept (with_puts c t (rounds (view_of (link_settings c) t.near) (layer_settings c) (begin next owed)) entries).near
-answer_kept tells c t next owed entries up low =
-    up_kept tells c t (rounds (view_of (link_settings c) t.near) (layer_settings c) (begin next owed)) entries up (omega (arith, low))
-    (rounds_accepted tells (link_settings c) t (layer_settings c) (begin next owed) up (begin_accepted (link_settings c) t owed up low))
+    → IsKept (with_puts c t (rounds (view_of (link_settings c) turn t.near) (layer_settings c) (begin next owed)) entries).near
+answer_kept tells turn c t next owed entries up low =
+    up_kept tells c t (rounds (view_of (link_settings c) turn t.near) (layer_settings c) (begin next owed)) entries up (omega (arith, low))
+    (rounds_accepted tells turn (link_settings c) t (layer_settings c) (begin next owed) up (begin_accepted (link_settings c) t owed up low))
 
 -- ---- steps of the link
 
@@ -109,14 +109,14 @@ record LinkKeeps (s : LinkStation) (k : LinkStep) : Type 0 where
 empty_few : (n : LinkStation) → n.outgoing.given ≡ [] → waits n.outgoing ≤ 256
 empty_few n none = let e : length n.outgoing.given ≡ 0 = ap (λ (l : List (List ℕ)). length l) none in omega (arith, e)
 
-follows_kept : PutTells → (c : Settings) (s : Station) (k : LinkStep) → IsKept s → LinkKeeps s.link k → IsKept (follows c s.layer k).near
+follows_kept : PutTells → (c : Settings) (s : Station) (k : LinkStep) → IsKept s → LinkKeeps s.link k → IsKept (follows c s k).near
 follows_kept tells c s k kept g = by k.packet refl k.notes.down refl k.notes.up refl
   where
     lc : LayerSettings
     lc = layer_settings c
 
     view : LinkView
-    view = view_of (link_settings c) k.side.near
+    view = view_of (link_settings c) s.turn k.side.near
 
     noted : (o : Option Reason) (b : Bool) → k.notes.down ≡ o → k.notes.up ≡ b → k.notes ≡ record { down = o; up = b }
     noted o b p q = ap (λ (x : Option Reason). record { down = x; up = k.notes.up }) p ∙ ap (λ (x : Bool). record { down = o; up = x }) q
@@ -125,14 +125,16 @@ follows_kept tells c s k kept g = by k.packet refl k.notes.down refl k.notes.up 
         → IsKept (with_puts c k.side (layer_at view lc c.wide s.layer p d u) []).near
     by p is_p d is_d true is_u =
         let new : k.side.near ≡ fresh = g.tells.fresh_up is_u in
-        answer_kept tells c k.side (goes_up lc).next (goes_up lc).owed [] (ap (λ (x : LinkStation). is_up x.phase) new)
-        (subst (λ (x : LinkStation). waits x.outgoing < 256) (sym new) (omega arith))
+        let up : is_up k.side.near.phase ≡ true = ap (λ (x : LinkStation). is_up x.phase) new in
+        let low : waits k.side.near.outgoing < 256 = subst (λ (x : LinkStation). waits x.outgoing < 256) (sym new) (omega arith) in
+        up_kept tells c k.side (begin (goes_up lc).next (goes_up lc).owed) [] up (omega (arith, low))
+        (begin_accepted (link_settings c) k.side (goes_up lc).owed up low)
     by p is_p (Some reason) is_d false is_u = record {
       few = empty_few k.side.near (ap (λ (l : Lists). l.given) (g.tells.dropped reason is_d is_u));
       rests = λ is. refl;
     }
     by (Some octets) is_p None is_d false is_u =
-        answer_kept tells c k.side (layer_answer lc c.wide s.layer octets).next (layer_answer lc c.wide s.layer octets).owed [] (g.up octets is_p)
+        answer_kept tells s.turn c k.side (layer_answer lc c.wide s.layer octets).next (layer_answer lc c.wide s.layer octets).owed [] (g.up octets is_p)
         (g.room octets is_p)
     by None is_p None is_d false is_u =
         record { few = g.few (noted None false is_d is_u); rests = λ is. kept.rests (sym (g.tells.stays (noted None false is_d is_u)) ∙ is) }
@@ -213,19 +215,19 @@ is_down Up e = absurd (none_some link_error.AlreadyUp e)
 is_down Closed e = absurd (none_some link_error.Closed e)
 
 pub connect_kept : LinkLaws → ConnectKeeps
-connect_kept laws c s kept = unless_kept (connect_refusal s.link.phase) (follows c s.layer (connect_step (link_settings c) s.link))
+connect_kept laws c s kept = unless_kept (connect_refusal s.link.phase) (follows c s (connect_step (link_settings c) s.link))
     (λ none. follows_kept laws.put c s (connect_step (link_settings c) s.link) kept
     (connect_keeps laws (link_settings c) s.link (is_down s.link.phase none) kept.few))
 
 pub timer_kept : LinkLaws → TimerKeeps
-timer_kept laws c s kept = unless_kept (timer_refusal s.link) (follows c s.layer (timer_step (link_settings c) s.link))
+timer_kept laws c s kept = unless_kept (timer_refusal s.link) (follows c s (timer_step (link_settings c) s.link))
     (λ none. follows_kept laws.put c s (timer_step (link_settings c) s.link) kept (timer_keeps laws (link_settings c) s.link kept.few))
 
 pub receive_kept : LinkLaws → ReceiveKeeps
 receive_kept laws c s octets kept = test (abandons c s)
   where
     test : (b : Bool) → (let k : LinkStep = if b then abandon_step (link_settings c) s.link else take_step (link_settings c) octets s.link in
-        IsKept (follows c s.layer k).near)
+        IsKept (follows c s k).near)
     test true = follows_kept laws.put c s (abandon_step (link_settings c) s.link) kept (abandon_keeps laws (link_settings c) s.link)
     test false = follows_kept laws.put c s (take_step (link_settings c) octets s.link) kept (take_keeps laws (link_settings c) octets s.link kept.few)
 
@@ -244,7 +246,7 @@ request_kept tells c s request kept =
     full = waits s.link.outgoing == 256
 
     view : LinkView
-    view = view_of (link_settings c) s.link
+    view = view_of (link_settings c) s.turn s.link
 
     accepted : (next : Layer) (packet : Option PlainPacket) → is_up s.link.phase ≡ true → layer_outcome lc full s.layer request ≡ Accepted next packet
         → AreAccepted (link_settings c) (option_to_list packet) (alone s.link)
@@ -258,7 +260,7 @@ request_kept tells c s request kept =
     at true up (Declined e) found = tt
     at true up (Accepted next packet) found =
         up_kept tells c (alone s.link) (rounds view lc (begin next packet)) (entries_of_outcome lc s.layer request (Accepted next packet)) up kept.few
-        (rounds_accepted tells (link_settings c) (alone s.link) lc (begin next packet) up (accepted next packet up found))
+        (rounds_accepted tells s.turn (link_settings c) (alone s.link) lc (begin next packet) up (accepted next packet up found))
 
 -- the entry of a command changes nothing of it
 kept_led : (entries : List StationEntry) (o : Option LinkError) (step : Step) → KeptBy (unless o step) → KeptBy (unless o (led_by entries step))
@@ -269,14 +271,14 @@ pub command_kept : LinkLaws → GivenKeeps → CommandKeeps
 command_kept laws gives c s (Requests request) kept = request_kept laws.put c s (said_by c.say_sizes s.layer request) kept
 command_kept laws gives c s (RequestsWith given request) kept = gives c s given (said_by c.say_sizes s.layer request) kept
 command_kept laws gives c s Connects kept = kept_led (connect_asked ∷ []) (connect_refusal s.link.phase)
-    (follows c s.layer (connect_step (link_settings c) s.link)) (connect_kept laws c s kept)
+    (follows c s (connect_step (link_settings c) s.link)) (connect_kept laws c s kept)
 command_kept laws gives c s Disconnects kept = unless_kept (disconnect_refusal s.link.phase)
-    (led_by (disconnect_asked ∷ []) (follows c s.layer (disconnect_step (link_settings c) s.link)))
+    (led_by (disconnect_asked ∷ []) (follows c s (disconnect_step (link_settings c) s.link)))
     (λ none. follows_kept laws.put c s (disconnect_step (link_settings c) s.link) kept (disconnect_keeps laws (link_settings c) s.link))
-command_kept laws gives c s Probes kept = unless_kept (probe_refusal s.link.phase) (follows c s.layer (timer_step (link_settings c) s.link))
+command_kept laws gives c s Probes kept = unless_kept (probe_refusal s.link.phase) (follows c s (timer_step (link_settings c) s.link))
     (λ none. follows_kept laws.put c s (timer_step (link_settings c) s.link) kept (timer_keeps laws (link_settings c) s.link kept.few))
 command_kept laws gives c s Relinks kept = unless_kept (relink_refusal s.link.phase)
-    (led_by (relink_asked ∷ []) (follows c s.layer (relink_step (link_settings c) s.link)))
+    (led_by (relink_asked ∷ []) (follows c s (relink_step (link_settings c) s.link)))
     (λ none. follows_kept laws.put c s (relink_step (link_settings c) s.link) kept (relink_keeps laws (link_settings c) s.link))
 
 pub call_kept : TimerKeeps → CommandKeeps → (call : LinkCall) (c : Settings) (s : Station) → IsKept s → KeptBy (calls_link call c s)

@@ -14,8 +14,8 @@ put_by_put c (p ∷ packets) t =
     ∙ put_by_put c packets (put_on c p t)
 
 -- what the layer sees of the link
-abbrev pub seen_by : LinkSettings → Side → LinkView
-seen_by c t = over.seen_at (kept_of c t)
+abbrev pub seen_by : LinkSettings → ℕ → Side → LinkView
+seen_by c turn t = over.seen_at turn (kept_of c t)
 
 -- what is put depends on the link alone, and not on the frames that went before
 pub near_alone : (c : LinkSettings) (packets : List PlainPacket) (t u : Side) → t.near ≡ u.near → (all_put c packets t).near ≡ (all_put c packets u).near
@@ -23,8 +23,8 @@ near_alone c [] t u same = same
 near_alone c (p ∷ packets) t u same =
     near_alone c packets (put_on c p t) (put_on c p u) (ap (λ (s : LinkStation). (put_step c (packet.spelling_of p) s).side.near) same)
 
-pub same_view : (c : LinkSettings) (t : Side) → seen_by c t ≡ view_of c t.near
-same_view c t = ap (λ (f : List PlainPacket → ℕ). record { is_up = is_up t.near.phase; waits = f })
+pub same_view : (c : LinkSettings) (turn : ℕ) (t : Side) → seen_by c turn t ≡ view_of c turn t.near
+same_view c turn t = ap (λ (f : List PlainPacket → ℕ). record { is_up = is_up t.near.phase; waits = f; turn = turn })
     (fun_ext (λ packets. ap waits_of (put_by_put c packets t)
     ∙ ap (λ (s : LinkStation). waits s.outgoing) (near_alone c packets t (alone t.near) refl)))
 

@@ -5,6 +5,8 @@ use Rattle.x25_station.proofs.Names.{if◌then◌else◌, drop, refl, ap, sym, �
 use Rattle.x25_station.proofs.Names.{data_packet, CircuitSettings, Circuit, Talk, outgoing, is_open_in, unconfirmed, talking, Piece, asked_in, Params, State}
 use Rattle.x25_station.proofs.Names.{Open, Name, layer_pulled, LayerSettings, Layer, is_channel, put_at, is_open_at, LinkView, Putting, with_pulled, pull_one}
 use Rattle.x25_station.proofs.Names.{round, rounds_of, rounds, backlog, name_of, PlainPacket}
+use Rattle.x25_station.proofs.Names.{◌-◌}
+use Rattle.x25_layer.specs.laws.Rounds.{at_turn, rest_of_round}
 use Rattle.x25_layer.specs.Calls.{LayerPulled}
 
 -- what a pull leaves as it is
@@ -67,29 +69,32 @@ pulled_kept : (c : LayerSettings) (l : Layer) (k h : ℕ) → kept_of (layer_pul
 pulled_kept c l k h = put_kept l.restarts l.circuits k (pulled c.circuit (l.circuits k)).next h
     (state_counts l.restarts c.circuit (l.circuits k) (l.circuits k).state)
 
-with_kept : (s : Putting) (p : LayerPulled) (o : Option PlainPacket) (h : ℕ) → kept_of p.next h ≡ kept_of s.layer h → kept_of (with_pulled s p o).layer h
+with_kept : (k : ℕ) (s : Putting) (p : LayerPulled) (o : Option PlainPacket) (h : ℕ) → kept_of p.next h ≡ kept_of s.layer h → kept_of (with_pulled k s p o).layer h
     ≡ kept_of s.layer h
-with_kept s p None h same = refl
-with_kept s p (Some packet) h same = same
+with_kept k s p None h same = refl
+with_kept k s p (Some packet) h same = same
 
 one_kept : (link : LinkView) (c : LayerSettings) (k : ℕ) (s : Putting) (h : ℕ) → kept_of (pull_one link c k s).layer h ≡ kept_of s.layer h
 one_kept link c k s h = test (nat_lt (link.waits s.put) 8)
   where
-    test : (b : Bool) → (let t : Putting = if b then with_pulled s (layer_pulled c s.layer k) (layer_pulled c s.layer k).packet else s in kept_of t.layer h)
+    test : (b : Bool) → (let t : Putting = if b then with_pulled k s (layer_pulled c s.layer k) (layer_pulled c s.layer k).packet else s in kept_of t.layer h)
         ≡ kept_of s.layer h
-    test true = with_kept s (layer_pulled c s.layer k) (layer_pulled c s.layer k).packet h (pulled_kept c s.layer k h)
+    test true = with_kept k s (layer_pulled c s.layer k) (layer_pulled c s.layer k).packet h (pulled_kept c s.layer k h)
     test false = refl
 
-round_kept : (link : LinkView) (c : LayerSettings) (n : ℕ) (s : Putting) (h : ℕ) → kept_of (round link c n s).layer h ≡ kept_of s.layer h
-round_kept link c zero s h = refl
-round_kept link c (suc n) s h = one_kept link c (suc n) (round link c n s) h ∙ round_kept link c n s h
+round_kept : (link : LinkView) (c : LayerSettings) (b n : ℕ) (s : Putting) (h : ℕ) → kept_of (round link c b n s).layer h ≡ kept_of s.layer h
+round_kept link c b zero s h = refl
+round_kept link c b (suc n) s h = one_kept link c (b + suc n) (round link c b n s) h ∙ round_kept link c b n s h
 
 rounds_of_kept : (n : ℕ) (link : LinkView) (c : LayerSettings) (s : Putting) (h : ℕ) → kept_of (rounds_of n link c s).layer h ≡ kept_of s.layer h
 rounds_of_kept zero link c s h = refl
-rounds_of_kept (suc n) link c s h = rounds_of_kept n link c (round link c c.channels.count s) h ∙ round_kept link c c.channels.count s h
+rounds_of_kept (suc n) link c s h = rounds_of_kept n link c (round link c 0 c.channels.count s) h ∙ round_kept link c 0 c.channels.count s h
 
 rounds_kept : (link : LinkView) (c : LayerSettings) (s : Putting) (h : ℕ) → kept_of (rounds link c s).layer h ≡ kept_of s.layer h
-rounds_kept link c s h = rounds_of_kept (backlog s.layer.circuits c.channels.count) link c s h
+rounds_kept link c s h =
+    let rest : Putting = rest_of_round link c s in
+    rounds_of_kept (backlog rest.layer.circuits c.channels.count) link c rest h
+    ∙ round_kept link c link.turn (c.channels.count - link.turn) (at_turn link.turn s) h
 
 pub rounds_name : (link : LinkView) (c : LayerSettings) (s : Putting) (h : ℕ) → name_of (rounds link c s).layer h ≡ name_of s.layer h
 rounds_name link c s h = ap (λ (k : Kept). k.name) (rounds_kept link c s h)

@@ -1,4 +1,5 @@
 -- What a call answers, by what its link's call answers.
+use Rattle.x25_station.proofs.Names.{ℕ}
 use Rattle.x25_station.proofs.Names.{◌≡◌, Bool, true, false, if◌then◌else◌, map, Option, Some, None, Result, Ok, Err, refl, ap, ◌∙◌, LinkStation, ShownLink}
 use Rattle.x25_station.proofs.Names.{LinkError, Phase, Down, Up, Closed, Settings, Station, Step, Outcome, Did, Refused, unless, FitsParts, AreMeant}
 use Rattle.x25_station.proofs.Names.{LeavesParts, Enters, RefusesOnly, link_refusal, Manner, StationError, LinkCall, Connect, Disconnect, Fire, Probe, Relink}
@@ -13,11 +14,11 @@ use Rattle.x25_station.specs.declared.error.StationError.TheVariants as error
 
 -- ---- an accepted call, which the link may refuse
 
-pub leaves_unless : {manner : Manner} (c : Settings) (l : ShownLink) (y : layer_code.Layer) (o : Option LinkError) (step : Step) → KeptBy (unless o step)
-    → (IsKept step.near → FitsParts c manner l y step.near)
-    → LeavesParts {T = Unit} c manner l y (Ok tt) (unless o step)
-leaves_unless c l y None step kept fits = fits kept
-leaves_unless c l y (Some e) step kept fits = tt
+pub leaves_unless : {manner : Manner} (c : Settings) (l : ShownLink) (y : layer_code.Layer) (turn : ℕ) (o : Option LinkError) (step : Step) → KeptBy (unless o step)
+    → (IsKept step.near → FitsParts c manner l y turn step.near)
+    → LeavesParts {T = Unit} c manner l y turn (Ok tt) (unless o step)
+leaves_unless c l y turn None step kept fits = fits kept
+leaves_unless c l y turn (Some e) step kept fits = tt
 
 pub sends_unless : (c : Settings) (r : code_step.Step) (o : Option LinkError) (step : Step) → r.frames ≡ map (spelling_of c.role) step.out
     → Sends {T = Unit} c r (Ok tt) (unless o step)
@@ -30,13 +31,15 @@ enters_unless r None step entries = entries
 enters_unless r (Some e) step entries = tt
 
 -- ---- so that the station stands for some state again
-pub leaves_some : {manner : Manner} (c : Settings) (l : ShownLink) (y : layer_code.Layer) (o : Outcome) → LeavesParts {T = Unit} c manner l y (Ok tt) o
-    → Refuses {T = Unit} (Ok tt) o → (d : Settings) × (s : Station) × FitsParts d manner l y s
-leaves_some c l y (Did step) fits none = (c, step.near, fits)
-leaves_some c l y (Refused e) fits none = absurd none
+pub leaves_some : {manner : Manner} (c : Settings) (l : ShownLink) (y : layer_code.Layer) (turn : ℕ) (o : Outcome)
+    → LeavesParts {T = Unit} c manner l y turn (Ok tt) o
+    → Refuses {T = Unit} (Ok tt) o → (d : Settings) × (s : Station) × FitsParts d manner l y turn s
+leaves_some c l y turn (Did step) fits none = (c, step.near, fits)
+leaves_some c l y turn (Refused e) fits none = absurd none
 
-pub still_meant : {manner told : Manner} (l m : ShownLink) (y z : layer_code.Layer) → AreMeant manner l y
-    → ((c : Settings) (s : Station) → FitsParts c manner l y s → (d : Settings) × (t : Station) × FitsParts d told m z t) → AreMeant told m z
+pub still_meant : {manner told : Manner} {turn turn₂ : ℕ} (l m : ShownLink) (y z : layer_code.Layer) → AreMeant manner l y turn
+    → ((c : Settings) (s : Station) → FitsParts c manner l y turn s → (d : Settings) × (t : Station) × FitsParts d told m z turn₂ t)
+    → AreMeant told m z turn₂
 still_meant l m y z h f = ∥∥₁_map h (λ w. f w.0 w.1 w.2)
 
 -- ---- the link's refusal

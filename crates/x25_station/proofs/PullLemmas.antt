@@ -7,9 +7,10 @@ use Rattle.x25_station.proofs.Names.{Refused, did, requests, entries_of_outcome,
 use Rattle.std.specs.Prelude.{◌≢◌}
 use Rattle.x25_frame.specs.Spelling.{spelling_of}
 use Rattle.x25_layer.specs.laws.Rounds.{Refuses as LayerRefuses}
-use Rattle.x25_station.proofs.{AskLemmas.{Layers, Links, taken_link, answered_by, goes_did, refused_did, calls_named}, LinkLemmas.{put_by_put, same_view}}
+use Rattle.x25_station.proofs.{AskLemmas.{Layers, Links, Turns, taken_link, answered_by, goes_did, refused_did, calls_named}, LinkLemmas.{put_by_put, same_view}}
 use Rattle.x25_station.{proofs.Names.{StationError, KeptBy}, proofs.ResultLemmas.{ok_err}, specs.Pulling.{pulled}, specs.code.FitsStation.{Refuses}}
 use Rattle.x25_packet.specs.Spelling as packet
+use Rattle.x25_station.specs.code.OverLink.{TurnGives}
 use Rattle.x25_station.specs.code.OverLink as over
 use Rattle.x25_layer.specs.declared.layer.Layer as layer_code
 use Rattle.x25_layer.specs.declared.error.LayerError.TheVariants as layer_error
@@ -29,19 +30,19 @@ puts_behind before x (p ∷ packets) =
     (append_assoc before x.kept (map (spelling_of x.settings.role) step.side.out))
     ∙ puts_behind before next packets
 
-abbrev seen_at : LinkState → LinkView
-seen_at x = over.seen_at x
+abbrev seen_at : ℕ → LinkState → LinkView
+seen_at turn x = over.seen_at turn x
 
-seen_behind : (before : List (List ℕ)) (x : LinkState) → seen_at (behind before x) ≡ seen_at x
-seen_behind before x = ap (λ (f : List PlainPacket → ℕ). record { is_up = up_at x; waits = f })
+seen_behind : (turn : ℕ) (before : List (List ℕ)) (x : LinkState) → seen_at turn (behind before x) ≡ seen_at turn x
+seen_behind turn before x = ap (λ (f : List PlainPacket → ℕ). record { is_up = up_at x; waits = f; turn = turn })
     (fun_ext (λ packets. ap waits_of (puts_behind before x packets)))
 
 -- ---- what was pulled
 
-fits_of : {manner : Manner} (c : Settings) (n : ShownLink) (z : layer_code.Layer) (s : Station) (o : Outcome) → LeavesParts {T = Unit} c manner n z (Ok tt) o
-    → Refuses {T = Unit} (Ok tt) o → FitsParts c manner n z (pulled_of s o).near
-fits_of c n z s (Did step) fits none = fits
-fits_of c n z s (Refused e) fits none = absurd none
+fits_of : {manner : Manner} (c : Settings) (n : ShownLink) (z : layer_code.Layer) (turn : ℕ) (s : Station) (o : Outcome)
+    → LeavesParts {T = Unit} c manner n z turn (Ok tt) o → Refuses {T = Unit} (Ok tt) o → FitsParts c manner n z turn (pulled_of s o).near
+fits_of c n z turn s (Did step) fits none = fits
+fits_of c n z turn s (Refused e) fits none = absurd none
 
 abbrev start : Settings → Station → LinkState
 start c s = kept_of (link_settings c) (alone s.link)
@@ -59,18 +60,19 @@ made_did u c before s m entries (Went p) link = (after_pull c before m p.put s l
 made_did u c before s m entries (LayerRefuses e) link = absurd (ok_err u e link)
 
 leaves_did : {T : Type 0} {manner : Manner} (u : T) (c : Settings) → manner ≡ manner_of c
-    → (before : List (List ℕ)) (s : Station) (m n : ShownLink) (z : layer_code.Layer) (entries : List StationEntry) (a : Answered)
+    → (before : List (List ℕ)) (s : Station) (m n : ShownLink) (z : layer_code.Layer) (turn : ℕ) (entries : List StationEntry) (a : Answered)
     → LayerGives (layer_settings c) z (Ok u) a
-    → LinkGives m (behind before (start c s)) (Ok u) a → n.station ≡ m.station → n.frames ≡ [] → KeptBy (did c (alone s.link) entries a)
-    → LeavesParts {T = Unit} c manner n z (Ok tt) (did c (alone s.link) entries a)
-leaves_did u c as_set before s m n z entries (Went p) layer link same none kept = record {
+    → LinkGives m (behind before (start c s)) (Ok u) a → TurnGives turn (Ok u) a → n.station ≡ m.station → n.frames ≡ [] → KeptBy (did c (alone s.link) entries a)
+    → LeavesParts {T = Unit} c manner n z turn (Ok tt) (did c (alone s.link) entries a)
+leaves_did u c as_set before s m n z turn entries (Went p) layer link turns same none kept = record {
   link = taken_link (link_settings c) m n _ same (after_pull c before m p.put s link).link;
   layer = layer;
+  turned = turns;
   kept = kept;
   sent = none;
   same = as_set;
 }
-leaves_did u c as_set before s m n z entries (LayerRefuses e) layer link same none kept = absurd (ok_err u e layer)
+leaves_did u c as_set before s m n z turn entries (LayerRefuses e) layer link turns same none kept = absurd (ok_err u e layer)
 
 -- ---- a refusal is the definition's
 
@@ -95,7 +97,7 @@ no_lack e missing is = false_true (missing (ap (λ (x : LayerError). let r : Res
     false_true h = cc
 
 -- The link l is given frames, and is g then; the layer pulls, and leaves m; and the frames are taken, which leaves n.
-module _ (c : Settings) (l g : ShownLink) (y : layer_code.Layer) (s : Station) (manner : Manner) (fits : FitsParts c manner l y s)
+module _ (c : Settings) (l g : ShownLink) (y : layer_code.Layer) (s : Station) (manner : Manner) {turn : ℕ} (fits : FitsParts c manner l y turn s)
     (same : g.station ≡ l.station) where
   abbrev before : List (List ℕ)
   before = g.frames
@@ -110,27 +112,33 @@ module _ (c : Settings) (l g : ShownLink) (y : layer_code.Layer) (s : Station) (
   given : FitsWhole g (behind before (start c s))
   given = record { link = taken_link (link_settings c) l g s.link same fits.link; kept = sym (append-nil before) }
 
-  seen : seen_at (behind before (start c s)) ≡ view_of (link_settings c) s.link
-  seen = seen_behind before (start c s) ∙ same_view (link_settings c) (alone s.link)
+  seen : seen_at s.turn (behind before (start c s)) ≡ view_of (link_settings c) s.turn s.link
+  seen = seen_behind s.turn before (start c s) ∙ same_view (link_settings c) s.turn (alone s.link)
 
-  layer_gives : {T : Type 0} (result : Result T LayerError) (z : layer_code.Layer) → Layers g y z result PullsAll
+  layer_gives : {T : Type 0} (result : Result T LayerError) (z : layer_code.Layer) → Layers g y turn z result PullsAll
       → LayerGives (layer_settings c) z result answer
   layer_gives result z layers = subst (λ (view : LinkView). LayerGives (layer_settings c) z result (calls view (layer_settings c) s.layer PullsAll)) seen
-      (layers (layer_settings c) s.layer (behind before (start c s)) fits.layer given)
+      (subst (λ (at : ℕ). Layers g y at z result PullsAll) fits.turned layers (layer_settings c) s.layer (behind before (start c s)) fits.layer given)
 
-  link_gives : {T : Type 0} (result : Result T LayerError) (m : ShownLink) → Links g m y result PullsAll → LinkGives m (behind before (start c s)) result answer
+  link_gives : {T : Type 0} (result : Result T LayerError) (m : ShownLink) → Links g m y turn result PullsAll → LinkGives m (behind before (start c s)) result answer
   link_gives result m links = subst (λ (view : LinkView). LinkGives m (behind before (start c s)) result (calls view (layer_settings c) s.layer PullsAll)) seen
-      (links (layer_settings c) s.layer (behind before (start c s)) fits.layer given)
+      (subst (λ (at : ℕ). Links g m y at result PullsAll) fits.turned links (layer_settings c) s.layer (behind before (start c s)) fits.layer given)
 
-  pulled_made : {T : Type 0} (u : T) (m : ShownLink) → Links g m y (Ok u) PullsAll → m.frames ≡ before ++ map (spelling_of c.role) (pulled c s).out
+  turn_gives : {T : Type 0} (result : Result T LayerError) (turn₂ : ℕ) → Turns g y turn turn₂ result PullsAll → TurnGives turn₂ result answer
+  turn_gives result turn₂ turns = subst (λ (view : LinkView). TurnGives turn₂ result (calls view (layer_settings c) s.layer PullsAll)) seen
+      (subst (λ (at : ℕ). Turns g y at turn₂ result PullsAll) fits.turned turns (layer_settings c) s.layer (behind before (start c s)) fits.layer given)
+
+  pulled_made : {T : Type 0} (u : T) (m : ShownLink) → Links g m y turn (Ok u) PullsAll → m.frames ≡ before ++ map (spelling_of c.role) (pulled c s).out
   pulled_made u m links = made_did u c before s m entries answer (link_gives (Ok u) m links)
 
-  pulled_fits : {T : Type 0} (u : T) (m n : ShownLink) (z : layer_code.Layer) → Layers g y z (Ok u) PullsAll → Links g m y (Ok u) PullsAll → n.station
+  pulled_fits : {T : Type 0} (u : T) (m n : ShownLink) (z : layer_code.Layer) (turn₂ : ℕ) → Layers g y turn z (Ok u) PullsAll
+      → Links g m y turn (Ok u) PullsAll → Turns g y turn turn₂ (Ok u) PullsAll → n.station
       ≡ m.station → n.frames ≡ [] → KeptBy (requests c s PullsAll)
-      → FitsParts c manner n z (pulled c s).near
-  pulled_fits u m n z layers links same none kept =
+      → FitsParts c manner n z turn₂ (pulled c s).near
+  pulled_fits u m n z turn₂ layers links turns same none kept =
       let layer = layer_gives (Ok u) z layers in
-      fits_of c n z s (requests c s PullsAll) (leaves_did u c fits.same before s m n z entries answer layer (link_gives (Ok u) m links) same none kept)
+      fits_of c n z turn₂ s (requests c s PullsAll)
+      (leaves_did u c fits.same before s m n z turn₂ entries answer layer (link_gives (Ok u) m links) (turn_gives (Ok u) turn₂ turns) same none kept)
       (goes_did u c s.link z entries answer layer)
 
   -- ---- a refusal: nothing is done
@@ -139,33 +147,37 @@ module _ (c : Settings) (l g : ShownLink) (y : layer_code.Layer) (s : Station) (
   still_made m stays = (stays (behind before (start c s)) given).kept ∙ append-nil before
 
   still_fits : (m n : ShownLink) (z : layer_code.Layer) → FitsLayer (layer_settings c) z s.layer → ((x : LinkState) → FitsWhole g x → FitsWhole m x)
-      → n.station ≡ m.station → n.frames ≡ [] → FitsParts c manner n z s
+      → n.station ≡ m.station → n.frames ≡ [] → FitsParts c manner n z turn s
   still_fits m n z layer stays same none = record {
     link = taken_link (link_settings c) m n s.link same (stays (behind before (start c s)) given).link;
     layer = layer;
+    turned = fits.turned;
     kept = fits.kept;
     sent = none;
     same = fits.same;
   }
 
-  nothing_done : (e : LayerError) (z : layer_code.Layer) → e ≢ layer_error.NoMemory → (let x : Result Unit LayerError = Err e in Layers g y z x PullsAll)
+  nothing_done : (e : LayerError) (z : layer_code.Layer) → e ≢ layer_error.NoMemory → (let x : Result Unit LayerError = Err e in Layers g y turn z x PullsAll)
       → pulled c s ≡ none_pulled s
   nothing_done e z named layers =
       let x : Result Unit LayerError = Err e in
       none_of s e (of_layer e) (requests c s PullsAll) refl named
-      (refused_did Unit Unit e (of_layer e) c s.link z entries answer (calls_named (view_of (link_settings c) s.link) (layer_settings c) s.layer PullsAll) refl
+      (refused_did Unit Unit e (of_layer e) c s.link z entries answer (calls_named (view_of (link_settings c) s.turn s.link) (layer_settings c) s.layer PullsAll) refl
       (layer_gives x z layers))
 
-  pub pulls_fit : (result : Result Unit LayerError) (m n : ShownLink) (z : layer_code.Layer) → Layers g y z result PullsAll → Links g m y result PullsAll
+  pub pulls_fit : (result : Result Unit LayerError) (m n : ShownLink) (z : layer_code.Layer) (turn₂ : ℕ) → Layers g y turn z result PullsAll
+      → Links g m y turn result PullsAll → Turns g y turn turn₂ result PullsAll
       → (IsErrOf result layer_error.NoMemory → false ≡ true)
-      → OnErr result (FitsLayer (layer_settings c) z s.layer) → ((x : LinkState) → FitsWhole g x → OnErr result (FitsWhole m x)) → n.station ≡ m.station
+      → OnErr result (FitsLayer (layer_settings c) z s.layer) → ((x : LinkState) → FitsWhole g x → OnErr result (FitsWhole m x)) → OnErr result (turn₂ ≡ turn) → n.station ≡ m.station
       → n.frames ≡ [] → KeptBy (requests c s PullsAll)
-      → FitsParts c manner n z (pulled c s).near
-  pulls_fit (Ok u) m n z layers links missing layer stays same none kept = pulled_fits u m n z layers links same none kept
-  pulls_fit (Err e) m n z layers links missing layer stays same none kept =
-      subst (λ (step : Step). FitsParts c manner n z step.near) (sym (nothing_done e z (no_lack e missing) layers)) (still_fits m n z layer stays same none)
+      → FitsParts c manner n z turn₂ (pulled c s).near
+  pulls_fit (Ok u) m n z turn₂ layers links turns missing layer stays turn_stays same none kept =
+      pulled_fits u m n z turn₂ layers links turns same none kept
+  pulls_fit (Err e) m n z turn₂ layers links turns missing layer stays turn_stays same none kept =
+      subst (λ (step : Step). FitsParts c manner n z turn₂ step.near) (sym (nothing_done e z (no_lack e missing) layers))
+      (subst (λ (at : ℕ). FitsParts c manner n z at s) (sym turn_stays) (still_fits m n z layer stays same none))
 
-  pub pulls_made : (result : Result Unit LayerError) (m : ShownLink) (z : layer_code.Layer) → Layers g y z result PullsAll → Links g m y result PullsAll
+  pub pulls_made : (result : Result Unit LayerError) (m : ShownLink) (z : layer_code.Layer) → Layers g y turn z result PullsAll → Links g m y turn result PullsAll
       → (IsErrOf result layer_error.NoMemory → false ≡ true)
       → ((x : LinkState) → FitsWhole g x → OnErr result (FitsWhole m x)) → m.frames ≡ before ++ map (spelling_of c.role) (pulled c s).out
   pulls_made (Ok u) m z layers links missing stays = pulled_made u m links

@@ -1,4 +1,6 @@
 -- What the layer puts in a step the link accepts.
+use Rattle.x25_station.proofs.Names.{◌+◌, ◌-◌}
+use Rattle.x25_layer.specs.laws.Rounds.{at_turn, rest_of_round}
 use Rattle.x25_station.proofs.Names.{◌≡◌, ℕ, zero, suc, ◌<◌, List, [], ◌∷◌, ◌++◌, Option, Some, None, Bool, true, false, not, nat_lt, ◌==◌, if◌then◌else◌}
 use Rattle.x25_station.proofs.Names.{option_to_list, refl, sym, ap, subst, ◌∙◌, arith, eqb-true, ltb-true, layer_pulled, LayerSettings, Putting, with_pulled}
 use Rattle.x25_station.proofs.Names.{pull_one, round, rounds_of, rounds, backlog, alone, put_refusal, waits, LinkSettings, LinkStation, Side, is_up, PutTells}
@@ -34,11 +36,11 @@ accepts s up low =
 
 -- ---- the rounds
 
-pull_accepted : PutTells → (c : LinkSettings) (t : Side) (lc : LayerSettings) (h : ℕ) (s : Putting) → is_up t.near.phase ≡ true → AreAccepted c s.put t
-    → AreAccepted c (pull_one (view_of c t.near) lc h s).put t
-pull_accepted tells c t lc h s up all = test (nat_lt (waiting_after c t.near s.put) 8) refl
+pull_accepted : PutTells → (turn : ℕ) (c : LinkSettings) (t : Side) (lc : LayerSettings) (h : ℕ) (s : Putting) → is_up t.near.phase ≡ true → AreAccepted c s.put t
+    → AreAccepted c (pull_one (view_of c turn t.near) lc h s).put t
+pull_accepted tells turn c t lc h s up all = test (nat_lt (waiting_after c t.near s.put) 8) refl
   where
-    given : (o : Option PlainPacket) → waiting_after c t.near s.put < 8 → AreAccepted c (with_pulled s (layer_pulled lc s.layer h) o).put t
+    given : (o : Option PlainPacket) → waiting_after c t.near s.put < 8 → AreAccepted c (with_pulled h s (layer_pulled lc s.layer h) o).put t
     given None low = all
     given (Some p) low =
         let same : (all_put c s.put t).near ≡ (all_put c s.put (alone t.near)).near = near_alone c s.put t (alone t.near) refl in
@@ -46,24 +48,30 @@ pull_accepted tells c t lc h s up all = test (nat_lt (waiting_after c t.near s.p
         accepted_append c s.put (p ∷ []) t all (accepts (all_put c s.put t).near (all_up tells c s.put t up) (omega (arith, fewer)), tt)
 
     test : (b : Bool) → nat_lt (waiting_after c t.near s.put) 8 ≡ b
-        → AreAccepted c (let n : Putting = if b then with_pulled s (layer_pulled lc s.layer h) (layer_pulled lc s.layer h).packet else s in n.put) t
+        → AreAccepted c (let n : Putting = if b then with_pulled h s (layer_pulled lc s.layer h) (layer_pulled lc s.layer h).packet else s in n.put) t
     test true is = given (layer_pulled lc s.layer h).packet (ltb-true _ _ is)
     test false is = all
 
-round_accepted : PutTells → (c : LinkSettings) (t : Side) (lc : LayerSettings) (n : ℕ) (s : Putting) → is_up t.near.phase ≡ true → AreAccepted c s.put t
-    → AreAccepted c (round (view_of c t.near) lc n s).put t
-round_accepted tells c t lc zero s up all = all
-round_accepted tells c t lc (suc n) s up all = pull_accepted tells c t lc (suc n) (round (view_of c t.near) lc n s) up (round_accepted tells c t lc n s up all)
+round_accepted : PutTells → (turn : ℕ) (c : LinkSettings) (t : Side) (lc : LayerSettings) (b n : ℕ) (s : Putting) → is_up t.near.phase ≡ true → AreAccepted c s.put t
+    → AreAccepted c (round (view_of c turn t.near) lc b n s).put t
+round_accepted tells turn c t lc b zero s up all = all
+round_accepted tells turn c t lc b (suc n) s up all =
+    pull_accepted tells turn c t lc (b + suc n) (round (view_of c turn t.near) lc b n s) up
+    (round_accepted tells turn c t lc b n s up all)
 
-rounds_of_accepted : PutTells → (k : ℕ) (c : LinkSettings) (t : Side) (lc : LayerSettings) (s : Putting) → is_up t.near.phase ≡ true → AreAccepted c s.put t
-    → AreAccepted c (rounds_of k (view_of c t.near) lc s).put t
-rounds_of_accepted tells zero c t lc s up all = all
-rounds_of_accepted tells (suc k) c t lc s up all = rounds_of_accepted tells k c t lc (round (view_of c t.near) lc lc.channels.count s) up
-    (round_accepted tells c t lc lc.channels.count s up all)
+rounds_of_accepted : PutTells → (turn k : ℕ) (c : LinkSettings) (t : Side) (lc : LayerSettings) (s : Putting) → is_up t.near.phase ≡ true → AreAccepted c s.put t
+    → AreAccepted c (rounds_of k (view_of c turn t.near) lc s).put t
+rounds_of_accepted tells turn zero c t lc s up all = all
+rounds_of_accepted tells turn (suc k) c t lc s up all = rounds_of_accepted tells turn k c t lc (round (view_of c turn t.near) lc 0 lc.channels.count s) up
+    (round_accepted tells turn c t lc 0 lc.channels.count s up all)
 
-pub rounds_accepted : PutTells → (c : LinkSettings) (t : Side) (lc : LayerSettings) (s : Putting) → is_up t.near.phase ≡ true → AreAccepted c s.put t
-    → AreAccepted c (rounds (view_of c t.near) lc s).put t
-rounds_accepted tells c t lc s = rounds_of_accepted tells (backlog s.layer.circuits lc.channels.count) c t lc s
+pub rounds_accepted : PutTells → (turn : ℕ) (c : LinkSettings) (t : Side) (lc : LayerSettings) (s : Putting) → is_up t.near.phase ≡ true → AreAccepted c s.put t
+    → AreAccepted c (rounds (view_of c turn t.near) lc s).put t
+rounds_accepted tells turn c t lc s up all =
+    let view = view_of c turn t.near in
+    let rest : Putting = rest_of_round view lc s in
+    rounds_of_accepted tells turn (backlog rest.layer.circuits lc.channels.count) c t lc rest up
+    (round_accepted tells turn c t lc turn (lc.channels.count - turn) (at_turn turn s) up all)
 
 -- what is owed, and the rounds behind it
 pub begin_accepted : (c : LinkSettings) (t : Side) (owed : Option PlainPacket) → is_up t.near.phase ≡ true → waits t.near.outgoing < 256

@@ -86,7 +86,7 @@ pub room_is_what_is_taken : (c : Settings) (s : Station) (h : ℕ) (q : Marks) (
 room_is_what_is_taken c s h q user may short =
     let lc = layer_settings c in
     let up = is_up s.link.phase in
-    let view = view_of (link_settings c) s.link in
+    let view = view_of (link_settings c) s.turn s.link in
     let is_full = view.waits [] == 256 in
     let made = outcome_in lc is_full s.layer.restarting s.layer.restarts s.layer.circuits (Asks h (Sends q user)) in
     no_room up s.layer.restarting (is_channel lc.channels h) (message_room (s.layer.circuits h)) _ (in_circuit lc.circuit (s.layer.circuits h) q user short)

@@ -41,7 +41,7 @@ declined false = Declined layer_error.NoSuchChannel
 
 module _ (c : Settings) (s : Station) (h : ℕ) (nowhere : is_channel c.channels h ≡ false) where
   view : LinkView
-  view = view_of (link_settings c) s.link
+  view = view_of (link_settings c) s.turn s.link
 
   lc : LayerSettings
   lc = layer_settings c

@@ -134,9 +134,9 @@ module _ (laws : LinkSettles) (c : Settings) (s : Station) (small : c.window ≤
   behind : (t : Side) (n : Putting) (entries : List StationEntry) → Settled c.window t.near → IsSettled c (with_puts c t n entries).near
   behind t n entries h = let all = all_settled laws (link_settings c) small n.put t h in record { said = all.said; sound = all.sound }
 
-  follows_settled : (k : LinkStep) → Settled c.window k.side.near → IsSettled c (follows c s.layer k).near
-  follows_settled k h = behind k.side (layer_at (view_of (link_settings c) k.side.near) (layer_settings c) c.wide s.layer k.packet k.notes.down k.notes.up)
-      (follows c s.layer k).entries h
+  follows_settled : (k : LinkStep) → Settled c.window k.side.near → IsSettled c (follows c s k).near
+  follows_settled k h = behind k.side (layer_at (view_of (link_settings c) s.turn k.side.near) (layer_settings c) c.wide s.layer k.packet k.notes.down k.notes.up)
+      (follows c s k).entries h
 
   unless_settled : (o : Option LinkError) (step : Step) → IsSettled c step.near → SettledBy c (unless o step)
   unless_settled None step h = h
@@ -162,37 +162,37 @@ stays_settled laws c s (timer.Comes octets) small h = test (abandons c s)
     link : Settled c.window s.link
     link = record { said = h.said; sound = h.sound }
 
-    test : (b : Bool) → (let k : LinkStep = if b then abandon_step lc s.link else take_step lc octets s.link in IsSettled c (follows c s.layer k).near)
+    test : (b : Bool) → (let k : LinkStep = if b then abandon_step lc s.link else take_step lc octets s.link in IsSettled c (follows c s k).near)
     test true = follows_settled laws c s small (abandon_step lc s.link) (abandon_settled laws lc small s.link link)
     test false = follows_settled laws c s small (take_step lc octets s.link) (take_settled laws lc small octets s.link link)
 stays_settled laws c s timer.Fires small h =
     let lc : LinkSettings = link_settings c in
-    unless_settled laws c s small (timer_refusal s.link) (follows c s.layer (timer_step lc s.link))
+    unless_settled laws c s small (timer_refusal s.link) (follows c s (timer_step lc s.link))
     (follows_settled laws c s small (timer_step lc s.link) (timer_settled laws lc small s.link (record { said = h.said; sound = h.sound })))
 stays_settled laws c s (timer.Asks (Requests request)) small h =
     let said = said_by c.say_sizes s.layer request in
-    let view = view_of (link_settings c) s.link in
+    let view = view_of (link_settings c) s.turn s.link in
     where_holds (SettledBy c) (may_ask c.wide said) (requests_of c s.link s.layer view said) (λ e. tt)
     (went_settled laws c s small _ (calls view (layer_settings c) s.layer said) (record { said = h.said; sound = h.sound }))
 stays_settled laws c s (timer.Asks (RequestsWith given request)) small h =
     let said = said_by c.say_sizes s.layer request in
-    gave_settled laws c s small given (is_taken c given said) _ (calls (view_given (link_settings c) given s.link) (layer_settings c) s.layer said)
+    gave_settled laws c s small given (is_taken c given said) _ (calls (view_given (link_settings c) given s.turn s.link) (layer_settings c) s.layer said)
     (record { said = h.said; sound = h.sound })
 stays_settled laws c s (timer.Asks Connects) small h =
     let lc : LinkSettings = link_settings c in
-    unless_settled laws c s small (connect_refusal s.link.phase) (led_by (connect_asked ∷ []) (follows c s.layer (connect_step lc s.link)))
+    unless_settled laws c s small (connect_refusal s.link.phase) (led_by (connect_asked ∷ []) (follows c s (connect_step lc s.link)))
     (follows_settled laws c s small (connect_step lc s.link) (connect_settled laws lc small s.link h.said.low))
 stays_settled laws c s (timer.Asks Disconnects) small h =
     let lc : LinkSettings = link_settings c in
-    unless_settled laws c s small (disconnect_refusal s.link.phase) (led_by (disconnect_asked ∷ []) (follows c s.layer (disconnect_step lc s.link)))
+    unless_settled laws c s small (disconnect_refusal s.link.phase) (led_by (disconnect_asked ∷ []) (follows c s (disconnect_step lc s.link)))
     (follows_settled laws c s small (disconnect_step lc s.link) (disconnect_settled laws lc small s.link))
 stays_settled laws c s (timer.Asks Probes) small h =
     let lc : LinkSettings = link_settings c in
-    unless_settled laws c s small (probe_refusal s.link.phase) (follows c s.layer (timer_step lc s.link))
+    unless_settled laws c s small (probe_refusal s.link.phase) (follows c s (timer_step lc s.link))
     (follows_settled laws c s small (timer_step lc s.link) (timer_settled laws lc small s.link (record { said = h.said; sound = h.sound })))
 stays_settled laws c s (timer.Asks Relinks) small h =
     let lc : LinkSettings = link_settings c in
-    unless_settled laws c s small (relink_refusal s.link.phase) (led_by (relink_asked ∷ []) (follows c s.layer (relink_step lc s.link)))
+    unless_settled laws c s small (relink_refusal s.link.phase) (led_by (relink_asked ∷ []) (follows c s (relink_step lc s.link)))
     (follows_settled laws c s small (relink_step lc s.link) (relink_settled laws lc small s.link))
 
 pub new_is_settled : NewIsSettled
@@ -255,7 +255,7 @@ pulls_go_on c s h = by (is_up s.link.phase) s.layer.restarting refl
         (timer_runs v.phase v) is)
 
     view : LinkView
-    view = view_of lc s.link
+    view = view_of lc s.turn s.link
 
     full : Bool
     full = waits s.link.outgoing == 256

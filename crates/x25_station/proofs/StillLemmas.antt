@@ -87,19 +87,19 @@ module _ (c : Settings) (s : Station) (h : ℕ) where
     -- what the layer puts behind a step of the link
     put_leads : (t : Side) (next : Layer) (owed : Option PlainPacket) (entries : List StationEntry) → is_up t.near.phase ≡ true
         → LayerMoves lc h s.layer next entries
-        → Leads (with_puts c t (rounds (view_of (link_settings c) t.near) lc (begin next owed)) entries).near entries
+        → Leads (with_puts c t (rounds (view_of (link_settings c) s.turn t.near) lc (begin next owed)) entries).near entries
     put_leads t next owed entries is moved =
-        let n : Putting = rounds (view_of (link_settings c) t.near) lc (begin next owed) in
+        let n : Putting = rounds (view_of (link_settings c) s.turn t.near) lc (begin next owed) in
         leads (with_puts c t n entries).near entries up (all_up tells (link_settings c) n.put t is)
-        (moves_on lc h s.layer next n.layer entries moved (rounds_same (view_of (link_settings c) t.near) lc (begin next owed)))
+        (moves_on lc h s.layer next n.layer entries moved (rounds_same (view_of (link_settings c) s.turn t.near) lc (begin next owed)))
 
     -- a step of the link
-    follow_leads : (k : LinkStep) → Tells s.link k → tells_link (follows c s.layer k).entries ≡ false
-        → Leads (follows c s.layer k).near (follows c s.layer k).entries
+    follow_leads : (k : LinkStep) → Tells s.link k → tells_link (follows c s k).entries ≡ false
+        → Leads (follows c s k).near (follows c s k).entries
     follow_leads k t quiet = by k.packet k.notes.down refl k.notes.up refl quiet
       where
         view : LinkView
-        view = view_of (link_settings c) k.side.near
+        view = view_of (link_settings c) s.turn k.side.near
 
         noted : (o : Option Reason) (b : Bool) → k.notes.down ≡ o → k.notes.up ≡ b → k.notes ≡ record { down = o; up = b }
         noted o b p q = ap (λ (x : Option Reason). record { down = x; up = k.notes.up }) p ∙ ap (λ (x : Bool). record { down = o; up = x }) q
@@ -131,7 +131,7 @@ module _ (c : Settings) (s : Station) (h : ℕ) where
         full = waits s.link.outgoing == 256
 
         view : LinkView
-        view = view_of (link_settings c) s.link
+        view = view_of (link_settings c) s.turn s.link
 
         at : (b : Bool) → is_up s.link.phase ≡ b → (o : LayerOutcome) → OutcomeMoves lc h s.layer.restarting s.layer request o
             → Goes (did c (alone s.link) (entries_of_outcome lc s.layer request o) (if b then went view lc o else Refuses layer_error.NotUp))
@@ -148,7 +148,7 @@ module _ (c : Settings) (s : Station) (h : ℕ) where
         full = waits s.link.outgoing == 256
 
         view : LinkView
-        view = view_given (link_settings c) g s.link
+        view = view_given (link_settings c) g s.turn s.link
 
         at : (taken b : Bool) → is_up s.link.phase ≡ b → (o : LayerOutcome) → OutcomeMoves lc h s.layer.restarting s.layer request o
             → Goes (gave c g taken (alone s.link) (entries_of_outcome lc s.layer request o) (if b then went view lc o else Refuses layer_error.NotUp))
@@ -166,18 +166,18 @@ module _ (c : Settings) (s : Station) (h : ℕ) where
     unless_leads (Some e) step go = tt
 
     not_asked : (entries : List StationEntry)
-        → Goes (unless (connect_refusal s.link.phase) (led_by entries (follows c s.layer (connect_step (link_settings c) s.link))))
-    not_asked entries = subst (λ (p : Phase). Goes (unless (connect_refusal p) (led_by entries (follows c s.layer (connect_step (link_settings c) s.link)))))
+        → Goes (unless (connect_refusal s.link.phase) (led_by entries (follows c s (connect_step (link_settings c) s.link))))
+    not_asked entries = subst (λ (p : Phase). Goes (unless (connect_refusal p) (led_by entries (follows c s (connect_step (link_settings c) s.link)))))
         (sym (up_is s.link.phase up)) tt
 
 goes_on : LinkLaws → (c : Settings) (s : Station) (h : ℕ) (event : timer.StationEvent) → 2 ≤ rank c s h → Goes c s h (timer.outcome c s event)
 goes_on laws c s h timer.Fires high =
-    unless_leads c s h laws.put high (timer_refusal s.link) (follows c s.layer (timer_step (link_settings c) s.link))
+    unless_leads c s h laws.put high (timer_refusal s.link) (follows c s (timer_step (link_settings c) s.link))
     (follow_leads c s h laws.put high (timer_step (link_settings c) s.link) (laws.timer (link_settings c) s.link))
 goes_on laws c s h (timer.Comes octets) high = test (abandons c s)
   where
     test : (b : Bool) → (let k : LinkStep = if b then abandon_step (link_settings c) s.link else take_step (link_settings c) octets s.link in
-        Goes c s h (Did (follows c s.layer k)))
+        Goes c s h (Did (follows c s k)))
     test true = follow_leads c s h laws.put high (abandon_step (link_settings c) s.link) (laws.abandon (link_settings c) s.link)
     test false = follow_leads c s h laws.put high (take_step (link_settings c) octets s.link) (laws.take (link_settings c) octets s.link)
 goes_on laws c s h (timer.Asks (Requests request)) high = request_leads c s h laws.put high (said_by c.say_sizes s.layer request)
@@ -185,13 +185,13 @@ goes_on laws c s h (timer.Asks (RequestsWith given request)) high = given_leads 
 goes_on laws c s h (timer.Asks Connects) high = not_asked c s h laws.put high (connect_asked ∷ [])
 goes_on laws c s h (timer.Asks Disconnects) high =
     unless_leads c s h laws.put high (disconnect_refusal s.link.phase)
-    (led_by (disconnect_asked ∷ []) (follows c s.layer (disconnect_step (link_settings c) s.link)))
+    (led_by (disconnect_asked ∷ []) (follows c s (disconnect_step (link_settings c) s.link)))
     (follow_leads c s h laws.put high (disconnect_step (link_settings c) s.link) (laws.disconnect (link_settings c) s.link))
 goes_on laws c s h (timer.Asks Probes) high =
-    unless_leads c s h laws.put high (probe_refusal s.link.phase) (follows c s.layer (timer_step (link_settings c) s.link))
+    unless_leads c s h laws.put high (probe_refusal s.link.phase) (follows c s (timer_step (link_settings c) s.link))
     (follow_leads c s h laws.put high (timer_step (link_settings c) s.link) (laws.timer (link_settings c) s.link))
 goes_on laws c s h (timer.Asks Relinks) high =
-    unless_leads c s h laws.put high (relink_refusal s.link.phase) (led_by (relink_asked ∷ []) (follows c s.layer (relink_step (link_settings c) s.link)))
+    unless_leads c s h laws.put high (relink_refusal s.link.phase) (led_by (relink_asked ∷ []) (follows c s (relink_step (link_settings c) s.link)))
     (follow_leads c s h laws.put high (relink_step (link_settings c) s.link) (laws.relink (link_settings c) s.link))
 
 pub nothing_leads_back : LinkLaws → NothingLeadsBack
@@ -267,7 +267,7 @@ module _ (tells : PutTells) (c : Settings) (s : Station) (request : LayerRequest
     (low : waits s.link.outgoing < 256)
     (is : layer_outcome (layer_settings c) false s.layer request ≡ Accepted next packet) where
   abbrev put : Putting
-  put = rounds (view_of (link_settings c) s.link) (layer_settings c) (begin next packet)
+  put = rounds (view_of (link_settings c) s.turn s.link) (layer_settings c) (begin next packet)
 
   abbrev accepted_step : Step
   accepted_step = with_puts c (alone s.link) put (entries_of_outcome (layer_settings c) s.layer request (Accepted next packet))
@@ -275,7 +275,7 @@ module _ (tells : PutTells) (c : Settings) (s : Station) (request : LayerRequest
   accepted : may_ask c.wide request ≡ true → requests c s request ≡ Did accepted_step
   accepted may =
       let lc : LayerSettings = layer_settings c in
-      let view : LinkView = view_of (link_settings c) s.link in
+      let view : LinkView = view_of (link_settings c) s.turn s.link in
       ap (λ (b : Bool). where_asked b (requests_of c s.link s.layer view request)) may
       ∙ ap (λ (b : Bool). did c (alone s.link) (entries_of_outcome lc s.layer request (layer_outcome lc (waits s.link.outgoing == 256) s.layer request))
       (if b then went view lc (layer_outcome lc (waits s.link.outgoing == 256) s.layer request) else Refuses layer_error.NotUp)) up
@@ -286,7 +286,7 @@ module _ (tells : PutTells) (c : Settings) (s : Station) (request : LayerRequest
   accepted_rank : (h : ℕ) (r : Bool) (x : State) → next.restarting ≡ r → (next.circuits h).state ≡ x → rank c accepted_step.near h
       ≡ rank_of Up r (awaits_in (is_channel c.channels h) x)
   accepted_rank h r x restarting state =
-      let same : SameStates next put.layer = rounds_same (view_of (link_settings c) s.link) (layer_settings c) (begin next packet) in
+      let same : SameStates next put.layer = rounds_same (view_of (link_settings c) s.turn s.link) (layer_settings c) (begin next packet) in
       rank_is c accepted_step.near h r x (all_up tells (link_settings c) put.put (alone s.link) up) (same.0 ∙ restarting) (same.1 h ∙ state)
 
 -- what a rank of 4 says

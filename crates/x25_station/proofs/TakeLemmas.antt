@@ -39,8 +39,8 @@ handed_can_put tells hands c l octets s p fits few is =
 
 -- ---- of any state that the station stands for
 
-pub put_by_meaning : {manner : Manner} (l m : ShownLink) (y : layer_code.Layer) → AreMeant manner l y
-    → ((c : Settings) (s : Station) → FitsParts c manner l y s → CanPut m) → CanPut m
+pub put_by_meaning : {manner : Manner} {turn : ℕ} (l m : ShownLink) (y : layer_code.Layer) → AreMeant manner l y turn
+    → ((c : Settings) (s : Station) → FitsParts c manner l y turn s → CanPut m) → CanPut m
 put_by_meaning l m y h f = record {
   up = ∥∥₁_elim h (hlevel props) (λ w. (f w.0 w.1 w.2).up);
   free = ∥∥₁_elim h (hlevel props) (λ w. (f w.0 w.1 w.2).free);
@@ -48,12 +48,12 @@ put_by_meaning l m y h f = record {
   places = ∥∥₁_elim h (hlevel props) (λ w. (f w.0 w.1 w.2).places);
 }
 
-pub least_by_meaning : {manner : Manner} (l : ShownLink) (y : layer_code.Layer) (a b : ℕ) → AreMeant manner l y
-    → ((c : Settings) (s : Station) → FitsParts c manner l y s → a ≤ b) → a ≤ b
+pub least_by_meaning : {manner : Manner} {turn : ℕ} (l : ShownLink) (y : layer_code.Layer) (a b : ℕ) → AreMeant manner l y turn
+    → ((c : Settings) (s : Station) → FitsParts c manner l y turn s → a ≤ b) → a ≤ b
 least_by_meaning l y a b h f = ∥∥₁_elim h (hlevel props) (λ w. f w.0 w.1 w.2)
 
-pub up_by_meaning : {manner : Manner} (l : ShownLink) (y : layer_code.Layer) (b : Bool) → AreMeant manner l y
-    → ((c : Settings) (s : Station) → FitsParts c manner l y s → b ≡ true) → b ≡ true
+pub up_by_meaning : {manner : Manner} {turn : ℕ} (l : ShownLink) (y : layer_code.Layer) (b : Bool) → AreMeant manner l y turn
+    → ((c : Settings) (s : Station) → FitsParts c manner l y turn s → b ≡ true) → b ≡ true
 up_by_meaning l y b h f = ∥∥₁_elim h (hlevel props) (λ w. f w.0 w.1 w.2)
 
 pub handed_was_up : TakeHandsUp → (c : Settings) (l : ShownLink) (octets : List ℕ) (s : LinkStation) (p : List ℕ) → FitsLink (link_settings c) l s
@@ -73,9 +73,9 @@ if_some None P f = tt
 if_some (Some x) P f = f x refl
 
 -- the link takes the longest packet
-pub takes_longest : {manner : Manner} (l : ShownLink) (y : layer_code.Layer) → AreMeant manner l y → 4099 ≤ limit_of l
+pub takes_longest : {manner : Manner} {turn : ℕ} (l : ShownLink) (y : layer_code.Layer) → AreMeant manner l y turn → 4099 ≤ limit_of l
 takes_longest l y h = least_by_meaning l y 4099 (limit_of l) h (λ c s fits. let n : limit_of l ≡ 4099 = fits.link.near.longest in omega (arith, n))
 
 -- between calls no frame is kept, so that there are places for those of any call
-pub has_places : {manner : Manner} (l : ShownLink) (y : layer_code.Layer) → AreMeant manner l y → 16 ≤ places_left l.frames
+pub has_places : {manner : Manner} {turn : ℕ} (l : ShownLink) (y : layer_code.Layer) → AreMeant manner l y turn → 16 ≤ places_left l.frames
 has_places l y h = least_by_meaning l y 16 (places_left l.frames) h (λ c s fits. let n : length l.frames ≡ 0 = ap length fits.sent in omega (arith, n))

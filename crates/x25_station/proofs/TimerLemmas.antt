@@ -47,14 +47,14 @@ taken false step is = absurd (true≢false (sym is))
 pub firing_is_taken : law.FiringIsTaken
 firing_is_taken c events is =
     let w = law.watched c events in
-    taken (runs w.station) (follows c w.station.layer (timer_step (link_settings c) w.station.link)) (sym (deadline_is_true c events) ∙ is)
+    taken (runs w.station) (follows c w.station (timer_step (link_settings c) w.station.link)) (sym (deadline_is_true c events) ∙ is)
 
 refused : (b : Bool) (step : Step) → b ≡ false → unless (if b then None else Some link_error.NotRunning) step ≡ Refused (error.Link link_error.NotRunning)
 refused true step is = absurd (true≢false is)
 refused false step is = refl
 
 pub off_is_refused : law.OffIsRefused
-off_is_refused c s is = refused (runs s) (follows c s.layer (timer_step (link_settings c) s.link)) is
+off_is_refused c s is = refused (runs s) (follows c s (timer_step (link_settings c) s.link)) is
 
 pulled_heeded : (first : Timer) (ran behind stands : Bool) → heeds first stands ≡ ran → heeds (pulled_timer first ran behind) stands ≡ behind
 pulled_heeded first ran false stands is = refl
@@ -67,9 +67,9 @@ pull_is_heeded c s first stands is = pulled_heeded first (runs s) (runs (pulled 
 -- ---- what a call acknowledges by which nothing is heard: nothing
 
 -- the end of the link's step, and then what the layer puts, acknowledge no more
-pub follows_acked : (c : Settings) (l : Layer) (k : LinkStep) → (follows c l k).near.link.outgoing.acked ≡ k.side.near.outgoing.acked
+pub follows_acked : (c : Settings) (l : Station) (k : LinkStep) → (follows c l k).near.link.outgoing.acked ≡ k.side.near.outgoing.acked
 follows_acked c l k = (all_put_lasts (link_settings c)
-    (layer_at (view_of (link_settings c) k.side.near) (layer_settings c) c.wide l k.packet k.notes.down k.notes.up).put k.side).acked
+    (layer_at (view_of (link_settings c) l.turn k.side.near) (layer_settings c) c.wide l.layer k.packet k.notes.down k.notes.up).put k.side).acked
 
 abbrev pub HearsNone : Station → Outcome → Type 0
 HearsNone s (Did step) = is_acknowledged s.link step.near.link ≡ false
@@ -77,9 +77,9 @@ HearsNone s (Refused e) = Unit {0}
 
 -- a step of the link that acknowledges no more
 followed : (c : Settings) (s : Station) (k : LinkStep) → k.side.near.outgoing.acked ≤ s.link.outgoing.acked
-    → is_acknowledged s.link (follows c s.layer (closed_by c.window k)).near.link ≡ false
+    → is_acknowledged s.link (follows c s (closed_by c.window k)).near.link ≡ false
 followed c s k few =
-    let put = follows_acked c s.layer (closed_by c.window k) in
+    let put = follows_acked c s (closed_by c.window k) in
     let same = (ended_lasts c.window k.side).acked in
     le-ltb _ _ (omega (arith, put, same, few))
 
@@ -118,12 +118,12 @@ fired_none c s = unless_none s (timer_refusal s.link)
 pub asked_none : (c : Settings) (s : Station) (command : Command) → HearsNone s (commands c s command)
 asked_none c s (Requests request) =
     let said = said_by c.say_sizes s.layer request in
-    let view = view_of (link_settings c) s.link in
+    let view = view_of (link_settings c) s.turn s.link in
     where_holds (HearsNone s) (may_ask c.wide said) (requests_of c s.link s.layer view said) (λ e. tt)
     (did_none c s _ (calls view (layer_settings c) s.layer said))
 asked_none c s (RequestsWith given request) =
     let said = said_by c.say_sizes s.layer request in
-    gave_none c s given (giving.is_taken c given said) _ (calls (view_given (link_settings c) given s.link) (layer_settings c) s.layer said)
+    gave_none c s given (giving.is_taken c given said) _ (calls (view_given (link_settings c) given s.turn s.link) (layer_settings c) s.layer said)
 asked_none c s Connects = unless_none s (connect_refusal s.link.phase) _ (followed c s (link.connects (alone s.link)) (omega arith))
 asked_none c s Disconnects = unless_none s (disconnect_refusal s.link.phase) _ (followed c s (link.disconnects (alone s.link)) (omega arith))
 asked_none c s Probes = unless_none s (probe_refusal s.link.phase)

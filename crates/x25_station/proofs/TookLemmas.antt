@@ -12,7 +12,7 @@ use Rattle.x25_layer.specs.declared.layer.Layer as layer_code
 
 -- what the layer does behind this step, by what the step handed up and noted
 abbrev pub put_behind : Settings → Bool → Station → LinkStep → Option (List ℕ) → Notes → Putting
-put_behind c wide s k o notes = layer_at (view_of (link_settings c) k.side.near) (layer_settings c) wide s.layer o notes.down notes.up
+put_behind c wide s k o notes = layer_at (view_of (link_settings c) s.turn k.side.near) (layer_settings c) wide s.layer o notes.down notes.up
 
 -- ---- whether a count is at its most where the link is up, by what the two say of it
 
@@ -32,31 +32,33 @@ pub not_full : (up full : Bool) → up ≡ true → (up && full) ≡ false → f
 not_full up full is both = sym (ap (λ (a : Bool). a && full) is) ∙ both
 
 pub takes_on : (c : Settings) (s : Station) (octets : List ℕ) → abandons c s ≡ false → receives c s octets
-    ≡ follows c s.layer (take_step (link_settings c) octets s.link)
-takes_on c s octets on = ap (λ (b : Bool). follows c s.layer (if b then abandon_step (link_settings c) s.link else take_step (link_settings c) octets s.link))
+    ≡ follows c s (take_step (link_settings c) octets s.link)
+takes_on c s octets on = ap (λ (b : Bool). follows c s (if b then abandon_step (link_settings c) s.link else take_step (link_settings c) octets s.link))
     on
 
 pub gives_up : (c : Settings) (s : Station) (octets : List ℕ) → abandons c s ≡ true
-    → (let k : LinkStep = abandon_step (link_settings c) s.link in receives c s octets ≡ downs s.layer k.side k.notes.down)
+    → (let k : LinkStep = abandon_step (link_settings c) s.link in receives c s octets ≡ downs s k.side k.notes.down)
 gives_up c s octets full =
-    ap (λ (b : Bool). follows c s.layer (if b then abandon_step (link_settings c) s.link else take_step (link_settings c) octets s.link)) full
-    ∙ follows_down c s.layer (abandon_step (link_settings c) s.link) refl refl
+    ap (λ (b : Bool). follows c s (if b then abandon_step (link_settings c) s.link else take_step (link_settings c) octets s.link)) full
+    ∙ follows_down c s (abandon_step (link_settings c) s.link) refl refl
 
 -- ---- the step, by an answer of the link
 
 record IsBehind (c : Settings) (wide : Bool) (s : Station) (k : LinkStep) (o : Option (List ℕ)) (notes : Notes) (step : Step) : Type 0 where
   link : (all_put (link_settings c) (put_behind c wide s k o notes).put k.side).near ≡ step.near.link
   layer : (put_behind c wide s k o notes).layer ≡ step.near.layer
+  turn : (put_behind c wide s k o notes).turn ≡ step.near.turn
   out : (all_put (link_settings c) (put_behind c wide s k o notes).put k.side).out ≡ step.out
   entries : entries_noted notes ++ entries_heard (layer_settings c) wide s.layer o notes.down notes.up ≡ step.entries
 
 is_behind : (c : Settings) (wide : Bool) → wide ≡ c.wide → (s : Station) (k : LinkStep) (o : Option (List ℕ)) (notes : Notes) → o ≡ k.packet → notes ≡ k.notes
-    → IsBehind c wide s k o notes (follows c s.layer k)
-is_behind c wide as_set s k o notes packet noted = subst (λ (b : Bool). IsBehind c b s k o notes (follows c s.layer k)) (sym as_set) (
-    subst (λ (x : Option (List ℕ)). IsBehind c c.wide s k x notes (follows c s.layer k)) (sym packet)
-    (subst (λ (n : Notes). IsBehind c c.wide s k k.packet n (follows c s.layer k)) (sym noted) (record {
+    → IsBehind c wide s k o notes (follows c s k)
+is_behind c wide as_set s k o notes packet noted = subst (λ (b : Bool). IsBehind c b s k o notes (follows c s k)) (sym as_set) (
+    subst (λ (x : Option (List ℕ)). IsBehind c c.wide s k x notes (follows c s k)) (sym packet)
+    (subst (λ (n : Notes). IsBehind c c.wide s k k.packet n (follows c s k)) (sym noted) (record {
       link = refl;
       layer = refl;
+      turn = refl;
       out = refl;
       entries = refl;
     })))
@@ -69,18 +71,19 @@ took {manner} c as_set s octets o notes on same =
     subst (λ (step : Step). IsBehind c manner.wide s k o notes step) (sym (takes_on c s octets on))
     (is_behind c manner.wide (ap (λ (m : Manner). m.wide) as_set) s k o notes same.0 same.1)
 
-pub took_fits : {manner : Manner} (c : Settings) → manner ≡ manner_of c
+pub took_fits : {manner : Manner} {turn : ℕ} (c : Settings) → manner ≡ manner_of c
     → (s : Station) (octets : List ℕ) (o : Option (List ℕ)) (notes : Notes) (m n : ShownLink) (z : layer_code.Layer) → abandons c s ≡ false
     → (let k : LinkStep = take_step (link_settings c) octets s.link in (o ≡ k.packet) × (notes ≡ k.notes))
     → (let k : LinkStep = take_step (link_settings c) octets s.link in
     FitsWhole m (kept_of (link_settings c) (all_put (link_settings c) (put_behind c manner.wide s k o notes).put k.side)))
     → (let k : LinkStep = take_step (link_settings c) octets s.link in FitsLayer (layer_settings c) z (put_behind c manner.wide s k o notes).layer)
-    → n.station ≡ m.station → n.frames ≡ [] → IsKept (receives c s octets).near → FitsParts c manner n z (receives c s octets).near
-took_fits c as_set s octets o notes m n z on same link layer station none kept =
+    → (let k : LinkStep = take_step (link_settings c) octets s.link in turn ≡ (put_behind c manner.wide s k o notes).turn) → n.station ≡ m.station → n.frames ≡ [] → IsKept (receives c s octets).near → FitsParts c manner n z turn (receives c s octets).near
+took_fits c as_set s octets o notes m n z on same link layer turned station none kept =
     let b = took c as_set s octets o notes on same in
     record {
       link = subst (λ (x : LinkStation). FitsLink (link_settings c) n x) b.link (taken_link (link_settings c) m n _ station link.link);
       layer = subst (λ x. FitsLayer (layer_settings c) z x) b.layer layer;
+      turned = turned ∙ b.turn;
       kept = kept;
       sent = none;
       same = as_set;
@@ -107,7 +110,7 @@ took_enters c as_set s octets o notes entries on same entered = entered ∙ (too
 pub took_acknowledged : (c : Settings) (s : Station) (octets : List ℕ) → abandons c s ≡ false → acknowledges s.link (take_step (link_settings c) octets s.link)
     ≡ is_acknowledged s.link (receives c s octets).near.link
 took_acknowledged c s octets on = ap (λ (n : ℕ). nat_lt s.link.outgoing.acked n)
-    (sym (ap (λ (x : Step). x.near.link.outgoing.acked) (takes_on c s octets on) ∙ follows_acked c s.layer (take_step (link_settings c) octets s.link)))
+    (sym (ap (λ (x : Step). x.near.link.outgoing.acked) (takes_on c s octets on) ∙ follows_acked c s (take_step (link_settings c) octets s.link)))
 
 pub gave_up_acknowledged : (c : Settings) (s : Station) (octets : List ℕ) → abandons c s ≡ true → acknowledges s.link (abandon_step (link_settings c) s.link)
     ≡ is_acknowledged s.link (receives c s octets).near.link

@@ -161,29 +161,29 @@ asked_takes c s next u same one acked on low =
 abbrev TakesQuietly : Settings → Station → ℕ → Step → Type 0
 TakesQuietly c s n step = tells_link step.entries ≡ false → step.near.link.phase ≡ s.link.phase → TakesTries c s step.near n
 
-fired : (c : Settings) (s : Station) → MayAsk s.link.phase → TakesQuietly c s 1 (follows c s.layer (timer_step (link_settings c) s.link))
-fired c s may = subst (TakesQuietly c s 1) (sym (timer_down c s.layer s.link)) (by (nat_lt s.link.tries c.retries) refl)
+fired : (c : Settings) (s : Station) → MayAsk s.link.phase → TakesQuietly c s 1 (follows c s (timer_step (link_settings c) s.link))
+fired c s may = subst (TakesQuietly c s 1) (sym (timer_down c s s.link)) (by (nat_lt s.link.tries c.retries) refl)
   where
     more : LinkStation
     more = record s.link { tries = s.link.tries + 1 }
 
     asks : (p : Phase) → s.link.phase ≡ p → MayAsk p → s.link.tries < c.retries
-        → (let t : Side = ended c.window (asks_again p (with_near (alone s.link) more)) in TakesTries c s (record { link = t.near; layer = s.layer }) 1)
+        → (let t : Side = ended c.window (asks_again p (with_near (alone s.link) more)) in TakesTries c s (record { link = t.near; layer = s.layer; turn = s.turn }) 1)
     asks Down is may low = absurd may
     asks Closed is may low = absurd may
     asks Waiting is may low =
         let t : Side = sends (sabm true) (with_near (alone s.link) more) in
-        asked_takes c s (record { link = (ended c.window t).near; layer = s.layer }) more (ended_lasts c.window t) refl refl (runs_in Waiting more is refl) low
+        asked_takes c s (record { link = (ended c.window t).near; layer = s.layer; turn = s.turn }) more (ended_lasts c.window t) refl refl (runs_in Waiting more is refl) low
     asks Up is may low =
         let u : LinkStation = record more { recovery = true } in
         let t : Side = ready true true (with_near (alone s.link) u) in
-        asked_takes c s (record { link = (ended c.window t).near; layer = s.layer }) u
+        asked_takes c s (record { link = (ended c.window t).near; layer = s.layer; turn = s.turn }) u
         (lasts_on u t.near (ended c.window t).near (ready_lasts true true (with_near (alone s.link) u)) (ended_lasts c.window t)) refl refl
         (runs_in Up u is (or-true (nat_lt u.outgoing.acked u.outgoing.sent))) low
 
     by : (b : Bool) → nat_lt s.link.tries c.retries ≡ b
         → (let k : LinkStep = closed_by c.window (if b then quiet (asks_again s.link.phase (with_near (alone s.link) more)) else leaves Retries (alone s.link))
-        in TakesQuietly c s 1 (downs s.layer k.side k.notes.down))
+        in TakesQuietly c s 1 (downs s k.side k.notes.down))
     by true low = λ quiet same. asks s.link.phase refl may (ltb-true _ _ low)
     by false low = λ quiet same. absurd (true≢false quiet)
 
@@ -203,21 +203,21 @@ same_link : (s t : LinkStation) → t ≡ s → Lasts s t
 same_link s t is = subst (λ (x : LinkStation). Lasts s x) (sym is) (lasts s)
 
 heard_waiting : TakeWaits → (c : Settings) (s : Station) (octets : List ℕ) → s.link.phase ≡ Waiting
-    → TakesQuietly c s 0 (follows c s.layer (take_step (link_settings c) octets s.link))
+    → TakesQuietly c s 0 (follows c s (take_step (link_settings c) octets s.link))
 heard_waiting waits c s octets is quiet same =
     let k : LinkStep = take_step (link_settings c) octets s.link in
     let read : Result PlainFrame FrameError = frame_of (other c.role) (link_settings c).longest octets in
     let row = waits (link_settings c) octets s.link is read refl in
     let down : k.notes.up ≡ false = not_up k.notes.down k.notes.up _ quiet in
-    let near : (follows c s.layer k).near.link ≡ s.link = ap (λ (x : Step). x.near.link) (follows_down c s.layer k row.packet down) ∙ row.near
+    let near : (follows c s k).near.link ≡ s.link = ap (λ (x : Step). x.near.link) (follows_down c s k row.packet down) ∙ row.near
     ∙ nothing_heard read s.link (sym row.up ∙ down) in
-    lasts_takes c s (follows c s.layer k).near (same_link s.link (follows c s.layer k).near.link near)
+    lasts_takes c s (follows c s k).near (same_link s.link (follows c s k).near.link near)
 
 heard : TakeWaits → (c : Settings) (s : Station) (octets : List ℕ) → s.link.phase ≡ Waiting → TakesQuietly c s 0 (receives c s octets)
 heard waits c s octets is =
     let no : abandons c s ≡ false = ap (λ (p : Phase). is_up p && is_full (layer_settings c) s.layer) is in
     subst (λ (b : Bool). let k : LinkStep = if b then abandon_step (link_settings c) s.link else take_step (link_settings c) octets s.link in
-    TakesQuietly c s 0 (follows c s.layer k)) (sym no)
+    TakesQuietly c s 0 (follows c s k)) (sym no)
     (heard_waiting waits c s octets is)
 
 -- ---- the events
@@ -245,33 +245,33 @@ connect_asks c s Up step may = tt
 connect_asks c s Closed step may = absurd may
 
 disconnect_asks : (c : Settings) (s : Station) → MayAsk s.link.phase
-    → TakesQuietly c s 0 (led_by (disconnect_asked ∷ []) (follows c s.layer (disconnect_step (link_settings c) s.link)))
+    → TakesQuietly c s 0 (led_by (disconnect_asked ∷ []) (follows c s (disconnect_step (link_settings c) s.link)))
 disconnect_asks c s may quiet same =
     let t : Side = sends (disc true) (with_near (alone s.link) (with_nothing Closed s.link.tries)) in
-    let closed : s.link.phase ≡ Closed = sym same ∙ ap (λ (x : Step). x.near.link.phase) (disconnect_down c s.layer s.link) ∙ (ended_lasts c.window t).phase in
+    let closed : s.link.phase ≡ Closed = sym same ∙ ap (λ (x : Step). x.near.link.phase) (disconnect_down c s s.link) ∙ (ended_lasts c.window t).phase in
     absurd (subst MayAsk closed may)
 
-relink_asks : (c : Settings) (s : Station) → TakesQuietly c s 0 (led_by (relink_asked ∷ []) (follows c s.layer (relink_step (link_settings c) s.link)))
-relink_asks c s quiet same = absurd (true≢false (sym (ap (λ (x : Step). tells_link x.entries) (relink_down c s.layer s.link)) ∙ quiet))
+relink_asks : (c : Settings) (s : Station) → TakesQuietly c s 0 (led_by (relink_asked ∷ []) (follows c s (relink_step (link_settings c) s.link)))
+relink_asks c s quiet same = absurd (true≢false (sym (ap (λ (x : Step). tells_link x.entries) (relink_down c s s.link)) ∙ quiet))
 
 pub unheard_asks_on : TakeWaits → UnheardAsksOn
 unheard_asks_on waits c s (timer.Comes octets) may is = heard waits c s octets is
-unheard_asks_on waits c s timer.Fires may is = unless_asks c s 1 (timer_refusal s.link) (follows c s.layer (timer_step (link_settings c) s.link))
+unheard_asks_on waits c s timer.Fires may is = unless_asks c s 1 (timer_refusal s.link) (follows c s (timer_step (link_settings c) s.link))
     (fired c s may)
 unheard_asks_on waits c s (timer.Asks (Requests request)) may is =
     let said = said_by c.say_sizes s.layer request in
-    let view = view_of (link_settings c) s.link in
+    let view = view_of (link_settings c) s.turn s.link in
     where_holds (AsksOn c s 0) (may_ask c.wide said) (requests_of c s.link s.layer view said) (λ e. tt)
     (went_asks c s _ (calls view (layer_settings c) s.layer said))
 unheard_asks_on waits c s (timer.Asks (RequestsWith given request)) may is =
     let said = said_by c.say_sizes s.layer request in
-    gave_asks c s given (is_taken c given said) _ (calls (view_given (link_settings c) given s.link) (layer_settings c) s.layer said)
+    gave_asks c s given (is_taken c given said) _ (calls (view_given (link_settings c) given s.turn s.link) (layer_settings c) s.layer said)
 unheard_asks_on waits c s (timer.Asks Connects) may is = connect_asks c s s.link.phase
-    (led_by (connect_asked ∷ []) (follows c s.layer (connect_step (link_settings c) s.link))) may
+    (led_by (connect_asked ∷ []) (follows c s (connect_step (link_settings c) s.link))) may
 unheard_asks_on waits c s (timer.Asks Disconnects) may is =
-    unless_asks c s 0 (disconnect_refusal s.link.phase) (led_by (disconnect_asked ∷ []) (follows c s.layer (disconnect_step (link_settings c) s.link)))
+    unless_asks c s 0 (disconnect_refusal s.link.phase) (led_by (disconnect_asked ∷ []) (follows c s (disconnect_step (link_settings c) s.link)))
     (disconnect_asks c s may)
-unheard_asks_on waits c s (timer.Asks Probes) may is = unless_asks c s 1 (probe_refusal s.link.phase) (follows c s.layer (timer_step (link_settings c) s.link))
+unheard_asks_on waits c s (timer.Asks Probes) may is = unless_asks c s 1 (probe_refusal s.link.phase) (follows c s (timer_step (link_settings c) s.link))
     (fired c s may)
 unheard_asks_on waits c s (timer.Asks Relinks) may is =
-    unless_asks c s 0 (relink_refusal s.link.phase) (led_by (relink_asked ∷ []) (follows c s.layer (relink_step (link_settings c) s.link))) (relink_asks c s)
+    unless_asks c s 0 (relink_refusal s.link.phase) (led_by (relink_asked ∷ []) (follows c s (relink_step (link_settings c) s.link))) (relink_asks c s)

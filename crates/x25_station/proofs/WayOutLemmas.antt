@@ -15,8 +15,8 @@ pub relink_leads_on : ConnectWaits → RelinkIsTwoSteps → RelinkLeadsOn
 relink_leads_on connects two c s up =
     let lc = link_settings c in
     let k : LinkStep = relink_step lc s.link in
-    let step : Step = led_by (relink_asked ∷ []) (follows c s.layer k) in
-    let down = relink_down c s.layer s.link in
+    let step : Step = led_by (relink_asked ∷ []) (follows c s k) in
+    let down = relink_down c s s.link in
     let waits = connects lc (with_nothing Down s.link.tries) refl in
     let near : step.near.link ≡ record (with_nothing Down s.link.tries) { phase = Waiting; tries = 0 } =
     ap (λ (x : Step). x.near.link) down ∙ ap (λ (t : Side). t.near) (two lc s.link).connected ∙ waits.near in (
@@ -38,16 +38,16 @@ module _ (timer : TimerWaits) (c : Settings) (s : Station) (waits : s.link.phase
   k = timer_step (link_settings c) s.link
 
   abbrev fired_step : Step
-  fired_step = follows c s.layer k
+  fired_step = follows c s k
 
   accepted : fires c s ≡ Did fired_step
   accepted = ap (λ (p : Phase). let r : Bool = timer_runs p s.link in unless (if r then None else Some error.NotRunning) fired_step) waits
 
   near_is : fired_step.near.link ≡ (if nat_lt s.link.tries c.retries then record s.link { tries = suc s.link.tries } else with_nothing Down s.link.tries)
-  near_is = ap (λ (x : Step). x.near.link) (timer_down c s.layer s.link) ∙ (timer (link_settings c) s.link waits).near
+  near_is = ap (λ (x : Step). x.near.link) (timer_down c s s.link) ∙ (timer (link_settings c) s.link waits).near
 
   entries_are : fired_step.entries ≡ entries_down (if nat_lt s.link.tries c.retries then None else Some Retries)
-  entries_are = ap (λ (x : Step). x.entries) (timer_down c s.layer s.link) ∙ ap entries_down (timer (link_settings c) s.link waits).down
+  entries_are = ap (λ (x : Step). x.entries) (timer_down c s s.link) ∙ ap entries_down (timer (link_settings c) s.link waits).down
 
 pub firing_leads_on : TimerWaits → FiringLeadsOn
 firing_leads_on timer c zero s waits all =

@@ -2,14 +2,14 @@
 use Rattle.x25_station.proofs.Names.{◌≡◌, ℕ, List, Option, Some, None, Result, Ok, Err, Bool, true, false, if◌then◌else◌, refl, ap, sym, subst, IsErrAnd}
 use Rattle.x25_station.proofs.Names.{IfSome, Done, Request, Calls, Accepts, Clears, outcome, call_in, accept_in, clear_in, may_clear_for, CircuitSettings}
 use Rattle.x25_station.proofs.Names.{Circuit, Proposal, default_params, may_answer, field_for, CircuitError, State, Free, Calling, Arriving, Open, Clearing}
-use Rattle.x25_station.proofs.Names.{PlainGiven, LayerRequest, Asks, Dials, LayerOutcome, Accepted, Declined, layer_outcome, outcome_in, outcome_on, where_room}
+use Rattle.x25_station.proofs.Names.{PlainGiven, LayerRequest, Asks, Dials, LayerOutcome, Accepted, Declined, calls, layer_outcome, outcome_in, outcome_on, where_room}
 use Rattle.x25_station.proofs.Names.{if_at_once, puts_at_once, dialled, free_channel, asked_where, LayerSettings, Layer, is_channel, spelled, Gives, Answers}
 use Rattle.x25_station.proofs.Names.{FitsLayer, LayerError, Answered, Went, Refuses, begin, rounds, went, ShownLink, LinkState, FitsWhole, PlainPacket, accept}
 use Rattle.x25_station.proofs.Names.{clear, spelling_of, suits, LayerGives, all_with, seen_with, GoesWith, DrivesAsked}
 use Rattle.std.specs.Prelude.{IsSome}
 use Rattle.x25_circuit.specs.Calling.{Outcome, Refused}
-use Rattle.x25_station.proofs.DriveLemmas.{IsTold, DrivesLayer, DrivesLink, told_in, layer_not, on_err, same_err, drove, drove_not}
-use Rattle.x25_station.specs.code.OverLink.{DrivesWith, all_asked, seen_asked}
+use Rattle.x25_station.proofs.DriveLemmas.{IsTold, DrivesLayer, DrivesLink, DrivesTurn, told_in, layer_not, turn_not, on_err, same_err, drove, drove_not}
+use Rattle.x25_station.specs.code.OverLink.{DrivesWith, TurnGives, all_asked, seen_asked}
 use Rattle.x25_circuit.specs.declared.error.CircuitError.TheVariants as circuit_error
 use Rattle.x25_circuit.specs.Calling as circuit
 use Rattle.x25_layer.specs.declared.error.LayerError.TheVariants as error
@@ -109,78 +109,110 @@ dial_puts c up full l called calling user proposal = where_puts up (layer_outcom
 
 -- ---- the call
 
-abbrev pub WithLayer : PlainGiven → layer_code.Layer → ShownLink → layer_code.Layer → Type 0
-WithLayer g mid below new = (c : LayerSettings) (l : Layer) (p : PlainPacket) (x : LinkState) → FitsLayer c mid l → mid.sheet ≡ spelling_of p
-    → FitsWhole below x → FitsLayer c new (rounds (seen_with g x) c (begin l (Some p))).layer
+abbrev pub WithLayer : PlainGiven → layer_code.Layer → ShownLink → ℕ → layer_code.Layer → Type 0
+WithLayer g mid below turn new = (c : LayerSettings) (l : Layer) (p : PlainPacket) (x : LinkState) → FitsLayer c mid l → mid.sheet ≡ spelling_of p
+    → FitsWhole below x → FitsLayer c new (rounds (seen_with g turn x) c (begin l (Some p))).layer
 
-abbrev pub WithLink : PlainGiven → layer_code.Layer → ShownLink → ShownLink → Type 0
-WithLink g mid below below₂ = (c : LayerSettings) (l : Layer) (p : PlainPacket) (x : LinkState) → FitsLayer c mid l → mid.sheet ≡ spelling_of p
-    → FitsWhole below x → FitsWhole below₂ (all_with g x (rounds (seen_with g x) c (begin l (Some p))).put)
+abbrev pub WithLink : PlainGiven → layer_code.Layer → ShownLink → ℕ → ShownLink → Type 0
+WithLink g mid below turn below₂ = (c : LayerSettings) (l : Layer) (p : PlainPacket) (x : LinkState) → FitsLayer c mid l → mid.sheet ≡ spelling_of p
+    → FitsWhole below x → FitsWhole below₂ (all_with g x (rounds (seen_with g turn x) c (begin l (Some p))).put)
 
-layer_went : {T : Type 0} (u : T) (g : PlainGiven) (c : LayerSettings) (mid new : layer_code.Layer) (below : ShownLink) (x : LinkState) (o : LayerOutcome)
-    → LayerPuts o → FitsWhole below x → Gives c mid (Ok u) o → WithLayer g mid below new → LayerGives c new (Ok u) (went (seen_with g x) c o)
-layer_went u g c mid new below x (Accepted next None) puts fits gives drives = absurd puts
-layer_went u g c mid new below x (Accepted next (Some p)) puts fits gives drives = drives c next p x gives.0 gives.1 fits
-layer_went u g c mid new below x (Declined e) puts fits gives drives = cc
+abbrev pub WithTurn : PlainGiven → layer_code.Layer → ShownLink → ℕ → ℕ → Type 0
+WithTurn g mid below turn turn₂ = (c : LayerSettings) (l : Layer) (p : PlainPacket) (x : LinkState) → FitsLayer c mid l → mid.sheet ≡ spelling_of p
+    → FitsWhole below x → turn₂ ≡ (rounds (seen_with g turn x) c (begin l (Some p))).turn
 
-link_went : {T : Type 0} (u : T) (g : PlainGiven) (c : LayerSettings) (mid : layer_code.Layer) (below below₂ : ShownLink) (x : LinkState) (o : LayerOutcome)
-    → LayerPuts o → FitsWhole below x → Gives c mid (Ok u) o → WithLink g mid below below₂ → GoesWith below₂ g x (Ok u) (went (seen_with g x) c o)
-link_went u g c mid below below₂ x (Accepted next None) puts fits gives drives = absurd puts
-link_went u g c mid below below₂ x (Accepted next (Some p)) puts fits gives drives = drives c next p x gives.0 gives.1 fits
-link_went u g c mid below below₂ x (Declined e) puts fits gives drives = tt
+layer_went : {T : Type 0} (u : T) (g : PlainGiven) (c : LayerSettings) (mid new : layer_code.Layer) (below : ShownLink) (turn : ℕ) (x : LinkState) (o : LayerOutcome)
+    → LayerPuts o → FitsWhole below x → Gives c mid (Ok u) o → WithLayer g mid below turn new → LayerGives c new (Ok u) (went (seen_with g turn x) c o)
+layer_went u g c mid new below turn x (Accepted next None) puts fits gives drives = absurd puts
+layer_went u g c mid new below turn x (Accepted next (Some p)) puts fits gives drives = drives c next p x gives.0 gives.1 fits
+layer_went u g c mid new below turn x (Declined e) puts fits gives drives = cc
+
+link_went : {T : Type 0} (u : T) (g : PlainGiven) (c : LayerSettings) (mid : layer_code.Layer) (below below₂ : ShownLink) (turn : ℕ) (x : LinkState) (o : LayerOutcome)
+    → LayerPuts o → FitsWhole below x → Gives c mid (Ok u) o → WithLink g mid below turn below₂ → GoesWith below₂ g x (Ok u) (went (seen_with g turn x) c o)
+link_went u g c mid below below₂ turn x (Accepted next None) puts fits gives drives = absurd puts
+link_went u g c mid below below₂ turn x (Accepted next (Some p)) puts fits gives drives = drives c next p x gives.0 gives.1 fits
+link_went u g c mid below below₂ turn x (Declined e) puts fits gives drives = tt
+
+turn_went : {T : Type 0} (u : T) (g : PlainGiven) (c : LayerSettings) (mid : layer_code.Layer) (below : ShownLink) (turn turn₂ : ℕ) (x : LinkState)
+    (o : LayerOutcome) → LayerPuts o → FitsWhole below x → Gives c mid (Ok u) o → WithTurn g mid below turn turn₂
+    → TurnGives turn₂ (Ok u) (went (seen_with g turn x) c o)
+turn_went u g c mid below turn turn₂ x (Accepted next None) puts fits gives drives = absurd puts
+turn_went u g c mid below turn turn₂ x (Accepted next (Some p)) puts fits gives drives = drives c next p x gives.0 gives.1 fits
+turn_went u g c mid below turn turn₂ x (Declined e) puts fits gives drives = tt
 
 -- with or without what is given
 
 no_packet : (let p : Option PlainPacket = None in IsSome p) → ⊥
 no_packet first = cc
 
-abbrev pub AskedLayer : Option PlainGiven → layer_code.Layer → ShownLink → layer_code.Layer → Type 0
-AskedLayer o mid below new = (c : LayerSettings) (l : Layer) (packet : Option PlainPacket) (x : LinkState) → FitsLayer c mid l → mid.sheet ≡ spelled packet
-    → FitsWhole below x → IfSome o (λ g. IsSome packet) → FitsLayer c new (rounds (seen_asked o x) c (begin l packet)).layer
+abbrev pub AskedLayer : Option PlainGiven → layer_code.Layer → ShownLink → ℕ → layer_code.Layer → Type 0
+AskedLayer o mid below turn new = (c : LayerSettings) (l : Layer) (packet : Option PlainPacket) (x : LinkState) → FitsLayer c mid l → mid.sheet ≡ spelled packet
+    → FitsWhole below x → IfSome o (λ g. IsSome packet) → FitsLayer c new (rounds (seen_asked o turn x) c (begin l packet)).layer
 
-abbrev pub AskedLink : Option PlainGiven → layer_code.Layer → ShownLink → ShownLink → Type 0
-AskedLink o mid below below₂ = (c : LayerSettings) (l : Layer) (packet : Option PlainPacket) (x : LinkState) → FitsLayer c mid l → mid.sheet ≡ spelled packet
-    → FitsWhole below x → IfSome o (λ g. IsSome packet) → FitsWhole below₂ (all_asked o x (rounds (seen_asked o x) c (begin l packet)).put)
+abbrev pub AskedLink : Option PlainGiven → layer_code.Layer → ShownLink → ℕ → ShownLink → Type 0
+AskedLink o mid below turn below₂ = (c : LayerSettings) (l : Layer) (packet : Option PlainPacket) (x : LinkState) → FitsLayer c mid l → mid.sheet ≡ spelled packet
+    → FitsWhole below x → IfSome o (λ g. IsSome packet) → FitsWhole below₂ (all_asked o x (rounds (seen_asked o turn x) c (begin l packet)).put)
 
-pub layer_without : (o : Option PlainGiven) (mid new : layer_code.Layer) (below : ShownLink) → o ≡ None → DrivesLayer mid below new
-    → AskedLayer o mid below new
-layer_without o mid new below is drives = subst (λ (n : Option PlainGiven). AskedLayer n mid below new) (sym is)
+abbrev pub AskedTurn : Option PlainGiven → layer_code.Layer → ShownLink → ℕ → ℕ → Type 0
+AskedTurn o mid below turn turn₂ = (c : LayerSettings) (l : Layer) (packet : Option PlainPacket) (x : LinkState) → FitsLayer c mid l
+    → mid.sheet ≡ spelled packet → FitsWhole below x → IfSome o (λ g. IsSome packet) → turn₂ ≡ (rounds (seen_asked o turn x) c (begin l packet)).turn
+
+pub layer_without : (o : Option PlainGiven) (mid new : layer_code.Layer) (below : ShownLink) (turn : ℕ) → o ≡ None → DrivesLayer mid below turn new
+    → AskedLayer o mid below turn new
+layer_without o mid new below turn is drives = subst (λ (n : Option PlainGiven). AskedLayer n mid below turn new) (sym is)
     (λ c l packet x fits put link first. drives c l packet x fits put link)
 
-pub link_without : (o : Option PlainGiven) (mid : layer_code.Layer) (below below₂ : ShownLink) → o ≡ None → DrivesLink mid below below₂
-    → AskedLink o mid below below₂
-link_without o mid below below₂ is drives = subst (λ (n : Option PlainGiven). AskedLink n mid below below₂) (sym is)
+pub link_without : (o : Option PlainGiven) (mid : layer_code.Layer) (below below₂ : ShownLink) (turn : ℕ) → o ≡ None → DrivesLink mid below turn below₂
+    → AskedLink o mid below turn below₂
+link_without o mid below below₂ turn is drives = subst (λ (n : Option PlainGiven). AskedLink n mid below turn below₂) (sym is)
     (λ c l packet x fits put link first. drives c l packet x fits put link)
 
-pub layer_with : (o : Option PlainGiven) (g : PlainGiven) (mid new : layer_code.Layer) (below : ShownLink) → o ≡ Some g → WithLayer g mid below new
-    → AskedLayer o mid below new
-layer_with o g mid new below is drives = subst (λ (n : Option PlainGiven). AskedLayer n mid below new) (sym is) by
+pub layer_with : (o : Option PlainGiven) (g : PlainGiven) (mid new : layer_code.Layer) (below : ShownLink) (turn : ℕ) → o ≡ Some g → WithLayer g mid below turn new
+    → AskedLayer o mid below turn new
+layer_with o g mid new below turn is drives = subst (λ (n : Option PlainGiven). AskedLayer n mid below turn new) (sym is) by
   where
-    by : AskedLayer (Some g) mid below new
+    by : AskedLayer (Some g) mid below turn new
     by c l None x fits put link first = absurd (no_packet first)
     by c l (Some p) x fits put link first = drives c l p x fits put link
 
-pub link_with : (o : Option PlainGiven) (g : PlainGiven) (mid : layer_code.Layer) (below below₂ : ShownLink) → o ≡ Some g → WithLink g mid below below₂
-    → AskedLink o mid below below₂
-link_with o g mid below below₂ is drives = subst (λ (n : Option PlainGiven). AskedLink n mid below below₂) (sym is) by
+pub link_with : (o : Option PlainGiven) (g : PlainGiven) (mid : layer_code.Layer) (below below₂ : ShownLink) (turn : ℕ) → o ≡ Some g → WithLink g mid below turn below₂
+    → AskedLink o mid below turn below₂
+link_with o g mid below below₂ turn is drives = subst (λ (n : Option PlainGiven). AskedLink n mid below turn below₂) (sym is) by
   where
-    by : AskedLink (Some g) mid below below₂
+    by : AskedLink (Some g) mid below turn below₂
+    by c l None x fits put link first = absurd (no_packet first)
+    by c l (Some p) x fits put link first = drives c l p x fits put link
+
+pub turn_without : (o : Option PlainGiven) (mid : layer_code.Layer) (below : ShownLink) (turn turn₂ : ℕ) → o ≡ None → DrivesTurn mid below turn turn₂
+    → AskedTurn o mid below turn turn₂
+turn_without o mid below turn turn₂ is drives = subst (λ (n : Option PlainGiven). AskedTurn n mid below turn turn₂) (sym is)
+    (λ c l packet x fits put link first. drives c l packet x fits put link)
+
+pub turn_with : (o : Option PlainGiven) (g : PlainGiven) (mid : layer_code.Layer) (below : ShownLink) (turn turn₂ : ℕ) → o ≡ Some g
+    → WithTurn g mid below turn turn₂ → AskedTurn o mid below turn turn₂
+turn_with o g mid below turn turn₂ is drives = subst (λ (n : Option PlainGiven). AskedTurn n mid below turn turn₂) (sym is) by
+  where
+    by : AskedTurn (Some g) mid below turn turn₂
     by c l None x fits put link first = absurd (no_packet first)
     by c l (Some p) x fits put link first = drives c l p x fits put link
 
 pub drove_with : {T : Type 0} (u : T) (g : PlainGiven) (s : code.LinkState) (old mid new : layer_code.Layer) (below below₂ : ShownLink)
-    (request : LayerRequest) → IsTold s below → ((c : LayerSettings) (l : Layer) → LayerPuts (asked_where c s.is_up s.is_full l request))
-    → (let r : Result T LayerError = Ok u in Answers old mid r s request) → AskedLayer (Some g) mid below new → AskedLink (Some g) mid below below₂
-    → (let r : Result T LayerError = Ok u in DrivesWith g old below new below₂ r request)
-drove_with {T = T} u g s old mid new below below₂ request told puts a layers links = record {
+    (turn turn₂ : ℕ) (request : LayerRequest) → IsTold s below → ((c : LayerSettings) (l : Layer) → LayerPuts (asked_where c s.is_up s.is_full l request))
+    → (let r : Result T LayerError = Ok u in Answers old mid r s request) → AskedLayer (Some g) mid below turn new → AskedLink (Some g) mid below turn below₂
+    → AskedTurn (Some g) mid below turn turn₂ → (let r : Result T LayerError = Ok u in DrivesWith g old below turn new below₂ turn₂ r request)
+drove_with {T = T} u g s old mid new below below₂ turn turn₂ request told puts a layers links turns = record {
   layer = λ c l x fits link. subst (λ (n : Answered). let r : Result T LayerError = Ok u in LayerGives c new r n)
-      (sym (told_in s below x (seen_with g x) told link refl refl c l request))
-      (layer_went u g c mid new below x _ (puts c l) link (a.does.gives c l fits) (λ d k p y h i j. layers d k (Some p) y h i j refl));
+      (sym (told_in s below x (seen_with g turn x) told link refl refl c l request))
+      (layer_went u g c mid new below turn x _ (puts c l) link (a.does.gives c l fits) (λ d k p y h i j. layers d k (Some p) y h i j refl));
   link = λ c l x fits link. subst (λ (n : Answered). let r : Result T LayerError = Ok u in GoesWith below₂ g x r n)
-      (sym (told_in s below x (seen_with g x) told link refl refl c l request))
-      (link_went u g c mid below below₂ x _ (puts c l) link (a.does.gives c l fits) (λ d k p y h i j. links d k (Some p) y h i j refl));
+      (sym (told_in s below x (seen_with g turn x) told link refl refl c l request))
+      (link_went u g c mid below below₂ turn x _ (puts c l) link (a.does.gives c l fits) (λ d k p y h i j. links d k (Some p) y h i j refl));
+  turns = λ c l x fits link. subst (λ (n : Answered). let r : Result T LayerError = Ok u in TurnGives turn₂ r n)
+      (sym (told_in s below x (seen_with g turn x) told link refl refl c l request))
+      (turn_went u g c mid below turn turn₂ x _ (puts c l) link (a.does.gives c l fits) (λ d k p y h i j. turns d k (Some p) y h i j refl));
   layer_stays = λ c l fits. tt;
   link_stays = λ x fits. tt;
+  turn_stays = tt;
   missing = λ none. cc;
 }
 
@@ -191,35 +223,39 @@ link_not T (Err f) e g below₂ x (Went s) is = tt
 link_not T (Err f) e g below₂ x (Refuses d) is = tt
 
 pub drove_with_not : {U : Type 0} (T : Type 0) (r : Result U LayerError) (e : LayerError) (g : PlainGiven) (s : code.LinkState) (old mid : layer_code.Layer)
-    (below : ShownLink) (request : LayerRequest) → IsTold s below → IsErrAnd r (λ f. f ≡ e)
+    (below : ShownLink) (turn : ℕ) (request : LayerRequest) → IsTold s below → IsErrAnd r (λ f. f ≡ e)
     → (let x : Result T LayerError = Err e in Answers old mid x s request)
-    → DrivesWith g old below mid below r request
-drove_with_not T r e g s old mid below request told is a = record {
-  layer = λ c l x fits link. subst (λ (n : Answered). LayerGives c mid r n) (sym (told_in s below x (seen_with g x) told link refl refl c l request))
-      (layer_not T r e c mid (seen_with g x) _ is (a.does.gives c l fits));
+    → DrivesWith g old below turn mid below turn r request
+drove_with_not T r e g s old mid below turn request told is a = record {
+  layer = λ c l x fits link. subst (λ (n : Answered). LayerGives c mid r n) (sym (told_in s below x (seen_with g turn x) told link refl refl c l request))
+      (layer_not T r e c mid (seen_with g turn x) _ is (a.does.gives c l fits));
   link = λ c l x fits link. link_not T r e g below x _ is;
+  turns = λ c l x fits link. turn_not r e turn (calls (seen_with g turn x) c l request) is;
   layer_stays = λ c l fits. on_err r (a.does.stays c l fits);
   link_stays = λ x fits. on_err r fits;
+  turn_stays = on_err r refl;
   missing = λ none. a.does.missing (ap (λ (f : LayerError). let x : Result T LayerError = Err f in x) (same_err r e error.NoMemory is none));
 }
 
 -- ---- with or without
 
 pub drove_asked : {T : Type 0} (u : T) (o : Option PlainGiven) (s : code.LinkState) (old mid new : layer_code.Layer) (below below₂ : ShownLink)
-    (request : LayerRequest) → IsTold s below
+    (turn turn₂ : ℕ) (request : LayerRequest) → IsTold s below
     → IfSome o (λ g. (c : LayerSettings) (l : Layer) → LayerPuts (asked_where c s.is_up s.is_full l request))
-    → (let r : Result T LayerError = Ok u in Answers old mid r s request) → AskedLayer o mid below new → AskedLink o mid below below₂
-    → (let r : Result T LayerError = Ok u in DrivesAsked o old below new below₂ r request)
-drove_asked u None s old mid new below below₂ request told puts a layers links = drove u s old mid new below below₂ request told a
+    → (let r : Result T LayerError = Ok u in Answers old mid r s request) → AskedLayer o mid below turn new → AskedLink o mid below turn below₂
+    → AskedTurn o mid below turn turn₂ → (let r : Result T LayerError = Ok u in DrivesAsked o old below turn new below₂ turn₂ r request)
+drove_asked u None s old mid new below below₂ turn turn₂ request told puts a layers links turns =
+    drove u s old mid new below below₂ turn turn₂ request told a
     (λ c l packet x fits put link. layers c l packet x fits put link tt) (λ c l packet x fits put link. links c l packet x fits put link tt)
-drove_asked u (Some g) s old mid new below below₂ request told puts a layers links =
-    drove_with u g s old mid new below below₂ request told puts a layers links
+    (λ c l packet x fits put link. turns c l packet x fits put link tt)
+drove_asked u (Some g) s old mid new below below₂ turn turn₂ request told puts a layers links turns =
+    drove_with u g s old mid new below below₂ turn turn₂ request told puts a layers links turns
 
 pub drove_asked_not : {U : Type 0} (T : Type 0) (r : Result U LayerError) (e : LayerError) (o : Option PlainGiven) (s : code.LinkState)
-    (old mid : layer_code.Layer) (below : ShownLink) (request : LayerRequest) → IsTold s below → IsErrAnd r (λ f. f ≡ e)
-    → (let x : Result T LayerError = Err e in Answers old mid x s request) → DrivesAsked o old below mid below r request
-drove_asked_not T r e None s old mid below request told is a = drove_not T r e s old mid below request told is a
-drove_asked_not T r e (Some g) s old mid below request told is a = drove_with_not T r e g s old mid below request told is a
+    (old mid : layer_code.Layer) (below : ShownLink) (turn : ℕ) (request : LayerRequest) → IsTold s below → IsErrAnd r (λ f. f ≡ e)
+    → (let x : Result T LayerError = Err e in Answers old mid x s request) → DrivesAsked o old below turn mid below turn r request
+drove_asked_not T r e None s old mid below turn request told is a = drove_not T r e s old mid below turn request told is a
+drove_asked_not T r e (Some g) s old mid below turn request told is a = drove_with_not T r e g s old mid below turn request told is a
 
 -- what a request to a circuit puts, where it suits what is given
 pub puts_asked : (o : Option PlainGiven) (up full : Bool) (h : ℕ) (request : Request) → IfSome o (λ g. suits g (Asks h request) ≡ true)

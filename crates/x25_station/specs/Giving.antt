@@ -1,6 +1,6 @@
 -- What may be given beside the packet of a call, and how it is put: what is put is written with it (sections 5.2.1 to
 -- 5.2.3), and all else is as without (profile).
-use Rattle.std.specs.Prelude.{◌==◌, Bool, true, false, not, ◌&&◌, List, [], ◌∷◌, length, Option, Some, None}
+use Rattle.std.specs.Prelude.{ℕ, ◌==◌, Bool, true, false, not, ◌&&◌, List, [], ◌∷◌, length, Option, Some, None}
 use Rattle.x25_packet.specs.Packet.{PlainPacket}
 use Rattle.x25_packet.specs.Spelling.{spelling_of}
 use Rattle.x25_link.specs.Outgoing.{waits}
@@ -42,10 +42,11 @@ all_given c g (packet ∷ packets) t =
     all_put c packets (behind t (put_step c (write g (spelling_of packet)) t.near).side)
 
 -- what the layer sees of the link
-abbrev pub view_given : LinkSettings → PlainGiven → LinkStation → LinkView
-view_given c g s = record {
+abbrev pub view_given : LinkSettings → PlainGiven → ℕ → LinkStation → LinkView
+view_given c g turn s = record {
   is_up = is_up s.phase;
   waits = λ packets. waits (all_given c g packets (alone s)).near.outgoing;
+  turn = turn;
 }
 
 -- 34

@@ -1,5 +1,5 @@
 -- What a station is sure of while octets are received.
-use Rattle.std.specs.Prelude.{◌≡◌, ◌<◌, ◌≤◌, List, [], ◌∷◌, length, map, true}
+use Rattle.std.specs.Prelude.{◌≡◌, ℕ, ◌<◌, ◌≤◌, List, [], ◌∷◌, length, map, true}
 use Rattle.x25_frame.specs.Spelling.{spelling_of}
 use Rattle.x25_link.specs.Station.{LinkSettings, Side}
 use Rattle.x25_link.specs.code.FitsLink.{ShownLink, LinkState, FitsWhole, limit_of, up_of, waiting_of}
@@ -24,16 +24,19 @@ pub record CanPut (l : ShownLink) : Type 0 where
   pub places : 16 ≤ places_left l.frames
 
 -- Behind a step of the link the layer is as is said, and what it puts was put in the link, behind the frames that it
--- keeps.
-pub record PutsBehind (old : layer_code.Layer) (below : ShownLink) (new : layer_code.Layer) (below₂ : ShownLink)
-    (said : LinkView → LayerSettings → Layer → Putting) : Type 0 where
+-- keeps; and the turn is as is said.
+pub record PutsBehind (old : layer_code.Layer) (below : ShownLink) (turn : ℕ) (new : layer_code.Layer)
+    (below₂ : ShownLink) (turn₂ : ℕ) (said : LinkView → LayerSettings → Layer → Putting) : Type 0 where
   pub layer : (c : Settings) (l : Layer) (t : Side) → FitsLayer (layer_settings c) old l
       → FitsWhole below (kept_of (link_settings c) t)
-      → FitsLayer (layer_settings c) new (said (view_of (link_settings c) t.near) (layer_settings c) l).layer
+      → FitsLayer (layer_settings c) new (said (view_of (link_settings c) turn t.near) (layer_settings c) l).layer
   pub link : (c : Settings) (l : Layer) (t : Side) → FitsLayer (layer_settings c) old l
       → FitsWhole below (kept_of (link_settings c) t)
       → FitsWhole below₂ (kept_of (link_settings c)
-      (all_put (link_settings c) (said (view_of (link_settings c) t.near) (layer_settings c) l).put t))
+      (all_put (link_settings c) (said (view_of (link_settings c) turn t.near) (layer_settings c) l).put t))
+  pub turns : (c : Settings) (l : Layer) (t : Side) → FitsLayer (layer_settings c) old l
+      → FitsWhole below (kept_of (link_settings c) t)
+      → turn₂ ≡ (said (view_of (link_settings c) turn t.near) (layer_settings c) l).turn
 
 -- the texts of a notice are at most 128 octets (messages aside)
 abbrev pub IsShort : PlainNotice → Type 0

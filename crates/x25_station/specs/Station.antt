@@ -10,13 +10,16 @@ use Rattle.x25_layer.specs.Layer.{Layer, at_rest}
 use Rattle.x25_layer.specs.laws.Rounds.{LinkView}
 pub mod Told
 
+-- The turn is the channel behind which the rounds of pulls go on: the last of which a packet was put before 8 waited,
+-- else 0.
 pub record Station : Type 0 where
   pub link : LinkStation
   pub layer : Layer
+  pub turn : ℕ
 
 -- a station that never was up
 abbrev pub new_station : Station
-new_station = record { link = with_nothing Down 0; layer = at_rest }
+new_station = record { link = with_nothing Down 0; layer = at_rest; turn = 0 }
 
 -- ---- packets that the layer puts
 
@@ -32,11 +35,11 @@ abbrev pub all_put : LinkSettings → List PlainPacket → Side → Side
 all_put c [] t = t
 all_put c (packet ∷ packets) t = all_put c packets (put_on c packet t)
 
--- ---- what the layer sees of the link
+-- ---- what the layer sees of the link, and whose turn it is
 
 -- how many packets wait once these are put
 abbrev pub waiting_after : LinkSettings → LinkStation → List PlainPacket → ℕ
 waiting_after c s packets = waits (all_put c packets (alone s)).near.outgoing
 
-abbrev pub view_of : LinkSettings → LinkStation → LinkView
-view_of c s = record { is_up = is_up s.phase; waits = waiting_after c s }
+abbrev pub view_of : LinkSettings → ℕ → LinkStation → LinkView
+view_of c turn s = record { is_up = is_up s.phase; waits = waiting_after c s; turn = turn }

@@ -45,13 +45,13 @@ pub data Outcome : Type 0 where
 abbrev pub with_puts : Settings → Side → Putting → List StationEntry → Step
 with_puts c t s entries =
     let u = all_put (link_settings c) s.put t in
-    record { near = record { link = u.near; layer = s.layer }; out = u.out; entries = entries }
+    record { near = record { link = u.near; layer = s.layer; turn = s.turn }; out = u.out; entries = entries }
 
 -- ---- what the layer does at a step of the link
 
--- nothing is put
-abbrev pub rests : Layer → Putting
-rests l = record { layer = l; put = [] }
+-- nothing is put, and the turn is as it was
+abbrev pub rests : ℕ → Layer → Putting
+rests turn l = record { layer = l; put = []; turn = turn }
 
 -- what LinkDown leaves of it
 abbrev pub layer_down : Layer → Option Reason → Layer
@@ -62,9 +62,9 @@ layer_down l (Some reason) = rested l
 -- so nothing is pulled.
 abbrev pub layer_at : LinkView → LayerSettings → Bool → Layer → Option (List ℕ) → Option Reason → Bool → Putting
 layer_at link c wide l packet down true = (comes_up link c).step
-layer_at link c wide l packet (Some reason) false = rests (rested l)
+layer_at link c wide l packet (Some reason) false = rests link.turn (rested l)
 layer_at link c wide l (Some octets) None false = (hears link c wide l octets).step
-layer_at link c wide l None None false = rests l
+layer_at link c wide l None None false = rests link.turn l
 
 -- what the layer answers to the octets of a packet
 abbrev pub layer_answer : LayerSettings → Bool → Layer → List ℕ → LayerAnswer
@@ -92,11 +92,11 @@ entries_heard c wide l (Some octets) None false = entries_of_packet c wide l oct
 entries_heard c wide l None None false = []
 
 -- a step of the link, and then the layer
-abbrev pub follows : Settings → Layer → LinkStep → Step
-follows c l k =
-    with_puts c k.side (layer_at (view_of (link_settings c) k.side.near)
-    (layer_settings c) c.wide l k.packet k.notes.down k.notes.up)
-    (entries_noted k.notes ++ entries_heard (layer_settings c) c.wide l k.packet k.notes.down k.notes.up)
+abbrev pub follows : Settings → Station → LinkStep → Step
+follows c s k =
+    with_puts c k.side (layer_at (view_of (link_settings c) s.turn k.side.near)
+    (layer_settings c) c.wide s.layer k.packet k.notes.down k.notes.up)
+    (entries_noted k.notes ++ entries_heard (layer_settings c) c.wide s.layer k.packet k.notes.down k.notes.up)
 
 -- ---- connect, disconnect, and timer T1: refused as the link's
 
@@ -105,10 +105,10 @@ unless None step = Did step
 unless (Some e) step = Refused (error.Link e)
 
 abbrev pub connects : Settings → Station → Outcome
-connects c s = unless (connect_refusal s.link.phase) (follows c s.layer (connect_step (link_settings c) s.link))
+connects c s = unless (connect_refusal s.link.phase) (follows c s (connect_step (link_settings c) s.link))
 
 abbrev pub fires : Settings → Station → Outcome
-fires c s = unless (timer_refusal s.link) (follows c s.layer (timer_step (link_settings c) s.link))
+fires c s = unless (timer_refusal s.link) (follows c s (timer_step (link_settings c) s.link))
 
 -- the entry of an accepted command comes first
 abbrev pub led_by : List StationEntry → Step → Step
@@ -117,20 +117,20 @@ led_by entries step = record { near = step.near; out = step.out; entries = entri
 -- connect as a command, which has an entry
 abbrev pub connects_asked : Settings → Station → Outcome
 connects_asked c s = unless (connect_refusal s.link.phase)
-    (led_by (connect_asked ∷ []) (follows c s.layer (connect_step (link_settings c) s.link)))
+    (led_by (connect_asked ∷ []) (follows c s (connect_step (link_settings c) s.link)))
 
 abbrev pub disconnects : Settings → Station → Outcome
 disconnects c s = unless (disconnect_refusal s.link.phase)
-    (led_by (disconnect_asked ∷ []) (follows c s.layer (disconnect_step (link_settings c) s.link)))
+    (led_by (disconnect_asked ∷ []) (follows c s (disconnect_step (link_settings c) s.link)))
 
 -- ---- probe, which has no entry, and relink
 
 abbrev pub probes : Settings → Station → Outcome
-probes c s = unless (probe_refusal s.link.phase) (follows c s.layer (timer_step (link_settings c) s.link))
+probes c s = unless (probe_refusal s.link.phase) (follows c s (timer_step (link_settings c) s.link))
 
 abbrev pub relinks : Settings → Station → Outcome
 relinks c s = unless (relink_refusal s.link.phase)
-    (led_by (relink_asked ∷ []) (follows c s.layer (relink_step (link_settings c) s.link)))
+    (led_by (relink_asked ∷ []) (follows c s (relink_step (link_settings c) s.link)))
 
 -- ---- octets that come
 
@@ -143,7 +143,7 @@ link_receives c s octets = if abandons c s then abandon_step (link_settings c) s
     else take_step (link_settings c) octets s.link
 
 abbrev pub receives : Settings → Station → List ℕ → Step
-receives c s octets = follows c s.layer (link_receives c s octets)
+receives c s octets = follows c s (link_receives c s octets)
 
 -- ---- commands
 
@@ -169,7 +169,8 @@ where_asked false (Refused e) = Refused e
 
 abbrev pub requests : Settings → Station → LayerRequest → Outcome
 requests c s request =
-    where_asked (may_ask c.wide request) (requests_of c s.link s.layer (view_of (link_settings c) s.link) request)
+    where_asked (may_ask c.wide request) (requests_of c s.link s.layer
+    (view_of (link_settings c) s.turn s.link) request)
 
 -- ---- with something given beside the packet
 
@@ -177,7 +178,7 @@ requests c s request =
 abbrev pub with_given : Settings → PlainGiven → Side → Putting → List StationEntry → Step
 with_given c g t s entries =
     let u = all_given (link_settings c) g s.put t in
-    record { near = record { link = u.near; layer = s.layer }; out = u.out; entries = entries }
+    record { near = record { link = u.near; layer = s.layer; turn = s.turn }; out = u.out; entries = entries }
 
 abbrev pub gave : Settings → PlainGiven → Bool → Side → List StationEntry → Answered → Outcome
 gave c g taken t entries (Went s) = if taken then Did (with_given c g t s entries) else Refused not_taken
@@ -187,7 +188,7 @@ abbrev pub gives_of : Settings → LinkStation → PlainGiven → Bool → Stati
 gives_of c link g taken s request =
     gave c g taken (alone link) (entries_of_outcome (layer_settings c) s.layer request
     (layer_outcome (layer_settings c) (waits link.outgoing == 256) s.layer request))
-    (calls (view_given (link_settings c) g link) (layer_settings c) s.layer request)
+    (calls (view_given (link_settings c) g s.turn link) (layer_settings c) s.layer request)
 
 -- refused as without, and else with 34 where this may not be given beside that
 abbrev pub gives : Settings → Station → PlainGiven → LayerRequest → Outcome

@@ -194,7 +194,7 @@ impl Station {
     {
         steps_keep_bounds();
         holds_few();
-        match pull(&mut self.layer, &mut self.link) {
+        match pull(&mut self.layer, &mut self.link, &mut self.turn) {
             Ok(()) => {
                 self.link.swap_frames(&mut out.frames);
                 Ok(())
@@ -301,6 +301,7 @@ impl Station {
         match call(
             &mut self.layer,
             &mut self.link,
+            &mut self.turn,
             &mut self.writing,
             called,
             calling,
@@ -352,6 +353,7 @@ impl Station {
         match ask(
             &mut self.layer,
             &mut self.link,
+            &mut self.turn,
             &mut self.writing,
             channel,
             request,
@@ -375,7 +377,13 @@ impl Station {
     {
         steps_keep_bounds();
         holds_few();
-        match restart(&mut self.layer, &mut self.link, cause, diagnostic) {
+        match restart(
+            &mut self.layer,
+            &mut self.link,
+            &mut self.turn,
+            cause,
+            diagnostic,
+        ) {
             Ok(()) => {
                 out.entries.push(Entry::RestartAsked { cause, diagnostic });
                 self.link.swap_frames(&mut out.frames);

@@ -1,5 +1,6 @@
 //! The packet layer over the link: what a call of the layer has to put is put, and then the data packets that wait, in
-//! rounds (profile): channels in rising order, one packet each, until a round gives none, while fewer than 8 wait.
+//! rounds (profile): channels in rising order, one packet each, until a round gives none, while fewer than 8 wait. They
+//! begin behind the channel whose packet was the last that 8 let through, so that each has its turn.
 ghost use Rattle.std.specs.Prelude.{◌≡◌, ◌==◌, ◌⊎◌, ◌+◌, ◌<◌, ◌≤◌, [], length, true, false, Option, Some, IfOk, IfSome};
 ghost use Rattle.std.specs.Prelude.{IsSome};
 ghost use Rattle.x25_packet.specs.Packet.{PlainPacket};
@@ -45,20 +46,24 @@ pub(crate) fn state(link: &Link) -> LinkState
     }
 }
 
-// Puts the data packets of all channels, in rounds, while fewer than 8 packets wait in the link.
+// Puts the data packets of all channels, in rounds that go on behind the turn, while fewer than 8 packets wait in the
+// link.
 #[inline(always)]
-fn pull_all(layer: &mut Layer, link: &mut Link)
+fn pull_all(layer: &mut Layer, link: &mut Link, turn: &mut u16)
     requires up { up_of link.old ≡ true }
     requires longest { 4099 ≤ limit_of link.old }
     requires places { 15 ≤ places_left link.old.frames }
     ensures layer { (c : LayerSettings) (s : Putting) (x : State) → FitsLayer c layer.old s.layer
-        → FitsWhole link.old (after_all x s.put) → FitsLayer c layer.new (rounds (seen_at x) c s).layer }
+        → FitsWhole link.old (after_all x s.put) → FitsLayer c layer.new (rounds (seen_at turn.old x) c s).layer }
     ensures link { (c : LayerSettings) (s : Putting) (x : State) → FitsLayer c layer.old s.layer
-        → FitsWhole link.old (after_all x s.put) → FitsWhole link.new (after_all x (rounds (seen_at x) c s).put) }
+        → FitsWhole link.old (after_all x s.put)
+        → FitsWhole link.new (after_all x (rounds (seen_at turn.old x) c s).put) }
+    ensures turn { (c : LayerSettings) (s : Putting) (x : State) → FitsLayer c layer.old s.layer
+        → FitsWhole link.old (after_all x s.put) → turn.new ≡ (rounds (seen_at turn.old x) c s).turn }
 {
     calls_are_runs();
     let mut left = MOST_PULLED;
-    let mut channel = 0;
+    let mut channel = *turn;
     while left > 0 && link.waiting() < FEW {
         match layer.pull(channel) {
             Some(next) => {
@@ -68,17 +73,19 @@ fn pull_all(layer: &mut Layer, link: &mut Link)
             }
             None => {
                 if channel == 0 {
+                    *turn = 0;
                     return;
                 }
                 channel = 0;
             }
         }
     }
+    *turn = channel;
 }
 
 /// Puts what a call of the layer has to put, and pulls.
 #[inline(always)]
-pub(crate) fn drive(layer: &mut Layer, link: &mut Link)
+pub(crate) fn drive(layer: &mut Layer, link: &mut Link, turn: &mut u16)
     requires up { up_of link.old ≡ true }
     requires free { (layer.old.sheet ≡ []) ⊎ (waiting_of link.old < 256) }
     requires places { 16 ≤ places_left link.old.frames }
@@ -86,19 +93,28 @@ pub(crate) fn drive(layer: &mut Layer, link: &mut Link)
     requires short { length layer.old.sheet ≤ 260 }
     ensures layer { (c : LayerSettings) (l : LayerState) (packet : Option PlainPacket) (x : State)
         → FitsLayer c layer.old l → layer.old.sheet ≡ spelled packet → FitsWhole link.old x
-        → FitsLayer c layer.new (rounds (seen_at x) c (begin l packet)).layer }
+        → FitsLayer c layer.new (rounds (seen_at turn.old x) c (begin l packet)).layer }
     ensures link { (c : LayerSettings) (l : LayerState) (packet : Option PlainPacket) (x : State)
         → FitsLayer c layer.old l → layer.old.sheet ≡ spelled packet → FitsWhole link.old x
-        → FitsWhole link.new (after_all x (rounds (seen_at x) c (begin l packet)).put) }
+        → FitsWhole link.new (after_all x (rounds (seen_at turn.old x) c (begin l packet)).put) }
+    ensures turn { (c : LayerSettings) (l : LayerState) (packet : Option PlainPacket) (x : State)
+        → FitsLayer c layer.old l → layer.old.sheet ≡ spelled packet → FitsWhole link.old x
+        → turn.new ≡ (rounds (seen_at turn.old x) c (begin l packet)).turn }
 {
     if !layer.to_put().is_empty() {
         link.put(layer.to_put()).unwrap();
     }
-    pull_all(layer, link);
+    pull_all(layer, link, turn);
 }
 
 // Puts what a call of the layer has to put, with what is given beside it, and pulls.
-fn drive_with(layer: &mut Layer, link: &mut Link, writing: &mut Writing, given: Option<&Given<'_>>)
+fn drive_with(
+    layer: &mut Layer,
+    link: &mut Link,
+    turn: &mut u16,
+    writing: &mut Writing,
+    given: Option<&Given<'_>>,
+)
     requires allowed { IfSome (given_with given) (λ g. may_give g ≡ true) }
     requires up { up_of link.old ≡ true }
     requires free { (layer.old.sheet ≡ []) ⊎ (waiting_of link.old < 256) }
@@ -108,22 +124,26 @@ fn drive_with(layer: &mut Layer, link: &mut Link, writing: &mut Writing, given: 
     ensures layer { (c : LayerSettings) (l : LayerState) (packet : Option PlainPacket) (x : State)
         → FitsLayer c layer.old l → layer.old.sheet ≡ spelled packet → FitsWhole link.old x
         → IfSome (given_with given.entry) (λ g. IsSome packet)
-        → FitsLayer c layer.new (rounds (seen_asked (given_with given.entry) x) c (begin l packet)).layer }
+        → FitsLayer c layer.new (rounds (seen_asked (given_with given.entry) turn.old x) c (begin l packet)).layer }
     ensures link { (c : LayerSettings) (l : LayerState) (packet : Option PlainPacket) (x : State)
         → FitsLayer c layer.old l → layer.old.sheet ≡ spelled packet → FitsWhole link.old x
         → IfSome (given_with given.entry) (λ g. IsSome packet)
         → FitsWhole link.new (all_asked (given_with given.entry) x
-        (rounds (seen_asked (given_with given.entry) x) c (begin l packet)).put) }
+        (rounds (seen_asked (given_with given.entry) turn.old x) c (begin l packet)).put) }
+    ensures turn { (c : LayerSettings) (l : LayerState) (packet : Option PlainPacket) (x : State)
+        → FitsLayer c layer.old l → layer.old.sheet ≡ spelled packet → FitsWhole link.old x
+        → IfSome (given_with given.entry) (λ g. IsSome packet)
+        → turn.new ≡ (rounds (seen_asked (given_with given.entry) turn.old x) c (begin l packet)).turn }
 {
     let Some(given) = given else {
-        drive(layer, link);
+        drive(layer, link, turn);
         return;
     };
     if layer.to_put().is_empty() {
         return;
     }
     put_with(link, layer.to_put(), writing, given);
-    pull_all(layer, link);
+    pull_all(layer, link, turn);
 }
 
 // Puts the octets of a packet with what is given.
@@ -147,12 +167,13 @@ fn put_with(link: &mut Link, octets: &[u8], writing: &mut Writing, given: &Given
 }
 
 /// LinkUp: RESTART is put alone.
-pub(crate) fn come_up_alone(layer: &mut Layer, link: &mut Link)
+pub(crate) fn come_up_alone(layer: &mut Layer, link: &mut Link, turn: &mut u16)
     requires put { CanPut link.old }
-    ensures { PutsBehind layer.old link.old layer.new link.new (λ view c l. (comes_up view c).step) }
+    ensures { PutsBehind layer.old link.old turn.old layer.new link.new turn.new (λ view c l. (comes_up view c).step) }
 {
     calls_are_runs();
     layer.up();
+    *turn = 0;
     link.put(layer.to_put()).unwrap();
 }
 
@@ -161,6 +182,7 @@ pub(crate) fn come_up_alone(layer: &mut Layer, link: &mut Link)
 pub(crate) fn ask(
     layer: &mut Layer,
     link: &mut Link,
+    turn: &mut u16,
     writing: &mut Writing,
     channel: u16,
     request: Request<'_>,
@@ -170,11 +192,11 @@ pub(crate) fn ask(
     requires suits { IfSome (given_with given) (λ g. suits g (Asks channel (plain_request request)) ≡ true) }
     requires longest { 4099 ≤ limit_of link.old }
     requires places { 16 ≤ places_left link.old.frames }
-    ensures { DrivesAsked (given_with given.entry) layer.old link.old layer.new link.new result
+    ensures { DrivesAsked (given_with given.entry) layer.old link.old turn.old layer.new link.new turn.new result
         (Asks channel (plain_request request.entry)) }
 {
     layer.ask(state(link), channel, request)?;
-    drive_with(layer, link, writing, given);
+    drive_with(layer, link, turn, writing, given);
     Ok(())
 }
 
@@ -182,28 +204,29 @@ pub(crate) fn ask(
 pub(crate) fn restart(
     layer: &mut Layer,
     link: &mut Link,
+    turn: &mut u16,
     cause: u8,
     diagnostic: u8,
 ) -> Result<(), LayerError>
     requires longest { 4099 ≤ limit_of link.old }
     requires places { 16 ≤ places_left link.old.frames }
-    ensures { Drives layer.old link.old layer.new link.new result (Restarts cause diagnostic) }
+    ensures { Drives layer.old link.old turn.old layer.new link.new turn.new result (Restarts cause diagnostic) }
 {
     layer.restart(state(link), cause, diagnostic)?;
-    drive(layer, link);
+    drive(layer, link, turn);
     Ok(())
 }
 
 /// What waits is pulled, and nothing else happens.
-pub(crate) fn pull(layer: &mut Layer, link: &mut Link) -> Result<(), LayerError>
+pub(crate) fn pull(layer: &mut Layer, link: &mut Link, turn: &mut u16) -> Result<(), LayerError>
     requires longest { 4099 ≤ limit_of link.old }
     requires places { 15 ≤ places_left link.old.frames }
-    ensures { Drives layer.old link.old layer.new link.new result PullsAll }
+    ensures { Drives layer.old link.old turn.old layer.new link.new turn.new result PullsAll }
 {
     if let Some(error) = layer.unready(state(link)) {
         return Err(error);
     }
-    pull_all(layer, link);
+    pull_all(layer, link, turn);
     Ok(())
 }
 
@@ -211,6 +234,7 @@ pub(crate) fn pull(layer: &mut Layer, link: &mut Link) -> Result<(), LayerError>
 pub(crate) fn call(
     layer: &mut Layer,
     link: &mut Link,
+    turn: &mut u16,
     writing: &mut Writing,
     called: &str,
     calling: &str,
@@ -221,12 +245,12 @@ pub(crate) fn call(
     requires allowed { IfSome (given_with given) (λ g. may_give g ≡ true) }
     requires longest { 4099 ≤ limit_of link.old }
     requires places { 16 ≤ places_left link.old.frames }
-    ensures does { DrivesAsked (given_with given.entry) layer.old link.old layer.new link.new result
+    ensures does { DrivesAsked (given_with given.entry) layer.old link.old turn.old layer.new link.new turn.new result
         (Dials called.now calling.now user.now proposal.now) }
     ensures channel { (c : LayerSettings) (l : LayerState) → FitsLayer c layer.old l
         → IfOk result (λ channel. free_channel c.circuit.role l.circuits c.channels ≡ Some channel) }
 {
     let channel = layer.call(state(link), called, calling, user, proposal)?;
-    drive_with(layer, link, writing, given);
+    drive_with(layer, link, turn, writing, given);
     Ok(channel)
 }

@@ -46,7 +46,7 @@ impl Station {
         steps_keep_bounds();
         self.link.swap_frames(frames);
         // It is refused where it does nothing.
-        let _ = pull(&mut self.layer, &mut self.link);
+        let _ = pull(&mut self.layer, &mut self.link, &mut self.turn);
         self.link.swap_frames(frames);
     }
 }

@@ -35,20 +35,22 @@ use x25_packet::{Form, PacketError, taking_keeps_octets};
 // What the layer does at LinkUp.
 #[cold]
 #[inline(never)]
-fn come_up(layer: &mut Layer, link: &mut Link, entries: &mut Entries)
+fn come_up(layer: &mut Layer, link: &mut Link, turn: &mut u16, entries: &mut Entries)
     requires put { CanPut link.old }
     requires entries { length entries.old.items < 3 }
-    ensures puts { PutsBehind layer.old link.old layer.new link.new (λ view c l. (comes_up view c).step) }
+    ensures puts { PutsBehind layer.old link.old turn.old layer.new link.new turn.new
+        (λ view c l. (comes_up view c).step) }
     ensures entries { entries.new.items ≡ entries.old.items ++ entries_up true }
 {
     entries.push(Entry::LinkUp);
-    come_up_alone(layer, link);
+    come_up_alone(layer, link, turn);
 }
 
 // What the layer does with a packet that the link hands up, and the channel on which it may have brought more.
 fn hear(
     layer: &mut Layer,
     link: &mut Link,
+    turn: &mut u16,
     form: &Option<Result<Form<'_>, PacketError>>,
     packet: &[u8],
     entries: &mut Entries,
@@ -57,7 +59,7 @@ fn hear(
     requires put { CanPut link.old }
     requires left { IsNotFull layer.old }
     requires none { entries.old.items ≡ [] }
-    ensures puts { PutsBehind layer.old link.old layer.new link.new
+    ensures puts { PutsBehind layer.old link.old turn.old layer.new link.new turn.new
         (λ view c l. (hears view c (is_some form.now) l packet.now).step) }
     ensures entries { (c : Settings) (l : LayerState) (t : Side) → FitsLayer (layer_settings c) layer.old l
         → FitsWhole link.old (kept_of (link_settings c) t) →
@@ -70,18 +72,24 @@ fn hear(
 {
     taking_keeps_octets();
     let told = layer.hear(form, packet, &mut entries.lent.message);
-    drive(layer, link);
+    drive(layer, link, turn);
     let channel = bringing(&told);
     enter_told(layer, &mut entries.lent, told, &mut entries.list);
     channel
 }
 
 // The same where packets are read in all their forms: what this one confirms is told, or else what it brought beside.
-fn hear_all(layer: &mut Layer, link: &mut Link, packet: &[u8], entries: &mut Entries)
+fn hear_all(
+    layer: &mut Layer,
+    link: &mut Link,
+    turn: &mut u16,
+    packet: &[u8],
+    entries: &mut Entries,
+)
     requires put { CanPut link.old }
     requires left { IsNotFull layer.old }
     requires none { entries.old.items ≡ [] }
-    ensures puts { PutsBehind layer.old link.old layer.new link.new
+    ensures puts { PutsBehind layer.old link.old turn.old layer.new link.new turn.new
         (λ view c l. (hears view c true l packet.now).step) }
     ensures entries { (c : Settings) (l : LayerState) (t : Side) → FitsLayer (layer_settings c) layer.old l
         → FitsWhole link.old (kept_of (link_settings c) t) →
@@ -89,7 +97,7 @@ fn hear_all(layer: &mut Layer, link: &mut Link, packet: &[u8], entries: &mut Ent
 {
     let before = unconfirmed_on(layer, packet);
     let form = Some(layer.form(packet));
-    let bringing = hear(layer, link, &form, packet, entries);
+    let bringing = hear(layer, link, turn, &form, packet, entries);
     match confirmed(before, layer) {
         Some(entry) => entries.push(entry),
         None => enter_beside(beside_of(&form, packet), bringing, entries),
@@ -100,6 +108,7 @@ fn hear_all(layer: &mut Layer, link: &mut Link, packet: &[u8], entries: &mut Ent
 fn follow(
     layer: &mut Layer,
     link: &mut Link,
+    turn: &mut u16,
     wide: bool,
     notes: Notes,
     packet: Option<&[u8]>,
@@ -109,7 +118,7 @@ fn follow(
     requires put { IfSome packet (λ _. CanPut link.old) }
     requires left { IfSome packet (λ _. IsNotFull layer.old) }
     requires none { entries.old.items ≡ [] }
-    ensures puts { PutsBehind layer.old link.old layer.new link.new
+    ensures puts { PutsBehind layer.old link.old turn.old layer.new link.new turn.new
         (λ view c l. layer_at view c wide l (option_copied packet.entry) notes.down notes.up) }
     ensures entries { (c : Settings) (l : LayerState) (t : Side) → FitsLayer (layer_settings c) layer.old l
         → FitsWhole link.old (kept_of (link_settings c) t) →
@@ -118,7 +127,7 @@ fn follow(
 {
     note_down(layer, notes.down, entries);
     if notes.up {
-        come_up(layer, link, entries);
+        come_up(layer, link, turn, entries);
         return;
     }
     if notes.down.is_some() {
@@ -128,10 +137,10 @@ fn follow(
         return;
     };
     if wide {
-        hear_all(layer, link, packet, entries);
+        hear_all(layer, link, turn, packet, entries);
         return;
     }
-    hear(layer, link, &None, packet, entries);
+    hear(layer, link, turn, &None, packet, entries);
 }
 
 impl Station {
@@ -156,6 +165,7 @@ impl Station {
         follow(
             &mut self.layer,
             &mut self.link,
+            &mut self.turn,
             self.manner.wide,
             heard.notes,
             heard.packet,

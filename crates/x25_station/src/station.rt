@@ -17,9 +17,11 @@ use x25_link::{Link, LinkError};
 pub struct Station {
     pub(crate) link: Link,
     pub(crate) layer: Layer,
+    /// The rounds of pulls go on behind this channel: the last of which a packet was put before 8 waited, else 0.
+    pub(crate) turn: u16,
     pub(crate) manner: Manner,
     pub(crate) writing: Writing,
-    ghost meant: { AreMeant manner link layer },
+    ghost meant: { AreMeant manner link layer turn },
 }
 
 impl Station {
@@ -63,6 +65,7 @@ impl Station {
         Ok(Station {
             link,
             layer,
+            turn: 0,
             manner: Manner {
                 say_sizes: cfg.say_sizes,
                 wide: cfg.wide,

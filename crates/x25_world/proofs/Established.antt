@@ -21,11 +21,11 @@ record ComesUpAt (cfg : Cfg) (end : Role) (sent : List PlainFrame) (step : Step)
   pub entries : step.entries ≡ link_up ∷ []
   pub up : is_up step.near.link.phase ≡ true
 
-comes_up : (laws : Laws) (cfg : Cfg) (end : Role) {k : LinkStep} {sent : List PlainFrame} → Is fresh sent None true k
-    → ComesUpAt cfg end sent (follows (settings_from end cfg) at_rest k)
-comes_up laws cfg end {k} is =
+comes_up : (laws : Laws) (cfg : Cfg) (end : Role) (s : Station) {k : LinkStep} {sent : List PlainFrame} → Is fresh sent None true k
+    → ComesUpAt cfg end sent (follows (settings_from end cfg) s k)
+comes_up laws cfg end s {k} is =
     let c = link_of cfg end in
-    let u = laws.up (settings_from end cfg) at_rest k is.up is.near in
+    let u = laws.up (settings_from end cfg) s k is.up is.near in
     record {
       link = u.link.link ∙ ap (λ s. (put_step c (restart_of end) s).side.near) is.near;
       out = u.link.out ∙ ap₂ (λ fs s. fs ++ (put_step c (restart_of end) s).side.out) is.out is.near;
@@ -42,7 +42,7 @@ abbrev ua_octets : List ℕ
 ua_octets = spelling_of Dce (ua true)
 
 abbrev waiting : Station
-waiting = record { link = with_nothing Waiting 0; layer = at_rest }
+waiting = record { link = with_nothing Waiting 0; layer = at_rest; turn = 0 }
 
 abbrev asked : World
 asked = record { near = waiting; far = new_station; out = sabm_octets ∷ []; back = []; tap = record { from = Dte; octets = sabm_octets } ∷ []; transcript = [] }
@@ -97,12 +97,12 @@ module _ (laws : Laws) (cfg : Cfg) where
   dce_up : ComesUpAt cfg Dce (ua true ∷ []) (dce_step cfg)
   dce_up =
       let reads = laws.reads Dte longest_packet (sabm true) sabm_octets (record { in_range = tt; carries = refl; within = tt; spelling = refl }) in
-      comes_up laws cfg Dce (laws.take_sets_up (link_of cfg Dce) sabm_octets (with_nothing Down 0) tt true reads)
+      comes_up laws cfg Dce new_station (laws.take_sets_up (link_of cfg Dce) sabm_octets (with_nothing Down 0) tt true reads)
 
   dte_up : ComesUpAt cfg Dte [] (dte_step cfg)
   dte_up =
       let reads = laws.reads Dce longest_packet (ua true) ua_octets (record { in_range = tt; carries = refl; within = tt; spelling = refl }) in
-      comes_up laws cfg Dte (laws.take_waits (link_of cfg Dte) ua_octets (with_nothing Waiting 0) refl (Ok (ua true)) (sym reads))
+      comes_up laws cfg Dte waiting (laws.take_waits (link_of cfg Dte) ua_octets (with_nothing Waiting 0) refl (Ok (ua true)) (sym reads))
 
   -- behind UA is what goes with the RESTART of the DCE
   back_is : (at_dce cfg).back ≡ ua_octets ∷ map (spelling_of Dce) (restarted cfg Dce).side.out

@@ -28,8 +28,8 @@ turned h = record { near = h.far; far = h.near; out = h.back; back = h.out }
 module _ (c : Settings) {w : World} {v : Sessions} (h : Alike w v) where
   -- a step of the near link behind which its layer puts nothing
   step_alike : (rest : List links.Entry) (left : List (List ℕ)) (met : List Meeting) (k : LinkStep) → octets_of rest ≡ left
-      → (layer_at (view_of (link_settings c) k.side.near) (layer_settings c) c.wide w.near.layer k.packet k.notes.down k.notes.up).put ≡ []
-      → Alike (after_step c w left (follows c w.near.layer k)) (links.after_step (link_settings c) v rest met [] k)
+      → (layer_at (view_of (link_settings c) w.near.turn k.side.near) (layer_settings c) c.wide w.near.layer k.packet k.notes.down k.notes.up).put ≡ []
+      → Alike (after_step c w left (follows c w.near k)) (links.after_step (link_settings c) v rest met [] k)
   step_alike rest left met k is none =
       let session = begun_by k.notes.up v.near.begun in
       record {
@@ -52,9 +52,9 @@ module _ (c : Settings) {w : World} {v : Sessions} (h : Alike w v) where
       by (e ∷ es) none =
           let lc = link_settings c in
           let k = take_step lc e.octets w.near.link in
-          subst (λ b. Alike (after_step c w (octets_of es) (follows c w.near.layer (if b then abandon_step lc w.near.link else k)))
+          subst (λ b. Alike (after_step c w (octets_of es) (follows c w.near (if b then abandon_step lc w.near.link else k)))
           (links.delivered lc (e ∷ es) v)) (sym none.0)
-          (subst (λ s. Alike (after_step c w (octets_of es) (follows c w.near.layer k))
+          (subst (λ s. Alike (after_step c w (octets_of es) (follows c w.near k))
           (links.after_step lc v es (links.delivered lc (e ∷ es) v).met [] (take_step lc e.octets s))) (sym h.near)
           (step_alike es (octets_of es) (links.delivered lc (e ∷ es) v).met k refl none.1))
 
@@ -70,11 +70,11 @@ module _ (c : Settings) {w : World} {v : Sessions} (h : Alike w v) where
       k : LinkStep
       k = timer_step (link_settings c) w.near.link
 
-      by : (o : Option LinkError) → Alike (after w (of_station c w (unless o (follows c w.near.layer k))))
+      by : (o : Option LinkError) → Alike (after w (of_station c w (unless o (follows c w.near k))))
           (links.unless o v (links.after_step (link_settings c) v v.back v.met [] k))
       by (Some e) = h
       by None = step_alike v.back w.back v.met k h.back
-          (silent (view_of (link_settings c) k.side.near) (layer_settings c) c.wide w.near.layer k.packet k.notes.down k.notes.up
+          (silent (view_of (link_settings c) w.near.turn k.side.near) (layer_settings c) c.wide w.near.layer k.packet k.notes.down k.notes.up
           (timer_silent (link_settings c) w.near.link).0 (timer_silent (link_settings c) w.near.link).1)
 
 -- ---- events

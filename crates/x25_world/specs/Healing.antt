@@ -144,7 +144,7 @@ PutsNothing c s [] = Unit {0}
 PutsNothing c s (octets ∷ back) =
     let k = take_step (link_settings c) octets s.link in
     (abandons c s ≡ false)
-    × ((layer_at (view_of (link_settings c) k.side.near)
+    × ((layer_at (view_of (link_settings c) s.turn k.side.near)
     (layer_settings c) c.wide s.layer k.packet k.notes.down k.notes.up).put ≡ [])
 
 abbrev pub PutsNothingAt : Cfg → Role → World → Type 0

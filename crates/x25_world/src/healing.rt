@@ -38,21 +38,19 @@ pub struct Healed {
 /// Two stations over such a line, after each list of events, over set-up and re-set-up at any moment.
 ///
 /// - `rest`: an end whose link is up and whose timer T1 doesn't run is at rest, whatever is on the line, and all that
-/// its link was handed down in its
-/// session has been handed up at the other end. Where no message waits in a circuit of it, all that was sent on a
-/// stretch that is open at both ends has arrived.
+///   its link was handed down in its session has been handed up at the other end. Where no message waits in a circuit
+///   of it, all that was sent on a stretch that is open at both ends has arrived.
 /// - `heals`: from a moment in which nothing is on the line, no link is being set up and not both ends are busy, timer
-/// T1 runs out at each end where it
-/// runs, and then all that is on the line comes, in any order of the two directions, while the layers put nothing. Each
-/// link is at rest then, or isn't up; and if both were up, with tries left where T1 ran, both are at rest, and all that
-/// they were handed down has been handed up.
+///   T1 runs out at each end where it runs, and then all that is on the line comes, in any order of the two directions,
+///   while the layers put nothing. Each link is at rest then, or isn't up; and if both were up, with tries left where
+///   T1 ran, both are at rest, and all that they were handed down has been handed up.
 /// - `heals_with_puts`: from a moment in which nothing is on the line, both links are up, neither is busy, and tries
-/// are left where timer T1 runs, it runs
-/// out at each end where it runs. Then what is on the line comes, and users ask of the layers what they like, in any
-/// order, while the layers put what they put; where octets come neither link is busy and no count of that station is at
-/// its most, and neither is busy at the end. Once nothing is on the line both links are at rest, in the same sessions
-/// as before, and all that they were handed down in these, what was put since included, has been handed up. `worked` is
-/// such a moment: a message was lost, and one more is sent once T1 has run out.
+///   are left where timer T1 runs, it runs out at each end where it runs. Then what is on the line comes, and users ask
+///   of the layers what they like, in any order, while the layers put what they put; where octets come neither link is
+///   busy and no count of that station is at its most, and neither is busy at the end. Once nothing is on the line both
+///   links are at rest, in the same sessions as before, and all that they were handed down in these, what was put since
+///   included, has been handed up. `worked` is such a moment: a message was lost, and one more is sent once T1 has run
+///   out.
 /// - `drains`: the world bounds how many deliveries follow one another, while the layers put nothing.
 ///
 /// Premises: k is 1 to 7, N2 1 to 255, channels 1 to 4,095, and the users hand down octets.
@@ -74,12 +72,12 @@ pub fn stations_heal()
 /// Two stations over such a line, after each list of events, by the schedule of `World::heal` with any bound but 0.
 ///
 /// - `shows`: where both links are at rest behind it, all that they were handed down in their sessions has been handed
-/// up, and each stretch that is open at an end is open at the other one too, where either all of its messages and
-/// interrupts arrived, or the user isn't ready.
+///   up, and each stretch that is open at an end is open at the other one too, where either all of its messages and
+///   interrupts arrived, or the user isn't ready.
 /// - `arrives`: they are at rest, and what they were handed down since is among that, where, once all that was on the
-/// line has come, both links are up, neither is busy, and tries are left where timer T1 runs; where neither is busy as
-/// octets come behind the firings, and no count of that station is at its most; and where the rounds leave nothing on
-/// the line.
+///   line has come, both links are up, neither is busy, and tries are left where timer T1 runs; where neither is busy
+///   as octets come behind the firings, and no count of that station is at its most; and where the rounds leave nothing
+///   on the line.
 ///
 /// Premises: k is 1 to 7, N2 1 to 255, channels 1 to 4,095, and the users hand down octets.
 pub fn healing_brings_all()

@@ -57,25 +57,24 @@ pub(crate) fn laws_below()
 /// down and nothing on the line, from the DTE's SABM on the line, or from a link just set up: what holds after each
 /// list of commands, deliveries, losses, damage and firings of timer T1, wherever an event is refused, up to the moment
 /// at which an end tells of LinkUp a second time. `window` is said from a link just set up alone. By `up_once` no end
-/// goes up again from there where no `connect` of the list is accepted, so that a list without `connect` has no other
-/// premise than those below.
+/// goes up again from there where no `connect` and no `relink` of the list is accepted, so that a list without them has
+/// no other premise than those below.
 ///
 /// - `set_up`: SABM is there to be delivered, and then UA.
 /// - `lawful`: on each channel and under each name of a stretch, the messages, interrupts and calls that an end hands
-/// up are a
-///   beginning of those that the other handed down: each comes once, in order, whole, and none of another call.
+///   up are a beginning of those that the other handed down: each comes once, in order, whole, and none of another
+///   call.
 /// - `named`: the name of the stretch on a channel, where the link is up, is the restarts, clears and resets that the
-/// transcript tells of.
+///   transcript tells of.
 /// - `arrives`: what is handed up is all of the messages and interrupts of a stretch, where the end that gives is idle
-/// and both ends have that stretch
-///   open.
+///   and both ends have that stretch open.
 /// - `quiet`: no FRMR, no CLEAR, RESET or RESTART with a cause of an error was ever put on the line, and no fault was
-/// reported to a user.
+///   reported to a user.
 /// - `window`: from a link just set up there are two links and one window machine behind them, which go on from event
-/// to event as the end of the event
-/// asks, and are behind each world of the run: an I frame and an N(R) on the line keep the unbounded numbers that they
-/// were given as they were put, and these are in the window.
-/// - `up_once`: from a link just set up, where no `connect` is accepted, each end tells of LinkUp once, in set-up.
+///   to event as the end of the event asks, and are behind each world of the run: an I frame and an N(R) on the line
+///   keep the unbounded numbers that they were given as they were put, and these are in the window.
+/// - `up_once`: from a link just set up, where no `connect` and no `relink` is accepted, each end tells of LinkUp once,
+///   in set-up.
 ///
 /// Premises: k is 1 to 7, N2 1 to 255, channels 1 to 4,095, and the users hand down octets.
 pub fn two_stations_keep_order()
@@ -92,42 +91,37 @@ pub fn two_stations_keep_order()
 }
 
 /// Two stations joined by such a line, over set-up and re-set-up at any moment: what holds after each list of commands,
-/// `connect` among them, deliveries, losses, damage and firings of timer T1, wherever an event is refused, from both
-/// links down and nothing on the line, from the DTE's SABM on the line, and from a link just set up.
+/// `connect` and `relink` among them, deliveries, losses, damage and firings of timer T1, wherever an event is refused,
+/// from both links down and nothing on the line, from the DTE's SABM on the line, and from a link just set up.
 ///
 /// A session of an end lasts from a `linkup` to the next `linkup` or `linkdown` there. It meets the session that the
 /// other end began last before its own first `restarted`. Without one it meets none.
 ///
 /// - `step`: sessions that meet were begun. Of two sessions of an end that each meet one, the later meets the later
-/// one, and where a session meets
-///   one that meets any, that one meets it.
+///   one, and where a session meets one that meets any, that one meets it.
 /// - `lawful`: on each channel and under each name of a stretch, the messages, interrupts and calls that an end hands
-/// up in a session are
-///   a beginning of those that the other handed down in the session that it meets.
+///   up in a session are a beginning of those that the other handed down in the session that it meets.
 /// - `named`: the name of the stretch on a channel, where the link is up, is the restarts, clears and resets that the
-/// transcript of the session
-///   that stands tells of.
+///   transcript of the session that stands tells of.
 /// - `arrives`: what is handed up is all of the messages and interrupts of a stretch, from the one session that stands
-/// to the other, where the end
-///   that gives is idle and both ends have that stretch open.
+///   to the other, where the end that gives is idle and both ends have that stretch open.
 /// - `unmet`: in a session that meets none the layer tells its user nothing: no message, no interrupt and no call.
 /// - `stand`: where a stretch is open at both ends, on whichever channels, the two sessions that stand meet each other.
 /// - `quiet`: no FRMR, no CLEAR, RESET or RESTART with a cause of an error was ever put on the line, and no fault was
-/// reported to a user.
+///   reported to a user.
 /// - `octets`: all that was ever put on the line is octets, at most 4,103 at a time.
 /// - `window`: two links are behind the world where the run begins, with the window machine behind the sessions that
-/// stand. Whichever two are behind
-/// a world of the run go on from there at each event as its end asks, with their machine, and are behind the world
-/// after it: an end whose link is up has its session, and the one that it meets or is to meet, in the machine, with the
-/// unbounded numbers behind those on the line to it, and behind those on both lines where both links are up. A frame
-/// keeps the numbers that it was given as it was put.
+///   stand. Whichever two are behind a world of the run go on from there at each event as its end asks, with their
+///   machine, and are behind the world after it: an end whose link is up has its session, and the one that it meets or
+///   is to meet, in the machine, with the unbounded numbers behind those on the line to it, and behind those on both
+///   lines where both links are up. A frame keeps the numbers that it was given as it was put.
 /// - `beside`: what a user is told that came beside the packet of a call, an acceptance or a clearing, in a session
-/// that meets one, is what the other end's user gave there: in order, each at most once, on its channel, the user data
-/// as given and the facilities behind the station's own packet sizes and windows. In a session that meets none nothing
-/// is told of it.
+///   that meets one, is what the other end's user gave there: in order, each at most once, on its channel, the user
+///   data as given and the facilities behind the station's own packet sizes and windows. In a session that meets none
+///   nothing is told of it.
 /// - `confirmed`: on each channel and under each name of a stretch, of the messages that the other end handed up in the
-/// session that this one meets, at least so many asked for confirmation as were told as confirmed here. In a session
-/// that meets none, none is told as confirmed.
+///   session that this one meets, at least so many asked for confirmation as were told as confirmed here. In a session
+///   that meets none, none is told as confirmed.
 ///
 /// Premises: k is 1 to 7, N2 1 to 255, channels 1 to 4,095, and the users hand down octets.
 pub fn stations_meet_in_sessions()
@@ -156,9 +150,9 @@ pub(crate) fn runs_hold()
 }
 
 /// Two stations joined by such a line, over set-up and re-set-up at any moment, after each list of events as above:
-/// where both links are idle and a pull at an end changes nothing, each stretch that is open there is open at the other
-/// end too, and either no message of it waits and all of its messages and interrupts arrived, or the user at the other
-/// end isn't ready. A circuit that isn't open keeps none at any time.
+/// where both links are idle and a pull at an end is accepted and leaves the layer there as it was, each stretch that
+/// is open there is open at the other end too, and either no message of it waits and all of its messages and interrupts
+/// arrived, or the user at the other end isn't ready. A circuit that isn't open keeps none at any time.
 ///
 /// Premises: k is 1 to 7, N2 1 to 255, channels 1 to 4,095, and the users hand down octets.
 pub fn messages_wait_for_users()

@@ -6,7 +6,8 @@ use Rattle.x25_packet.specs.Taking.{read_in}
 use Rattle.x25_layer.specs.declared.ranges.Ranges.{Ranges}
 use Rattle.x25_layer.specs.Layer.{LayerSettings, is_channel, goes_up}
 use Rattle.x25_layer.specs.Calls.{LayerRequest}
-use Rattle.x25_layer.specs.laws.Rounds.{LinkView, Putting, begin, round, rounds, Went, calls, hears, comes_up}
+use Rattle.x25_layer.specs.laws.Rounds.{LinkView, Putting, begin, round, whole_rounds, Went, calls, hears}
+use Rattle.x25_layer.specs.laws.Rounds.{comes_up}
 use Rattle.x25_layer.specs.laws.TwoLayers.{TwoLayers, Move, Requests, Pulls, HandsUp, moves}
 
 -- moves of the near end, one after another
@@ -51,20 +52,20 @@ HearsRun = (link : LinkView) (c : LayerSettings) (wide : Bool) (w : TwoLayers) (
     (pulled : List ℕ) × AreChannels c.channels pulled
     × IsRun c w (HandsUp ∷ pulls_of pulled) (moves c w HandsUp) (hears link c wide w.near.layer octets).step back
 
--- behind the rounds, one round more gives nothing
+-- behind whole rounds, one round more gives nothing
 abbrev pub RoundsSettle : Type 0
 RoundsSettle = (link : LinkView) (c : LayerSettings) (s : Putting)
-    → round link c c.channels.count (rounds link c s) ≡ rounds link c s
+    → round link c 0 c.channels.count (whole_rounds link c s) ≡ whole_rounds link c s
 
 -- a round leads to where all of them do
 abbrev pub RoundsGoOn : Type 0
 RoundsGoOn = (link : LinkView) (c : LayerSettings) (s : Putting)
-    → rounds link c (round link c c.channels.count s) ≡ rounds link c s
+    → whole_rounds link c (round link c 0 c.channels.count s) ≡ whole_rounds link c s
 
 -- where a round gives nothing, the rounds end
 abbrev pub RoundsEnd : Type 0
-RoundsEnd = (link : LinkView) (c : LayerSettings) (s : Putting) → round link c c.channels.count s ≡ s
-    → rounds link c s ≡ s
+RoundsEnd = (link : LinkView) (c : LayerSettings) (s : Putting)
+    → round link c 0 c.channels.count s ≡ s → whole_rounds link c s ≡ s
 
 -- at LinkUp RESTART is put, and nothing else
 abbrev pub ComesUpAlone : Type 0

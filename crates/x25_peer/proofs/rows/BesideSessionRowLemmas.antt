@@ -40,10 +40,10 @@ ua_reads = refl
 -- ---- what happens
 
 abbrev connecting : BesideSessions → Step
-connecting w = led_by (connect_asked ∷ []) (follows dte w.near.layer (connect_step (link_settings dte) w.near.link))
+connecting w = led_by (connect_asked ∷ []) (follows dte w.near (connect_step (link_settings dte) w.near.link))
 
 abbrev firing : BesideSessions → Step
-firing w = follows dte w.near.layer (timer_step (link_settings dte) w.near.link)
+firing w = follows dte w.near (timer_step (link_settings dte) w.near.link)
 
 -- the peer begins a session as it answers the SABM at the front by UA
 abbrev answered : BesideSessions → BesideSessions

@@ -95,7 +95,7 @@ module _ (below : Below) (c : Settings) (low : 1 ≤ c.window) (high : c.window 
   asks request step octets is =
       let s = w.near.link in
       let granted = did_granted c w.near request step is in
-      let j = below.request c s (alone_at e_now) request step (h.each b).out h.kept.few (rw (at_now granted.is_up) is) in
+      let j = below.request c s (alone_at e_now) w.near.turn request step (h.each b).out h.kept.few (rw (at_now granted.is_up) is) in
       asked_stands octets
       (record {
         channels = j.0;
@@ -115,7 +115,7 @@ module _ (below : Below) (c : Settings) (low : 1 ≤ c.window) (high : c.window 
       let granted = gave_granted c w.near g request step is in
       let wide = and_parts c.wide (may_give g && suits g request) granted.is_taken in
       let suit = and_parts (may_give g) (suits g request) wide.1 in
-      let j = below.given c g s (alone_at e_now) request step (h.each b).out h.kept.few (rw (at_now granted.is_up) is) in
+      let j = below.given c g s (alone_at e_now) w.near.turn request step (h.each b).out h.kept.few (rw (at_now granted.is_up) is) in
       asked_stands octets
       (record {
         channels = j.0;
@@ -133,10 +133,10 @@ module _ (below : Below) (c : Settings) (low : 1 ≤ c.window) (high : c.window 
   -- a step of the link by its acts, which hands nothing up and notes no LinkUp, where it isn't refused
   by_link : (asked : List StationEntry) (refusal : Option LinkError) (k : LinkStep) (v : Sessions) → AreSilent asked → Reach lc w.peer v
       → (refusal ≡ None → StepGoes lc both v k w.back w.met) → k.packet ≡ None → k.notes.up ≡ false → (refusal ≡ None → Tells w.near.link k)
-      → (done : Step) → refused_or refusal (led_by asked (follows c w.near.layer k)) ≡ Did done
-      → KeptBy (refused_or refusal (led_by asked (follows c w.near.layer k))) → Stands c (acted c w done)
+      → (done : Step) → refused_or refusal (led_by asked (follows c w.near k)) ≡ Did done
+      → KeptBy (refused_or refusal (led_by asked (follows c w.near k))) → Stands c (acted c w done)
   by_link asked refusal k v silent reach goes none quiet tells done did kept =
-      let whole = led_by asked (follows c w.near.layer k) in
+      let whole = led_by asked (follows c w.near k) in
       let granted = unless_did refusal whole done did in
       subst (λ s. Stands c (acted c w s)) granted.1
       (subst (λ u. Stands c (stepped c w (begun_by u w.begun) w.back w.met whole)) quiet
@@ -151,8 +151,8 @@ module _ (below : Below) (c : Settings) (low : 1 ≤ c.window) (high : c.window 
     abandons_it full =
         let k = abandon_step lc w.near.link in
         let left = acts lc line.Abandon both in
-        let kept : IsKept (follows c w.near.layer k).near =
-        subst (λ x. IsKept (follows c w.near.layer (if x then k else take_step lc e.octets w.near.link)).near) full (below.takes c w.near e.octets h.kept) in
+        let kept : IsKept (follows c w.near k).near =
+        subst (λ x. IsKept (follows c w.near (if x then k else take_step lc e.octets w.near.link)).near) full (below.takes c w.near e.octets h.kept) in
         follows_on below c low high few w h [] silent rest w.met k (below.abandon_tells lc w.near.link) refl
         (acts lc (line.Lose 0) left) (acts_reach (line.Lose 0) left tt (acts_reach line.Abandon both tt h.link))
         (rw (sym (ap (λ es. remove es 0) front))
@@ -181,10 +181,10 @@ module _ (below : Below) (c : Settings) (low : 1 ≤ c.window) (high : c.window 
         (record { near = b; far = e.session }) w.met can
 
     module _ (not_full : abandons c w.near ≡ false) where
-      same : receives c w.near e.octets ≡ follows c w.near.layer k
-      same = ap (λ x. follows c w.near.layer (if x then abandon_step lc w.near.link else k)) not_full
+      same : receives c w.near e.octets ≡ follows c w.near k
+      same = ap (λ x. follows c w.near (if x then abandon_step lc w.near.link else k)) not_full
 
-      kept : IsKept (follows c w.near.layer k).near
+      kept : IsKept (follows c w.near k).near
       kept = subst (λ s. IsKept s.near) same (below.takes c w.near e.octets h.kept)
 
       -- a packet is handed up
@@ -249,16 +249,16 @@ module _ (below : Below) (c : Settings) (low : 1 ≤ c.window) (high : c.window 
         abbrev two : TwoLayers
         two = record { near = ours; far = ours; out = way theirs ours.given; back = drop (length ups) (h.puts there) }
 
-        handed : Stands c (stepped c w b rest met (follows c w.near.layer k))
+        handed : Stands c (stepped c w b rest met (follows c w.near k))
         handed =
             let at : ours.layer ≡ w.near.layer = at_now was_up in
-            let free : abandons c (station_with w.near.link ours.layer) ≡ false =
-            subst (λ l. abandons c (station_with w.near.link l) ≡ false) (sym at) not_full in
-            let j₀ = below.receive c w.near.link two e.octets o next.packet behind (h.each b).out next.front free some next.reads in
+            let free : abandons c (station_with w.near.link ours.layer w.near.turn) ≡ false =
+            subst (λ l. abandons c (station_with w.near.link l w.near.turn) ≡ false) (sym at) not_full in
+            let j₀ = below.receive c w.near.link two w.near.turn e.octets o next.packet behind (h.each b).out next.front free some next.reads in
             let ms = HandsUp ∷ pulls_of j₀.0 in
             let v = moves_all (layer_settings c) two ms in
-            let j : IsJoined c two v k.side behind (follows c w.near.layer k) =
-            subst (λ s. IsJoined c two v k.side behind s) (ap (λ l. receives c (station_with w.near.link l) e.octets) at ∙ same) j₀.2 in
+            let j : IsJoined c two v k.side behind (follows c w.near k) =
+            subst (λ s. IsJoined c two v k.side behind s) (ap (λ l. receives c (station_with w.near.link l w.near.turn) e.octets) at ∙ same) j₀.2 in
             let ps = j.packets in
             let moved = moves_reached theirs.layer two ms (tt, tt, pulls_stay c.wide j₀.0) (h.pairs b there (could b there partner.1)) in
             let line : v.out ≡ way theirs v.near.given =
@@ -279,7 +279,7 @@ module _ (below : Below) (c : Settings) (low : 1 ≤ c.window) (high : c.window 
             partner.1 can) has_met)) pair) kept
 
         handed_up : Stands c (followed c w [] rest met k)
-        handed_up = subst (λ u. Stands c (stepped c w (begun_by u b) rest met (follows c w.near.layer k))) (sym noted) handed
+        handed_up = subst (λ u. Stands c (stepped c w (begun_by u b) rest met (follows c w.near k))) (sym noted) handed
 
       comes : Stands c (followed c w [] rest met k)
       comes = by k.packet refl
@@ -295,7 +295,7 @@ module _ (below : Below) (c : Settings) (low : 1 ≤ c.window) (high : c.window 
         took_as : Bool → Type 0
         took_as full =
             let x = if full then abandon_step lc w.near.link else k in
-            Stands c (stepped c w (begun_by x.notes.up w.begun) rest (if full then w.met else met) (follows c w.near.layer x))
+            Stands c (stepped c w (begun_by x.notes.up w.begun) rest (if full then w.met else met) (follows c w.near x))
 
         by : (full : Bool) → abandons c w.near ≡ full → Stands c (took c w e rest)
         by true full = subst took_as (sym full) (abandons_it full)

@@ -34,7 +34,7 @@ noted_silent (Some reason) false = record { entries = refl; told = refl }
 
 -- its link has stepped, and then its layer, by a command that has these entries; by LinkUp a session begins
 abbrev pub followed : Settings → BesideSessions → List StationEntry → List Entry → List Meeting → LinkStep → BesideSessions
-followed c w asked back met k = stepped c w (begun_by k.notes.up w.begun) back met (led_by asked (follows c w.near.layer k))
+followed c w asked back met k = stepped c w (begun_by k.notes.up w.begun) back met (led_by asked (follows c w.near k))
 
 -- there is more in this session
 pub extended_here : (lists : ℕ → List (List ℕ)) (session : ℕ) (more : List (List ℕ)) → extended lists session more session ≡ lists session ++ more
@@ -198,17 +198,17 @@ module _ (below : Below) (c : Settings) (low : 1 ≤ c.window) (high : c.window 
   module _ (asked : List StationEntry) (silent : AreSilent asked) (left : List Entry) (met : List Meeting) (k : LinkStep) (tells : Tells w.near.link k)
       (none : k.packet ≡ None) (v : Sessions) (reach : Reach lc w.peer v)
       (g : StepGoes lc (both_ends (links w)) v k left met) (could : (n m : ℕ) → CanMeet n m met → CanMeet n m w.met)
-      (kept : IsKept (follows c w.near.layer k).near) where
+      (kept : IsKept (follows c w.near k).near) where
     abbrev whole : Step
-    whole = led_by asked (follows c w.near.layer k)
+    whole = led_by asked (follows c w.near k)
 
     link_at : (up : Bool) → k.notes.up ≡ up → GoesTo v (begun_by up w.begun) k.side.near k.side.out [] [] left met
     link_at up is = (reach, step_as k up None is none g)
 
     quiet_step : IsQuiet k → Stands c (stepped c w w.begun left met whole)
     quiet_step quiet =
-        let is = below.still c w.near.layer k none quiet in
-        let step : Step = record { near = station_with k.side.near w.near.layer; out = k.side.out; entries = [] } in
+        let is = below.still c w.near k none quiet in
+        let step : Step = record { near = station_with k.side.near w.near.layer w.near.turn; out = k.side.out; entries = [] } in
         subst (λ s. Stands c (stepped c w w.begun left met (led_by asked s))) (sym is)
         (rests (led_by asked step) (link_at false (ap (λ n. n.up) quiet)) (λ up. (sym (tells.stays quiet) ∙ up, refl))
         (silent_append silent (record { entries = refl; told = refl })) could
@@ -216,9 +216,9 @@ module _ (below : Below) (c : Settings) (low : 1 ≤ c.window) (high : c.window 
 
     down_step : (reason : Reason) → k.notes ≡ record { down = Some reason; up = false } → Stands c (stepped c w w.begun left met whole)
     down_step reason noted =
-        let is = below.down c w.near.layer k reason noted in
+        let is = below.down c w.near k reason noted in
         let off = tells.left reason (ap (λ n. n.down) noted) (ap (λ n. n.up) noted) in
-        let step : Step = record { near = station_with k.side.near (rested w.near.layer); out = k.side.out; entries = link_down reason ∷ [] } in
+        let step : Step = record { near = station_with k.side.near (rested w.near.layer) w.near.turn; out = k.side.out; entries = link_down reason ∷ [] } in
         subst (λ s. Stands c (stepped c w w.begun left met (led_by asked s))) (sym is)
         (rests (led_by asked step) (link_at false (ap (λ n. n.up) noted)) (λ up. true_false (sym up ∙ off))
         (silent_append silent (record { entries = refl; told = refl })) could
@@ -228,7 +228,7 @@ module _ (below : Below) (c : Settings) (low : 1 ≤ c.window) (high : c.window 
     up_step up =
         let b = suc w.begun in
         let e = h.ends b in
-        let u = below.up c w.near.layer k up (tells.fresh_up up) in
+        let u = below.up c w.near k up (tells.fresh_up up) in
         let ps = restart (restart_cause c.role) 0 ∷ [] in
         let before = h.later b (omega (arith)) in
         let given : e.given ≡ ps = ap (λ x. x.given) before.end ∙ refl in

@@ -47,7 +47,10 @@ pub record BesideSessions : Type 0 where
 
 -- each session begins so: the station's layer with its RESTART, the peer's ready, and both with no call
 abbrev pub own_anew : Settings → Own
-own_anew c = record { station = record { link = fresh; layer = (goes_up (layer_settings c)).next }; entries = [] }
+own_anew c = record {
+  station = record { link = fresh; layer = (goes_up (layer_settings c)).next; turn = 0 };
+  entries = [];
+}
 
 abbrev pub theirs_anew : Theirs
 theirs_anew = record { layer = live 0 peer_fresh; heard = 0; passed = [] }

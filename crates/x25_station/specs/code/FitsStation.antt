@@ -1,5 +1,5 @@
 -- Which states of the definition a station stands for, and what its calls answer.
-use Rattle.std.specs.Prelude.{◌≡◌, ◌≤◌, [], length, map, Option, Some, None, Result, Ok, Err}
+use Rattle.std.specs.Prelude.{◌≡◌, ℕ, ◌≤◌, [], length, map, Option, Some, None, Result, Ok, Err}
 use Rattle.std.specs.Prelude.{OnOk}
 use Rattle.std.specs.Prelude.{OnErr, IfErr, IsErrAnd, IsOk}
 use Rattle.x25_frame.specs.Spelling.{spelling_of}
@@ -16,7 +16,7 @@ use Rattle.x25_station.specs.Step.{Outcome, Did, Refused}
 use Rattle.x25_station.specs.code.FitsParts.{FitsParts}
 
 abbrev pub FitsStation : Settings → code.Station → Station → Type 0
-FitsStation c v s = FitsParts c v.manner v.link v.layer s
+FitsStation c v s = FitsParts c v.manner v.link v.layer v.turn s
 
 -- it stands for what it stood for
 abbrev pub FitsStill : code.Station → code.Station → Type 0
@@ -25,13 +25,13 @@ FitsStill old new = (c : Settings) (s : Station) → FitsStation c old s → Fit
 -- ---- what a call leaves and answers, by what the definition says of it
 
 -- an accepted call leaves the station of the step
-abbrev pub LeavesParts : {T : Type 0} → Settings → Manner → ShownLink → layer_code.Layer → Result T StationError
+abbrev pub LeavesParts : {T : Type 0} → Settings → Manner → ShownLink → layer_code.Layer → ℕ → Result T StationError
     → Outcome → Type 0
-LeavesParts c manner l y result (Did step) = OnOk result (FitsParts c manner l y step.near)
-LeavesParts c manner l y result (Refused e) = Unit {0}
+LeavesParts c manner l y turn result (Did step) = OnOk result (FitsParts c manner l y turn step.near)
+LeavesParts c manner l y turn result (Refused e) = Unit {0}
 
 abbrev pub Leaves : {T : Type 0} → Settings → code.Station → Result T StationError → Outcome → Type 0
-Leaves c v result outcome = LeavesParts c v.manner v.link v.layer result outcome
+Leaves c v result outcome = LeavesParts c v.manner v.link v.layer v.turn result outcome
 
 -- the frames are those of the step, as the octets that spell them
 abbrev pub Sends : {T : Type 0} → Settings → code_step.Step → Result T StationError → Outcome → Type 0

@@ -33,4 +33,4 @@ entries_asked call = []
 
 abbrev pub calls_link : LinkCall → Settings → Station → Outcome
 calls_link call c s = unless (link_refusal call s.link)
-    (led_by (entries_asked call) (follows c s.layer (step_of_call call (link_settings c) s.link)))
+    (led_by (entries_asked call) (follows c s (step_of_call call (link_settings c) s.link)))

@@ -20,9 +20,9 @@ abbrev pub after_all : LinkState → List PlainPacket → LinkState
 after_all x [] = x
 after_all x (packet ∷ packets) = after_all (after_put_to x (spelling_of packet)) packets
 
--- what the layer sees of a link in this state
-abbrev pub seen_at : LinkState → LinkView
-seen_at x = record { is_up = up_at x; waits = λ packets. waits_of (after_all x packets) }
+-- what the layer sees of a link in this state, and whose turn it is
+abbrev pub seen_at : ℕ → LinkState → LinkView
+seen_at turn x = record { is_up = up_at x; waits = λ packets. waits_of (after_all x packets); turn = turn }
 
 -- the state after octets were put, where there are any
 abbrev pub after_octets : LinkState → List ℕ → LinkState
@@ -30,6 +30,11 @@ after_octets x [] = x
 after_octets x (octet ∷ octets) = after_put_to x (octet ∷ octets)
 
 -- ---- what a call of the user leaves and answers
+
+-- where the call is accepted, the turn is that of the step
+abbrev pub TurnGives : {T : Type 0} → ℕ → Result T LayerError → Answered → Type 0
+TurnGives turn result (Went s) = OnOk result (turn ≡ s.turn)
+TurnGives turn result (Refuses e) = Unit {0}
 
 -- The layer is that of the step, or 70 is answered; or the call is refused so.
 abbrev pub LayerGives : {T : Type 0} → LayerSettings → code.Layer → Result T LayerError → Answered → Type 0
@@ -43,14 +48,17 @@ LinkGives m x result (Refuses e) = result ≡ Err e
 
 -- A call of the user does to the layer and the link what the definition says of it, or it is refused and both are as
 -- before. 70 comes only where a circuit may ask for memory.
-pub record Drives {T : Type 0} (old : code.Layer) (below : ShownLink) (new : code.Layer) (below₂ : ShownLink)
-    (result : Result T LayerError) (request : LayerRequest) : Type 0 where
+pub record Drives {T : Type 0} (old : code.Layer) (below : ShownLink) (turn : ℕ) (new : code.Layer)
+    (below₂ : ShownLink) (turn₂ : ℕ) (result : Result T LayerError) (request : LayerRequest) : Type 0 where
   pub layer : (c : LayerSettings) (l : Layer) (x : LinkState) → FitsLayer c old l → FitsWhole below x
-      → LayerGives c new result (calls (seen_at x) c l request)
+      → LayerGives c new result (calls (seen_at turn x) c l request)
   pub link : (c : LayerSettings) (l : Layer) (x : LinkState) → FitsLayer c old l → FitsWhole below x
-      → LinkGives below₂ x result (calls (seen_at x) c l request)
+      → LinkGives below₂ x result (calls (seen_at turn x) c l request)
+  pub turns : (c : LayerSettings) (l : Layer) (x : LinkState) → FitsLayer c old l → FitsWhole below x
+      → TurnGives turn₂ result (calls (seen_at turn x) c l request)
   pub layer_stays : (c : LayerSettings) (l : Layer) → FitsLayer c old l → OnErr result (FitsLayer c new l)
   pub link_stays : (x : LinkState) → FitsWhole below x → OnErr result (FitsWhole below₂ x)
+  pub turn_stays : OnErr result (turn₂ ≡ turn)
   pub missing : IsErrOf result error.NoMemory → asks_memory request ≡ true
 
 -- ---- with something given beside the packet
@@ -60,21 +68,24 @@ abbrev pub all_with : PlainGiven → LinkState → List PlainPacket → LinkStat
 all_with g x [] = x
 all_with g x (packet ∷ packets) = after_all (after_put_to x (write g (spelling_of packet))) packets
 
-abbrev pub seen_with : PlainGiven → LinkState → LinkView
-seen_with g x = record { is_up = up_at x; waits = λ packets. waits_of (all_with g x packets) }
+abbrev pub seen_with : PlainGiven → ℕ → LinkState → LinkView
+seen_with g turn x = record { is_up = up_at x; waits = λ packets. waits_of (all_with g x packets); turn = turn }
 
 abbrev pub GoesWith : {T : Type 0} → ShownLink → PlainGiven → LinkState → Result T LayerError → Answered → Type 0
 GoesWith m g x result (Went s) = OnOk result (FitsWhole m (all_with g x s.put))
 GoesWith m g x result (Refuses e) = Unit {0}
 
-pub record DrivesWith {T : Type 0} (g : PlainGiven) (old : code.Layer) (below : ShownLink) (new : code.Layer)
-    (below₂ : ShownLink) (result : Result T LayerError) (request : LayerRequest) : Type 0 where
+pub record DrivesWith {T : Type 0} (g : PlainGiven) (old : code.Layer) (below : ShownLink) (turn : ℕ) (new : code.Layer)
+    (below₂ : ShownLink) (turn₂ : ℕ) (result : Result T LayerError) (request : LayerRequest) : Type 0 where
   pub layer : (c : LayerSettings) (l : Layer) (x : LinkState) → FitsLayer c old l → FitsWhole below x
-      → LayerGives c new result (calls (seen_with g x) c l request)
+      → LayerGives c new result (calls (seen_with g turn x) c l request)
   pub link : (c : LayerSettings) (l : Layer) (x : LinkState) → FitsLayer c old l → FitsWhole below x
-      → GoesWith below₂ g x result (calls (seen_with g x) c l request)
+      → GoesWith below₂ g x result (calls (seen_with g turn x) c l request)
+  pub turns : (c : LayerSettings) (l : Layer) (x : LinkState) → FitsLayer c old l → FitsWhole below x
+      → TurnGives turn₂ result (calls (seen_with g turn x) c l request)
   pub layer_stays : (c : LayerSettings) (l : Layer) → FitsLayer c old l → OnErr result (FitsLayer c new l)
   pub link_stays : (x : LinkState) → FitsWhole below x → OnErr result (FitsWhole below₂ x)
+  pub turn_stays : OnErr result (turn₂ ≡ turn)
   pub missing : IsErrOf result error.NoMemory → asks_memory request ≡ true
 
 -- ---- with or without it
@@ -83,11 +94,11 @@ abbrev pub all_asked : Option PlainGiven → LinkState → List PlainPacket → 
 all_asked None = after_all
 all_asked (Some g) = all_with g
 
-abbrev pub seen_asked : Option PlainGiven → LinkState → LinkView
+abbrev pub seen_asked : Option PlainGiven → ℕ → LinkState → LinkView
 seen_asked None = seen_at
 seen_asked (Some g) = seen_with g
 
-abbrev pub DrivesAsked : {T : Type 0} → Option PlainGiven → code.Layer → ShownLink → code.Layer → ShownLink
+abbrev pub DrivesAsked : {T : Type 0} → Option PlainGiven → code.Layer → ShownLink → ℕ → code.Layer → ShownLink → ℕ
     → Result T LayerError → LayerRequest → Type 0
 DrivesAsked None = Drives
 DrivesAsked (Some g) = DrivesWith g

@@ -86,9 +86,9 @@ pub record IsGivenJoined (c : Settings) (g : PlainGiven) (w v : TwoLayers) (t : 
   pub back : v.back ≡ behind
 
 abbrev pub GivenIsJoined : Type 0
-GivenIsJoined = (c : Settings) (g : PlainGiven) (link : LinkStation) (w : TwoLayers) (request : LayerRequest)
-    (step : Step) → w.near.is_out ≡ false → waits link.outgoing ≤ 256
-    → gives c (station_with link w.near.layer) g request ≡ Did step →
+GivenIsJoined = (c : Settings) (g : PlainGiven) (link : LinkStation) (w : TwoLayers) (turn : ℕ)
+    (request : LayerRequest) (step : Step) → w.near.is_out ≡ false → waits link.outgoing ≤ 256
+    → gives c (station_with link w.near.layer turn) g request ≡ Did step →
     let move : Move = Requests (waits link.outgoing == 256) request in
     (pulled : List ℕ) × AreChannels c.channels pulled
     × IsGivenJoined c g w (moves_all (layer_settings c) w (move ∷ pulls_of pulled)) (alone link) w.back step

@@ -54,41 +54,41 @@ pub record IsJoined (c : Settings) (w v : TwoLayers) (t : Side) (behind : List P
 
 -- ---- the calls
 
-abbrev pub station_with : LinkStation → Layer → Station
-station_with link layer = record { link = link; layer = layer }
+abbrev pub station_with : LinkStation → Layer → ℕ → Station
+station_with link layer turn = record { link = link; layer = layer; turn = turn }
 
 -- an accepted command to the layer is its move, and then pulls; the link takes no step of its own
 abbrev pub RequestIsJoined : Type 0
-RequestIsJoined = (c : Settings) (link : LinkStation) (w : TwoLayers) (request : LayerRequest) (step : Step)
+RequestIsJoined = (c : Settings) (link : LinkStation) (w : TwoLayers) (turn : ℕ) (request : LayerRequest)
+    (step : Step)
     → w.near.is_out ≡ false → waits link.outgoing ≤ 256
-    → requests c (station_with link w.near.layer) request ≡ Did step →
+    → requests c (station_with link w.near.layer turn) request ≡ Did step →
     let move : Move = Requests (waits link.outgoing == 256) request in
     (pulled : List ℕ) × AreChannels c.channels pulled
     × IsJoined c w (moves_all (layer_settings c) w (move ∷ pulls_of pulled)) (alone link) w.back step
 
 -- octets that come, of which the link hands up a packet: the layer takes that packet, and then pulls
 abbrev pub ReceiveIsJoined : Type 0
-ReceiveIsJoined = (c : Settings) (link : LinkStation) (w : TwoLayers) (octets packet_octets : List ℕ)
+ReceiveIsJoined = (c : Settings) (link : LinkStation) (w : TwoLayers) (turn : ℕ) (octets packet_octets : List ℕ)
     (packet : PlainPacket) (back : List PlainPacket) → w.near.is_out ≡ false
-    → w.back ≡ packet ∷ back → abandons c (station_with link w.near.layer) ≡ false
+    → w.back ≡ packet ∷ back → abandons c (station_with link w.near.layer turn) ≡ false
     → (take_step (link_settings c) octets link).packet ≡ Some packet_octets
     → read_in c.wide (longest_user c.long_data) packet_octets ≡ Ok packet →
     (pulled : List ℕ) × AreChannels c.channels pulled
     × IsJoined c w (moves_all (layer_settings c) w (HandsUp ∷ pulls_of pulled))
-    (take_step (link_settings c) octets link).side back (receives c (station_with link w.near.layer) octets)
+    (take_step (link_settings c) octets link).side back (receives c (station_with link w.near.layer turn) octets)
 
 -- a step of the link that hands nothing up and notes nothing asks nothing of the layer
 abbrev pub QuietIsJoined : Type 0
-QuietIsJoined = (c : Settings) (l : Layer) (k : LinkStep) → k.packet ≡ None → IsQuiet k
-    → follows c l k ≡ record { near = station_with k.side.near l; out = k.side.out; entries = [] }
+QuietIsJoined = (c : Settings) (s : Station) (k : LinkStep) → k.packet ≡ None → IsQuiet k
+    → follows c s k ≡ record { near = station_with k.side.near s.layer s.turn; out = k.side.out; entries = [] }
 
 -- LinkDown alone: the layer drops everything but its counts, and nothing is put
 abbrev pub DownIsJoined : Type 0
-DownIsJoined = (c : Settings) (l : Layer) (k : LinkStep) (reason : Reason)
+DownIsJoined = (c : Settings) (s : Station) (k : LinkStep) (reason : Reason)
     → k.notes ≡ record { down = Some reason; up = false } →
-    follows c l k ≡ record {
-      near = station_with k.side.near
-          (rested l);
+    follows c s k ≡ record {
+      near = station_with k.side.near (rested s.layer) s.turn;
       out = k.side.out;
       entries = link_down reason ∷ [];
     }
@@ -100,5 +100,5 @@ pub record ComesUp (c : Settings) (k : LinkStep) (step : Step) : Type 0 where
   pub entries : step.entries ≡ entries_noted k.notes
 
 abbrev pub UpIsJoined : Type 0
-UpIsJoined = (c : Settings) (l : Layer) (k : LinkStep) → k.notes.up ≡ true → k.side.near ≡ fresh
-    → ComesUp c k (follows c l k)
+UpIsJoined = (c : Settings) (s : Station) (k : LinkStep) → k.notes.up ≡ true → k.side.near ≡ fresh
+    → ComesUp c k (follows c s k)

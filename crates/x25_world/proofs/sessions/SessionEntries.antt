@@ -4,7 +4,7 @@ use Rattle.x25_world.proofs.Names.{sym, ap, ap₂, ◌∙◌, subst, append_asso
 use Rattle.x25_world.proofs.Names.{PlainPacket, restart, restart_conf, channel_of, Answer, answers, LayerSettings, Layer, LayerNotice, is_channel, answers_on}
 use Rattle.x25_world.proofs.Names.{drops, answers_in, layer_answers, LayerRequest, Dials, Restarts, PullsAll, LayerOutcome, Accepted, Entry, name_of}
 use Rattle.x25_world.proofs.Names.{entries_asked, BeginsRestarted, confirmed, PlainBeside, nothing, fields, beside_in, Cfg, Settings, settings_from}
-use Rattle.x25_world.proofs.Names.{layer_settings, StationEntry, connect_asked, disconnect_asked, relink_asked, link_up, link_down, entries_noted}
+use Rattle.x25_world.proofs.Names.{layer_settings, Station, StationEntry, connect_asked, disconnect_asked, relink_asked, link_up, link_down, entries_noted}
 use Rattle.x25_world.proofs.Names.{layer_entries, layer_notices, follows, AtEnd, entered, Came, came_in, confirmed_in, Each, entry_of_end, entries_at, Progress}
 use Rattle.x25_world.proofs.Names.{none_begun, after_entry, after_entries, is_in, entry_if, session_from, first_of, met_by, meets, other, LinkStep, IsQuiet}
 use Rattle.x25_circuit.specs.Notice.{PlainNotice}
@@ -271,11 +271,11 @@ told_plain l (on_channel h notice ∷ notices) es plain = (tt, told_plain l noti
 told_plain l (other ∷ notices) es plain = (tt, told_plain l notices es plain)
 
 -- the entries of a packet that is handed up
-heard_entries : (c : Settings) (l : Layer) (k : LinkStep) (octets : List ℕ) → k.packet ≡ Some octets → IsQuiet k → (follows c l k).entries
-    ≡ entries_of_packet (layer_settings c) c.wide l octets
-heard_entries c l k octets some quiet =
-    ap (λ o. entries_noted k.notes ++ entries_heard (layer_settings c) c.wide l o k.notes.down k.notes.up) some
-    ∙ ap (λ n. entries_noted n ++ entries_heard (layer_settings c) c.wide l (Some octets) n.down n.up) quiet
+heard_entries : (c : Settings) (s : Station) (k : LinkStep) (octets : List ℕ) → k.packet ≡ Some octets → IsQuiet k → (follows c s k).entries
+    ≡ entries_of_packet (layer_settings c) c.wide s.layer octets
+heard_entries c s k octets some quiet =
+    ap (λ o. entries_noted k.notes ++ entries_heard (layer_settings c) c.wide s.layer o k.notes.down k.notes.up) some
+    ∙ ap (λ n. entries_noted n ++ entries_heard (layer_settings c) c.wide s.layer (Some octets) n.down n.up) quiet
 
 pub packet_plain : (c : LayerSettings) (wide : Bool) (l : Layer) (octets : List ℕ) → ArePlain (entries_of_packet c wide l octets)
 packet_plain c wide l octets =
@@ -283,8 +283,8 @@ packet_plain c wide l octets =
     told_plain a.next a.notices _ (behind_plain a.next (named_by octets) (confirmed_by c wide l a.next (named_by octets))
     _ (beside_plain (beside_in wide octets) (bringing a.notices)))
 
-pub heard_plain : (c : Settings) (l : Layer) (k : LinkStep) (octets : List ℕ) → k.packet ≡ Some octets → IsQuiet k → ArePlain (follows c l k).entries
-heard_plain c l k octets some quiet = subst ArePlain (sym (heard_entries c l k octets some quiet)) (packet_plain (layer_settings c) c.wide l octets)
+pub heard_plain : (c : Settings) (s : Station) (k : LinkStep) (octets : List ℕ) → k.packet ≡ Some octets → IsQuiet k → ArePlain (follows c s k).entries
+heard_plain c s k octets some quiet = subst ArePlain (sym (heard_entries c s k octets some quiet)) (packet_plain (layer_settings c) c.wide s.layer octets)
 
 -- ---- what is confirmed
 
@@ -321,22 +321,22 @@ behind_counts c true l next named es k name none = by (confirmed c l next named)
     by zero e = omega (arith, none k name)
     by (suc m) e = at (k == named) m e refl
 
-pub heard_confirms : (cfg : Cfg) (end : Role) (l : Layer) (k : LinkStep) (octets : List ℕ) (p : PlainPacket) → k.packet ≡ Some octets → IsQuiet k
+pub heard_confirms : (cfg : Cfg) (end : Role) (s : Station) (k : LinkStep) (octets : List ℕ) (p : PlainPacket) → k.packet ≡ Some octets → IsQuiet k
     → read_by cfg octets ≡ Ok p → (h : ℕ) (name : Name)
-    → (let c = layer_settings (settings_from end cfg) in confirmed_in h name (follows (settings_from end cfg) l k).entries
-    ≤ counted_at c h name l (layer_answers c l p).next)
-heard_confirms cfg end l k octets p some quiet reads h name =
+    → (let c = layer_settings (settings_from end cfg) in confirmed_in h name (follows (settings_from end cfg) s k).entries
+    ≤ counted_at c h name s.layer (layer_answers c s.layer p).next)
+heard_confirms cfg end s k octets p some quiet reads h name =
     let c = settings_from end cfg in
-    let a = layer_answer (layer_settings c) c.wide l octets in
+    let a = layer_answer (layer_settings c) c.wide s.layer octets in
     let es = entries_beside (beside_in c.wide octets) (bringing a.notices) in
-    let behind = entries_behind a.next (named_by octets) (confirmed_by (layer_settings c) c.wide l a.next (named_by octets)) es in
-    let entries = heard_entries c l k octets some quiet in
-    let answered : a ≡ layer_answers (layer_settings c) l p = ap (λ r. answer_to (layer_settings c) l octets r) reads in
-    let is : confirmed_in h name (follows c l k).entries ≡ confirmed_in h name behind =
+    let behind = entries_behind a.next (named_by octets) (confirmed_by (layer_settings c) c.wide s.layer a.next (named_by octets)) es in
+    let entries = heard_entries c s k octets some quiet in
+    let answered : a ≡ layer_answers (layer_settings c) s.layer p = ap (λ r. answer_to (layer_settings c) s.layer octets r) reads in
+    let is : confirmed_in h name (follows c s k).entries ≡ confirmed_in h name behind =
     ap (confirmed_in h name) entries ∙ told_counts a.next a.notices behind h name in
-    let low : confirmed_in h name behind ≤ counted_at (layer_settings c) h name l (layer_answers (layer_settings c) l p).next =
-    subst (λ x. confirmed_in h name behind ≤ counted_at (layer_settings c) h name l x.next) answered
-    (behind_counts (layer_settings c) c.wide l a.next (named_by octets) es h name (beside_counts (beside_in c.wide octets) (bringing a.notices))) in
+    let low : confirmed_in h name behind ≤ counted_at (layer_settings c) h name s.layer (layer_answers (layer_settings c) s.layer p).next =
+    subst (λ x. confirmed_in h name behind ≤ counted_at (layer_settings c) h name s.layer x.next) answered
+    (behind_counts (layer_settings c) c.wide s.layer a.next (named_by octets) es h name (beside_counts (beside_in c.wide octets) (bringing a.notices))) in
     omega (arith, is, low)
 
 -- ---- what came beside a packet
@@ -383,20 +383,20 @@ behind_told l h zero es brought told = told
 behind_told l h (suc count) es brought told = tt
 
 -- what is told of a packet that is handed up is what its octets bring, or nothing
-pub heard_beside : (cfg : Cfg) (end : Role) (l : Layer) (k : LinkStep) (octets : List ℕ) (p : PlainPacket) → k.packet ≡ Some octets → IsQuiet k
+pub heard_beside : (cfg : Cfg) (end : Role) (s : Station) (k : LinkStep) (octets : List ℕ) (p : PlainPacket) → k.packet ≡ Some octets → IsQuiet k
     → read_by cfg octets ≡ Ok p
-    → AreTold (came_in (follows (settings_from end cfg) l k).entries) (brought cfg (octets ∷ []))
-heard_beside cfg end l k octets p some quiet reads =
+    → AreTold (came_in (follows (settings_from end cfg) s k).entries) (brought cfg (octets ∷ []))
+heard_beside cfg end s k octets p some quiet reads =
     let c = settings_from end cfg in
-    let a = layer_answer (layer_settings c) c.wide l octets in
-    let entries = heard_entries c l k octets some quiet in
-    let answered : a ≡ layer_answers (layer_settings c) l p = ap (λ r. answer_to (layer_settings c) l octets r) reads in
+    let a = layer_answer (layer_settings c) c.wide s.layer octets in
+    let entries = heard_entries c s k octets some quiet in
+    let answered : a ≡ layer_answers (layer_settings c) s.layer p = ap (λ r. answer_to (layer_settings c) s.layer octets r) reads in
     let all : brought cfg (octets ∷ []) ≡ brought_as (Ok p) (beside_in c.wide octets) =
     append-nil (brought_by cfg octets) ∙ ap (λ r. brought_as r (beside_in c.wide octets)) reads in
-    let count = confirmed_by (layer_settings c) c.wide l a.next (named_by octets) in
+    let count = confirmed_by (layer_settings c) c.wide s.layer a.next (named_by octets) in
     let es = entries_beside (beside_in c.wide octets) (bringing a.notices) in
-    subst (λ xs. AreTold (came_in (follows c l k).entries) xs) (sym all)
+    subst (λ xs. AreTold (came_in (follows c s k).entries) xs) (sym all)
     (rw (ap came_in entries ∙ told_beside a.next a.notices (entries_behind a.next (named_by octets) count es))
     (behind_told a.next (named_by octets) count es (brought_as (Ok p) (beside_in c.wide octets))
     (brings_told p (beside_in c.wide octets) (bringing a.notices)
-    (λ h e. answer_on (layer_settings c) l p h (ap (λ x. bringing x.notices) (sym answered) ∙ e)))))
+    (λ h e. answer_on (layer_settings c) s.layer p h (ap (λ x. bringing x.notices) (sym answered) ∙ e)))))

@@ -101,7 +101,7 @@ module _ (act : Act) (laws : SessionLaws) (cfg : Cfg) (fine : IsConfigured cfg) 
   To u = Goes cfg end w act h.links gave_none u
 
   abbrev whole_step : Step
-  whole_step = led_by (lead_of lead) (follows ours w.near.layer k)
+  whole_step = led_by (lead_of lead) (follows ours w.near k)
 
   goes_at : (up : Bool) → k.notes.up ≡ up → k.packet ≡ None
       → SessionGoes (link_of cfg end) h.links v (begun_by up h.links.near.begun) k.side.near k.side.out [] [] left met
@@ -115,8 +115,8 @@ module _ (act : Act) (laws : SessionLaws) (cfg : Cfg) (fine : IsConfigured cfg) 
 
   quiet_step : AskedFor v → k.packet ≡ None → IsKept whole_step.near → IsQuiet k → To (after_step ours w (octets_of left) whole_step)
   quiet_step asked none kept quiet =
-      let is = laws.stations.quiet ours w.near.layer k none quiet in
-      let step : Step = record { near = station_with k.side.near w.near.layer; out = k.side.out; entries = lead_of lead ++ [] } in
+      let is = laws.stations.quiet ours w.near k none quiet in
+      let step : Step = record { near = station_with k.side.near w.near.layer w.near.turn; out = k.side.out; entries = lead_of lead ++ [] } in
       let same : step ≡ whole_step = ap (λ s. led_by (lead_of lead) s) (sym is) in
       subst (λ s. To (after_step ours w (octets_of left) s)) same
       (rests cfg end w h step left v met (goes_at false (ap (λ n. n.up) quiet) none)
@@ -126,8 +126,8 @@ module _ (act : Act) (laws : SessionLaws) (cfg : Cfg) (fine : IsConfigured cfg) 
   down_step : AskedFor v → k.packet ≡ None → IsKept whole_step.near → (reason : Reason) → k.notes ≡ record { down = Some reason; up = false }
       → To (after_step ours w (octets_of left) whole_step)
   down_step asked none kept reason noted =
-      let is = laws.stations.down ours w.near.layer k reason noted in
-      let step : Step = record { near = station_with k.side.near (rested w.near.layer); out = k.side.out; entries = lead_of lead ++ link_down reason ∷ [] } in
+      let is = laws.stations.down ours w.near k reason noted in
+      let step : Step = record { near = station_with k.side.near (rested w.near.layer) w.near.turn; out = k.side.out; entries = lead_of lead ++ link_down reason ∷ [] } in
       let same : step ≡ whole_step = ap (λ s. led_by (lead_of lead) s) (sym is) in
       let off = tells.left reason (ap (λ n. n.down) noted) (ap (λ n. n.up) noted) in
       subst (λ s. To (after_step ours w (octets_of left) s)) same
@@ -144,12 +144,12 @@ module _ (act : Act) (laws : SessionLaws) (cfg : Cfg) (fine : IsConfigured cfg) 
       by (Some reason) is = down_step asked none kept reason (ap₂ (λ d u. record { down = d; up = u }) is not_up)
 
   pub follows_up : ((handed : List (List ℕ)) → AskedFor (all_act (link_of cfg end) (puts_of handed) v)) → k.notes.up ≡ true → k.packet ≡ None
-      → IsKept (follows ours w.near.layer k).near
-      → To (after_step ours w (octets_of left) (follows ours w.near.layer k))
+      → IsKept (follows ours w.near k).near
+      → To (after_step ours w (octets_of left) (follows ours w.near k))
   follows_up asks up none kept =
       let c = settings_from end cfg in
-      let step = follows c w.near.layer k in
-      let u = laws.stations.up c w.near.layer k up (tells.fresh_up up) in
+      let step = follows c w.near k in
+      let u = laws.stations.up c w.near k up (tells.fresh_up up) in
       let packets = restart (restart_cause end) 0 ∷ [] in
       let handed = spelled packets in
       let p = puts_spelled u.link (restart_readable laws cfg fine end w h) in

@@ -1,4 +1,4 @@
--- What still waits in the circuits of two stations where both links are idle and a pull changes nothing.
+-- What still waits in the circuits of two stations where both links are idle and a pull gives nothing.
 use Rattle.std.specs.Prelude.{◌≡◌, ℕ, List, true, false, Some}
 use Rattle.x25_bits.specs.{declared.role.Role.{Role}, declared.role.Role.TheVariants.{Dte, Dce}}
 use Rattle.x25_link.specs.Hearing.{other}
@@ -33,11 +33,13 @@ abbrev pub AllWaitForUsers : Cfg → World → Type 0
 AllWaitForUsers cfg w = (end : Role) (channel : ℕ) (name : Name)
     → stretch (settings_from end cfg) (station_at end w) channel ≡ Some name → WaitsAlone cfg w end channel name
 
--- Where both links are idle and a pull at an end changes nothing, each stretch that is open there is so.
+-- Where both links are idle and a pull at an end gives nothing, so that its layer stays as it was, each stretch that is
+-- open there is so.
 abbrev pub MessagesWaitForUsers : Cfg → World → Type 0
 MessagesWaitForUsers cfg w =
-    (end : Role) (channel : ℕ) (name : Name) → link.is_idle (station_at end w).link ≡ true
-    → link.is_idle (station_at (other end) w).link ≡ true → happens cfg w (pull_at end) ≡ Happened w
+    (end : Role) (channel : ℕ) (name : Name) (pulled : World) → link.is_idle (station_at end w).link ≡ true
+    → link.is_idle (station_at (other end) w).link ≡ true → happens cfg w (pull_at end) ≡ Happened pulled
+    → (station_at end pulled).layer ≡ (station_at end w).layer
     → stretch (settings_from end cfg) (station_at end w) channel ≡ Some name → WaitsAlone cfg w end channel name
 
 -- a pull of any channel of an end gives no packet, where no restart is under way there

@@ -25,3 +25,6 @@ returns-clause-layer c = λ s l packet x fits put link. c.pull_all.ensures.layer
 
 pub returns-clause-link : goal.returns-clause-link
 returns-clause-link c = λ s l packet x fits put link. c.pull_all.ensures.link s (begin l packet) x fits (behind c packet x put link)
+
+pub returns-clause-turn : goal.returns-clause-turn
+returns-clause-turn c = λ s l packet x fits put link. c.pull_all.ensures.turn s (begin l packet) x fits (behind c packet x put link)

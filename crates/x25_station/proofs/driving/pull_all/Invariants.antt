@@ -9,10 +9,10 @@ invariant-loop-left l = record {
   longest : 4099 ≤ limit_of l.link;
   few : l.left ≤ 15;
   places : l.left ≤ places_left l.link.frames;
-  high : l.channel ≤ 4095;
+  high : l.channel ≤ 65535;
   within : (c : LayerSettings) (x : LinkState) (s : Putting) → FitsLayer c l.initial.layer s.layer → FitsWhole l.initial.link (after_all x s.put)
-      → Within c x s l.layer l.link l.channel l.left;
+      → Within c x l.initial.turn s l.layer l.link l.channel l.left;
 }
 
 abbrev pub decreases-loop-left : goal.decreases-loop-left
-decreases-loop-left l = l.left * 4096 + l.channel
+decreases-loop-left l = l.left * 65536 + l.channel

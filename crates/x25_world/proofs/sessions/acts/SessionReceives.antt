@@ -125,13 +125,13 @@ module _ (laws : SessionLaws) (cfg : Cfg) (fine : IsConfigured cfg) (end : Role)
     abbrev gone : Sessions
     gone = links.acts lc (line.Lose 0) (links.acts lc line.Abandon h.links)
 
-    abandoned : abandons ours w.near ≡ true → IsKept (follows ours w.near.layer (abandon_step lc w.near.link)).near
-        → To (after_step ours w back (follows ours w.near.layer (abandon_step lc w.near.link)))
+    abandoned : abandons ours w.near ≡ true → IsKept (follows ours w.near (abandon_step lc w.near.link)).near
+        → To (after_step ours w back (follows ours w.near (abandon_step lc w.near.link)))
     abandoned full kept =
         let c = link_of cfg end in
         let up : is_up w.near.link.phase ≡ true = (and_parts (is_up w.near.link.phase) (is_full (layer_settings ours) w.near.layer) full).0 in
         let k = abandon_step c w.near.link in
-        subst (λ os. To (after_step ours w os (follows ours w.near.layer k))) (ap (λ es. octets_of (remove es 0)) came.is ∙ came.left)
+        subst (λ os. To (after_step ours w os (follows ours w.near k))) (ap (λ es. octets_of (remove es 0)) came.is ∙ came.left)
         (follows_silent Receives laws cfg fine end w h no_command (remove h.links.back 0) k gone h.links.met h.pairs (λ n m has. has)
         (laws.stations.abandon_tells c w.near.link) (abandon_goes c h.links w.near.link h.near.link up)
         (record {
@@ -293,7 +293,7 @@ module _ (laws : SessionLaws) (cfg : Cfg) (fine : IsConfigured cfg) (end : Role)
             (own_first laws cfg end here there trace_on pair_on))
 
       abbrev step : Step
-      step = follows ours w.near.layer taken
+      step = follows ours w.near taken
 
       abbrev begin : layer.TwoLayers
       begin = apart.alone own_here (in_front.packet ∷ [])
@@ -309,11 +309,11 @@ module _ (laws : SessionLaws) (cfg : Cfg) (fine : IsConfigured cfg) (end : Role)
       joined_on none =
           let c = settings_from end cfg in
           let now = h.near.now up in
-          let j = laws.stations.receive c w.near.link begin octets packet_octets in_front.packet [] now.out refl
-          (ap (λ l. abandons c (station_with w.near.link l)) now.layer ∙ none) some in_front.reads in
-          let is : receives c (station_with w.near.link own_here.layer) octets ≡ step =
-          ap (λ l. receives c (station_with w.near.link l) octets) now.layer
-          ∙ ap (λ b. follows c w.near.layer (if b then abandon_step lc w.near.link else taken)) none in
+          let j = laws.stations.receive c w.near.link begin w.near.turn octets packet_octets in_front.packet [] now.out refl
+          (ap (λ l. abandons c (station_with w.near.link l w.near.turn)) now.layer ∙ none) some in_front.reads in
+          let is : receives c (station_with w.near.link own_here.layer w.near.turn) octets ≡ step =
+          ap (λ l. receives c (station_with w.near.link l w.near.turn) octets) now.layer
+          ∙ ap (λ b. follows c w.near (if b then abandon_step lc w.near.link else taken)) none in
           (j.0, subst (λ s. IsJoined c begin (world_on j.0) taken.side [] s) is j.2)
 
       joined_readable : (none : abandons ours w.near ≡ false) → AreReadable cfg.wide cfg.long_data (joined_on none).1.packets
@@ -335,7 +335,7 @@ module _ (laws : SessionLaws) (cfg : Cfg) (fine : IsConfigured cfg) (end : Role)
           let is : counted_by c k name own_here (Takes p) ≡ counted_at c k name w.near.layer (layer_answers c w.near.layer p).next =
           ap (λ gone. counted_at c k name own_here.layer (moves_in c (apart.alone own_here (p ∷ [])) gone HandsUp).near.layer) now.out
           ∙ ap (λ l. counted_at c k name l (layer_answers c l p).next) now.layer in
-          omega (arith, heard_confirms cfg end w.near.layer taken packet_octets p some quiet in_front.reads k name, is)
+          omega (arith, heard_confirms cfg end w.near taken packet_octets p some quiet in_front.reads k name, is)
 
       handed : abandons ours w.near ≡ false → IsKept step.near → To (after_step ours w (octets_of came.others) step)
       unfolding joined_on
@@ -351,8 +351,8 @@ module _ (laws : SessionLaws) (cfg : Cfg) (fine : IsConfigured cfg) (end : Role)
           joins laws cfg fine end w h step after_taken taken.side (world_on j.0) (moves j.0) j.1.packets (f.packet ∷ []) (f.packet ∷ []) (spelled j.1.packets)
           (packet_octets ∷ [])
           (ap (λ r. r ∷ []) f.reads) came.others goes_up_one up up_after (packets_put none) j.1.layer near takes
-          (heard_plain ours w.near.layer taken packet_octets some quiet) kept (tt, pulls_bring_octets cfg.wide end here j.0) (there, pair_on j.0)
-          (heard_beside cfg end w.near.layer taken packet_octets f.packet some quiet f.reads) gave_none
+          (heard_plain ours w.near taken packet_octets some quiet) kept (tt, pulls_bring_octets cfg.wide end here j.0) (there, pair_on j.0)
+          (heard_beside cfg end w.near taken packet_octets f.packet some quiet f.reads) gave_none
           (rw (spelled_bring laws.stations cfg j.1.packets (joined_readable none)) tt) (counts_taken j.0 quiet)
           (asks_taken (spelled j.1.packets)) (λ nothing. absurd (cc)) (pairs_on j.0) met_taken.more
           (λ first. inr (record {
@@ -364,12 +364,12 @@ module _ (laws : SessionLaws) (cfg : Cfg) (fine : IsConfigured cfg) (end : Role)
 
     -- ---- all that may come
 
-    takes_joined : abandons ours w.near ≡ false → IsKept (follows ours w.near.layer taken).near
-        → To (after_step ours w (octets_of came.others) (follows ours w.near.layer taken))
+    takes_joined : abandons ours w.near ≡ false → IsKept (follows ours w.near taken).near
+        → To (after_step ours w (octets_of came.others) (follows ours w.near taken))
     takes_joined none kept = by taken.notes.up taken.packet refl refl
       where
         by : (up : Bool) (o : Option (List ℕ)) → taken.notes.up ≡ up → taken.packet ≡ o
-            → To (after_step ours w (octets_of came.others) (follows ours w.near.layer taken))
+            → To (after_step ours w (octets_of came.others) (follows ours w.near taken))
         by true None up is =
             follows_up Receives laws cfg fine end w h no_command came.others taken after_taken after_taken.met met_taken.pairs met_taken.more
             (laws.stations.take_tells lc octets w.near.link) goes_taken asks_taken up is kept
@@ -384,7 +384,7 @@ module _ (laws : SessionLaws) (cfg : Cfg) (fine : IsConfigured cfg) (end : Role)
     came_joined = by (abandons ours w.near) refl (laws.stations.receive_keeps ours w.near octets h.near.kept)
       where
         step : Bool → Step
-        step b = follows ours w.near.layer (if b then abandon_step lc w.near.link else taken)
+        step b = follows ours w.near (if b then abandon_step lc w.near.link else taken)
 
         by : (b : Bool) → abandons ours w.near ≡ b → IsKept (step b).near → To (after_step ours w back (step b))
         by true is kept = abandoned is kept

@@ -199,8 +199,8 @@ module _ (laws : SessionLaws) (cfg : Cfg) (fine : IsConfigured cfg) (end : Role)
       let c = settings_from end cfg in
       let granted = did_granted c w.near request step is in
       let now = h.near.now granted.is_up in
-      let j = laws.stations.request c w.near.link (apart.alone own_now []) request step now.out h.near.kept.few
-      (ap (λ l. requests c (station_with w.near.link l) request) now.layer ∙ is) in
+      let j = laws.stations.request c w.near.link (apart.alone own_now []) w.near.turn request step now.out h.near.kept.few
+      (ap (λ l. requests c (station_with w.near.link l w.near.turn) request) now.layer ∙ is) in
       record {
         channels = j.0;
         packets = j.2.packets;
@@ -237,8 +237,8 @@ module _ (laws : SessionLaws) (cfg : Cfg) (fine : IsConfigured cfg) (end : Role)
       let c = settings_from end cfg in
       let granted = gave_granted c w.near g request step is in
       let now = h.near.now granted.is_up in
-      let j = laws.stations.given c g w.near.link (apart.alone own_now []) request step now.out h.near.kept.few
-      (ap (λ l. gives c (station_with w.near.link l) g request) now.layer ∙ is) in
+      let j = laws.stations.given c g w.near.link (apart.alone own_now []) w.near.turn request step now.out h.near.kept.few
+      (ap (λ l. gives c (station_with w.near.link l w.near.turn) g request) now.layer ∙ is) in
       let taken = and_parts c.wide (may_give g && suits g request) granted.is_taken in
       let may = and_parts (may_give g) (suits g request) taken.1 in
       let first = subst (λ l. FirstMayGo g (channel_for (layer_of cfg end) l request) j.2.packets) now.layer

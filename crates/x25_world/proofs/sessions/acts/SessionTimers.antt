@@ -124,12 +124,12 @@ module _ (laws : SessionLaws) {cfg : Cfg} (fine : IsConfigured cfg) {end : Role}
       → (links.acts lc act h.links).near.begun ≡ h.links.near.begun → IsTimely lc (link_of cfg (other end)) act h.links
       → (IsReceiptOrRequest asking → ⊥) → Asks asking act → (step w.near.link).packet ≡ None
       → (refusal w.near.link ≡ None → Tells w.near.link (step w.near.link))
-      → KeptBy (unless (refusal w.near.link) (led_by (lead_of lead) (follows ours w.near.layer (step w.near.link))))
-      → To asking (after w (of_station ours w (unless (refusal w.near.link) (led_by (lead_of lead) (follows ours w.near.layer (step w.near.link))))))
+      → KeptBy (unless (refusal w.near.link) (led_by (lead_of lead) (follows ours w.near (step w.near.link))))
+      → To asking (after w (of_station ours w (unless (refusal w.near.link) (led_by (lead_of lead) (follows ours w.near (step w.near.link))))))
   act_joined lead {asking} act refusal step is same timely never asks none tells = by (refusal w.near.link) refl
     where
       done : Step
-      done = led_by (lead_of lead) (follows ours w.near.layer (step w.near.link))
+      done = led_by (lead_of lead) (follows ours w.near (step w.near.link))
 
       by : (o : Option LinkError) → refusal w.near.link ≡ o → KeptBy (unless o done) → To asking (after w (of_station ours w (unless o done)))
       by (Some e) refused kept = stays h gave_none
@@ -168,10 +168,10 @@ module _ (laws : SessionLaws) {cfg : Cfg} (fine : IsConfigured cfg) {end : Role}
 
   -- set-up is asked for, by a command or not
   connecting : (lead : Lead)
-      → KeptBy (unless (connect_refusal w.near.link.phase) (led_by (lead_of lead) (follows ours w.near.layer (connect_step lc w.near.link))))
+      → KeptBy (unless (connect_refusal w.near.link.phase) (led_by (lead_of lead) (follows ours w.near (connect_step lc w.near.link))))
       → To (Commands Connects)
       (after w (of_station ours w (unless (connect_refusal w.near.link.phase)
-      (led_by (lead_of lead) (follows ours w.near.layer (connect_step lc w.near.link))))))
+      (led_by (lead_of lead) (follows ours w.near (connect_step lc w.near.link))))))
   connecting lead =
       act_joined lead line.Connect (λ s. connect_refusal s.phase) (connect_step lc) refl (laws.hands lc lc (line.Near line.Connect) h.links).0.begun tt
       (λ are. are) tt refl (λ accepted. laws.stations.connect_tells lc w.near.link (connects_in_down w.near.link.phase accepted))
@@ -205,7 +205,7 @@ module _ (laws : SessionLaws) {cfg : Cfg} (fine : IsConfigured cfg) {end : Role}
       k = relink_step c w.near.link
 
       step : Step
-      step = led_by (relink_asked ∷ []) (follows ours w.near.layer k)
+      step = led_by (relink_asked ∷ []) (follows ours w.near k)
 
       by : (o : Option LinkError) → relink_refusal w.near.link.phase ≡ o → To (Commands Relinks) (after w (of_station ours w (unless o step)))
       by (Some e) is = stays h gave_none

@@ -1,4 +1,4 @@
--- Where both links are idle, and a pull at the one end changes nothing, what waits in an open stretch there waits for the user at the other end.
+-- Where both links are idle, and a pull at the one end gives nothing, what waits in an open stretch there waits for the user at the other end.
 use Rattle.x25_world.proofs.Names.{◌≡◌, ℕ, ◌+◌, ◌<◌, inr, List, [], ◌∷◌, ◌++◌, length, Bool, true, false, Some, None, if◌then◌else◌, ◌==◌, ◌&&◌, refl, sym, ap}
 use Rattle.x25_world.proofs.Names.{subst, ◌∙◌, arith, length-append, eqb-true, and_parts, Role, Dte, Dce, PlainPacket, other, LinkStation, is_up, Meeting}
 use Rattle.x25_world.proofs.Names.{IdleHasArrived, is_open, waits, Name, Ranges, Layer, is_channel, PullsAll, outcome_in, layer_outcome, LinkView, AlwaysApart}
@@ -20,7 +20,7 @@ use Rattle.x25_layer.specs.declared.error.LayerError.TheVariants as error
 use Rattle.x25_layer.specs.laws.TwoLayers as layer
 use Rattle.x25_layer.specs.laws.WaitLaw as wait
 
--- ---- a pull that changes nothing
+-- ---- a pull that gives nothing
 
 -- a link that is idle has room
 idle_has_room : (s : LinkStation) → link.is_idle s ≡ true → outgoing.waits s.outgoing < 8
@@ -34,14 +34,14 @@ abbrev layer_after : Layer → WorldOutcome → Layer
 layer_after l (Happened w) = w.near.layer
 layer_after l (Declined e) = l
 
-had_nothing : StillPullsNone → (c : Settings) (w : World) → link.is_idle w.near.link ≡ true → of_station c w (requests c w.near PullsAll) ≡ Happened w
-    → PullsNone (layer_settings c) w.near.layer
-had_nothing law c w idle still = by _ (calls (view_of (link_settings c) w.near.link) (layer_settings c) w.near.layer PullsAll) refl still
+had_nothing : StillPullsNone → (c : Settings) (w v : World) → link.is_idle w.near.link ≡ true → of_station c w (requests c w.near PullsAll) ≡ Happened v
+    → v.near.layer ≡ w.near.layer → PullsNone (layer_settings c) w.near.layer
+had_nothing law c w v idle goes still = by _ (calls (view_of (link_settings c) w.near.turn w.near.link) (layer_settings c) w.near.layer PullsAll) refl goes
   where
-    by : (entries : List StationEntry) (a : Answered) → calls (view_of (link_settings c) w.near.link) (layer_settings c) w.near.layer PullsAll ≡ a
-        → of_station c w (did c (alone w.near.link) entries a) ≡ Happened w
+    by : (entries : List StationEntry) (a : Answered) → calls (view_of (link_settings c) w.near.turn w.near.link) (layer_settings c) w.near.layer PullsAll ≡ a
+        → of_station c w (did c (alone w.near.link) entries a) ≡ Happened v
         → PullsNone (layer_settings c) w.near.layer
-    by entries (Went s) is same = law (view_of (link_settings c) w.near.link) (layer_settings c) w.near.layer s is (ap (λ o. layer_after w.near.layer o) same)
+    by entries (Went s) is same = law (view_of (link_settings c) w.near.turn w.near.link) (layer_settings c) w.near.layer s is (ap (λ o. layer_after w.near.layer o) same ∙ still)
         (idle_has_room w.near.link idle)
     by entries (Refuses e) is same = absurd (cc)
 
@@ -160,17 +160,18 @@ module _ (laws : SessionLaws) (waits_law : LayersWait) {cfg : Cfg} (fine : IsCon
       shows of_giver of_taker channel opened named (wait.NotReady both not) down up =
           (there_too of_giver of_taker channel named both, NotReady (ap (λ l. (l.circuits k).talk.own_ready) (sym of_taker) ∙ not))
 
-swapped_is : (o : WorldOutcome) (w : World) → swapped_back o ≡ Happened w → o ≡ Happened (mirrored w)
-swapped_is (Happened v) w is = ap (λ u. swapped_back u) is
-swapped_is (Declined e) w is = absurd (cc)
+swapped_is : (o : WorldOutcome) (v : World) → swapped_back o ≡ Happened v → o ≡ Happened (mirrored v)
+swapped_is (Happened u) v is = ap (λ x. swapped_back x) is
+swapped_is (Declined e) v is = absurd (cc)
 
 module _ (laws : SessionLaws) (waits_law : LayersWait) (still_law : StillPullsNone) {cfg : Cfg} (fine : IsConfigured cfg) where
   pub messages_wait : (w : World) → SessionsJoined cfg Dte w → MessagesWaitForUsers cfg w
-  messages_wait w h Dte k name idle idle_there still here =
-      waits_from laws waits_law fine h k name idle idle_there (had_nothing still_law (settings_from Dte cfg) w idle still) here
-  messages_wait w h Dce k name idle idle_there still here =
-      let same = swapped_is (of_station (settings_from Dce cfg) (mirrored w) (requests (settings_from Dce cfg) w.far PullsAll)) w still in
-      waits_from laws waits_law fine (sessions_swapped h) k name idle idle_there (had_nothing still_law (settings_from Dce cfg) (mirrored w) idle same) here
+  messages_wait w h Dte k name v idle idle_there goes still here =
+      waits_from laws waits_law fine h k name idle idle_there (had_nothing still_law (settings_from Dte cfg) w v idle goes still) here
+  messages_wait w h Dce k name v idle idle_there goes still here =
+      let back = swapped_is (of_station (settings_from Dce cfg) (mirrored w) (requests (settings_from Dce cfg) w.far PullsAll)) v goes in
+      waits_from laws waits_law fine (sessions_swapped h) k name idle idle_there
+      (had_nothing still_law (settings_from Dce cfg) (mirrored w) (mirrored v) idle back still) here
 
 -- ---- a circuit that isn't open
 
@@ -243,7 +244,7 @@ near_left : RoundsLeaveNone → (c : Settings) (w : World)
 near_left law c w idle ready = by_up _ (is_up w.near.link.phase) refl idle ready
   where
     view : LinkView
-    view = view_of (link_settings c) w.near.link
+    view = view_of (link_settings c) w.near.turn w.near.link
 
     Left : List StationEntry → Answered → Type 0
     Left entries a = let v = after w (of_station c w (did c (alone w.near.link) entries a)) in link.is_idle v.near.link ≡ true → v.near.layer.restarting

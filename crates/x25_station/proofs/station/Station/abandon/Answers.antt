@@ -10,7 +10,7 @@ invariant_of-self c = record {
       let step : Step = receives c' s c.args.octets.now in (
         c',
         step.near,
-        fits_down c' fits.same _ _ s.layer k step _ (ap (λ (x : Step). x.near) (gives_up c' s c.args.octets.now (c.requires.full c' s fits)))
+        fits_down c' fits.same _ _ s fits.turned k step _ (ap (λ (x : Step). x.near) (gives_up c' s c.args.octets.now (c.requires.full c' s fits)))
             (ap (λ n. n.down) (c.abandon-heard.ensures.heard (link_settings c') s.link fits.link).notes)
             (taken_link (link_settings c') c.abandon-heard.new.self c.swap_frames.new.self k.side.near (ap (λ l. l.station) c.swap_frames.ensures.link)
             (c.abandon-heard.ensures.state (link_settings c') s.link fits.link))
@@ -25,7 +25,7 @@ returns-clause-does c = record {
   state = λ c' s fits.
       let k : LinkStep = abandon_step (link_settings c') s.link in
       let step : Step = receives c' s c.args.octets.now in
-      fits_down c' fits.same _ _ s.layer k step _ (ap (λ (x : Step). x.near) (gives_up c' s c.args.octets.now (c.requires.full c' s fits)))
+      fits_down c' fits.same _ _ s fits.turned k step _ (ap (λ (x : Step). x.near) (gives_up c' s c.args.octets.now (c.requires.full c' s fits)))
       (ap (λ n. n.down) (c.abandon-heard.ensures.heard (link_settings c') s.link fits.link).notes)
       (taken_link (link_settings c') c.abandon-heard.new.self c.swap_frames.new.self k.side.near (ap (λ l. l.station) c.swap_frames.ensures.link)
       (c.abandon-heard.ensures.state (link_settings c') s.link fits.link))
@@ -34,12 +34,12 @@ returns-clause-does c = record {
       (c.steps_keep_bounds.ensures.receive c' s c.args.octets.now fits.kept);
   frames = λ c' s fits.
       let k : LinkStep = abandon_step (link_settings c') s.link in
-      frames_down c' s.layer k _ (receives c' s c.args.octets.now) (gives_up c' s c.args.octets.now (c.requires.full c' s fits))
+      frames_down c' s k _ (receives c' s c.args.octets.now) (gives_up c' s c.args.octets.now (c.requires.full c' s fits))
       (c.swap_frames.ensures.frames ∙ c.abandon-heard.ensures.frames (link_settings c') s.link fits.link);
   entries = λ c' s fits.
       let k : LinkStep = abandon_step (link_settings c') s.link in
       let heard = c.abandon-heard.ensures.heard (link_settings c') s.link fits.link in
-      entries_noted_down s.layer k [] _ _ (receives c' s c.args.octets.now) (gives_up c' s c.args.octets.now (c.requires.full c' s fits))
+      entries_noted_down s k [] _ _ (receives c' s c.args.octets.now) (gives_up c' s c.args.octets.now (c.requires.full c' s fits))
       (ap (λ n. n.down) heard.notes)
       (c.note_down.ensures.entries ∙ ap (λ es. es ++ entries_down c.abandon-heard.result.notes.down) c.requires.empty.entries);
   refused = λ c' s fits. tt;

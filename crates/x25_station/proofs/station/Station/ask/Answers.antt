@@ -58,7 +58,7 @@ returns-in-Ok-clause-does c =
     c.steps_keep_bounds.ensures.request c.steps_keep_bounds.ensures.given c.holds_few.ensures.window c.holds_few.ensures.stand
     (sym (c.may_ask.ensures c.args.channel) ∙ c.if-not-may_ask.false)
     (λ c' s fits.
-    enters_asked c.in-Ok.field-0 (given_with c.args.given) c' c.args.self.now.link c.ask.new.link c.args.self.now.layer c.ask.new.layer s r c.args.channel
+    enters_asked c.ask.new.turn c.in-Ok.field-0 (given_with c.args.given) c' c.args.self.now.link c.ask.new.link c.args.self.now.layer c.ask.new.layer s r c.args.channel
     (plain_request c.args.request) fits c.in-Ok.ensures (sym (c.may_ask.ensures c.args.channel) ∙ c.if-not-may_ask.false)
     (λ k after configured brief. c.enter_asked.ensures (layer_settings c') k after configured brief))
     refl

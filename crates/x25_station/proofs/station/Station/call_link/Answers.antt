@@ -9,15 +9,15 @@ use Rattle.x25_station.proofs.station.Station.call_link.Goals as goal
 
 -- what it does where the link doesn't refuse it
 abbrev does : LinkCall → Settings → Station → Step
-does call c s = led_by (entries_asked call) (follows c s.layer (step_of_call call (link_settings c) s.link))
+does call c s = led_by (entries_asked call) (follows c s (step_of_call call (link_settings c) s.link))
 
 pub invariant_of-self : goal.invariant_of-self
 invariant_of-self c = record {
   meant = still_meant _ _ _ _ c.args.self.now.meant (λ c' s fits.
       let k = step_of_call c.args.call (link_settings c') s.link in
-      leaves_some c' _ _ (calls_link c.args.call c' s)
-      (leaves_down c' fits.same _ _ (link_refusal c.args.call s.link) s.layer k (does c.args.call c' s) _
-      (ap (λ (x : Step). x.near) (call_down c.args.call c' s.layer s.link))
+      leaves_some c' _ _ _ (calls_link c.args.call c' s)
+      (leaves_down c' fits.same _ _ c.args.self.now.turn (link_refusal c.args.call s.link) s fits.turned k (does c.args.call c' s) _
+      (ap (λ (x : Step). x.near) (call_down c.args.call c' s s.link))
       (ap (λ n. n.down) (c.in-Ok.ensures.heard (link_settings c') s.link fits.link).notes)
       (taken_link (link_settings c') c.answer_of.new.link c.swap_frames.new.self k.side.near (ap (λ l. l.station) c.swap_frames.ensures.link)
       (c.in-Ok.ensures.state (link_settings c') s.link fits.link))
@@ -29,7 +29,7 @@ invariant_of-self c = record {
 
 pub invariant_of-self-in-Err-1 : goal.invariant_of-self-in-Err-1
 invariant_of-self-in-Err-1 c = record {
-  meant = subst (λ l. AreMeant c.args.self.now.manner l c.args.self.now.layer) (sym c.in-Err.ensures.err)
+  meant = subst (λ l. AreMeant c.args.self.now.manner l c.args.self.now.layer c.args.self.now.turn) (sym c.in-Err.ensures.err)
       c.args.self.now.meant;
 }
 
@@ -39,8 +39,8 @@ returns-in-Ok-clause-does c =
     record {
       state = λ c' s fits.
           let k = step_of_call c.args.call (link_settings c') s.link in
-          leaves_down c' fits.same _ _ (link_refusal c.args.call s.link) s.layer k (does c.args.call c' s) _
-          (ap (λ (x : Step). x.near) (call_down c.args.call c' s.layer s.link))
+          leaves_down c' fits.same _ _ c.args.self.now.turn (link_refusal c.args.call s.link) s fits.turned k (does c.args.call c' s) _
+          (ap (λ (x : Step). x.near) (call_down c.args.call c' s s.link))
           (ap (λ n. n.down) (c.in-Ok.ensures.heard (link_settings c') s.link fits.link).notes)
           (taken_link (link_settings c') c.answer_of.new.link c.swap_frames.new.self k.side.near (ap (λ l. l.station) c.swap_frames.ensures.link)
           (c.in-Ok.ensures.state (link_settings c') s.link fits.link))
@@ -50,12 +50,12 @@ returns-in-Ok-clause-does c =
       frames = λ c' s fits.
           let k = step_of_call c.args.call (link_settings c') s.link in
           sends_unless c' r (link_refusal c.args.call s.link) (does c.args.call c' s)
-          (frames_down c' s.layer k _ (follows c' s.layer k) (call_down c.args.call c' s.layer s.link)
+          (frames_down c' s k _ (follows c' s k) (call_down c.args.call c' s s.link)
           (c.swap_frames.ensures.frames ∙ c.in-Ok.ensures.frames (link_settings c') s.link fits.link));
       entries = λ c' s fits.
           let k = step_of_call c.args.call (link_settings c') s.link in
           enters_unless r (link_refusal c.args.call s.link) (does c.args.call c' s)
-          (entries_noted_down s.layer k (entries_asked c.args.call) _ _ (follows c' s.layer k) (call_down c.args.call c' s.layer s.link)
+          (entries_noted_down s k (entries_asked c.args.call) _ _ (follows c' s k) (call_down c.args.call c' s s.link)
           (ap (λ n. n.down) (c.in-Ok.ensures.heard (link_settings c') s.link fits.link).notes)
           (c.note_down.ensures.entries ∙ ap (λ es. es ++ entries_down c.in-Ok.heard.notes.down) c.enter_call.ensures));
       refused = λ c' s fits.
@@ -71,7 +71,7 @@ pub returns-in-Err-clause-does : goal.returns-in-Err-clause-does
 returns-in-Err-clause-does c = declines c.args.self.now _ _ _ (calls_link c.args.call)
     (λ c' s fits. refused Heard Unit c.in-Err.error _ (link_refusal c.args.call s.link) (does c.args.call c' s) (call_named c.args.call s.link)
     c.of_link.ensures (c.in-Err.ensures.refused (link_settings c') s.link fits.link))
-    (λ c' s fits. subst (λ l. FitsParts c' c.args.self.now.manner l c.args.self.now.layer s) (sym c.in-Err.ensures.err) fits)
+    (λ c' s fits. subst (λ l. FitsParts c' c.args.self.now.manner l c.args.self.now.layer c.args.self.now.turn s) (sym c.in-Err.ensures.err) fits)
     c.requires
 
 pub returns-in-Ok-clause-only : goal.returns-in-Ok-clause-only

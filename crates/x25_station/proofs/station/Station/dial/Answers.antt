@@ -61,7 +61,7 @@ returns-in-Ok c = record {
       c.steps_keep_bounds.ensures.request c.steps_keep_bounds.ensures.given c.holds_few.ensures.window c.holds_few.ensures.stand
       (sym (c.may_dial.ensures c.args.called.now c.args.calling.now c.args.user.now c.args.proposal.now) ∙ c.if-not-may_dial.false)
       (λ c' s fits.
-      enters_dialled (given_with c.args.given) c' c.args.self.now.link c.call.new.link c.args.self.now.layer c.call.new.layer s r c.in-Ok.channel
+      enters_dialled c.call.new.turn (given_with c.args.given) c' c.args.self.now.link c.call.new.link c.args.self.now.layer c.call.new.layer s r c.in-Ok.channel
       c.args.called.now c.args.calling.now c.args.user.now c.args.proposal.now fits c.in-Ok.ensures.does
       (sym (c.may_dial.ensures c.args.called.now c.args.calling.now c.args.user.now c.args.proposal.now) ∙ c.if-not-may_dial.false)
       (c.in-Ok.ensures.channel (layer_settings c') s.layer fits.layer)

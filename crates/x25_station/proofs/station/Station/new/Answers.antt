@@ -9,6 +9,7 @@ invariant_of-result c = record {
     record {
       link = c.in-Ok.ensures.state;
       layer = c.in-Ok-with.ensures.fits;
+      turned = refl;
       kept = record { few = omega arith; rests = λ is. refl };
       sent = c.in-Ok.ensures.no_frames;
       same = refl;

@@ -9,8 +9,8 @@ invariant_of-self c = record {
     c',
     (pulled c' s).near,
     pulls_fit c' _ c.swap_frames.new.self _ s _ fits (ap (λ l. l.station) c.swap_frames.ensures.link) c.pull.result c.pull.new.link c.swap_frames-2.new.self
-        _ c.pull.ensures.layer c.pull.ensures.link c.pull.ensures.missing
-        (c.pull.ensures.layer_stays (layer_settings c') s.layer fits.layer) c.pull.ensures.link_stays (ap (λ l. l.station) c.swap_frames-2.ensures.link)
+        _ _ c.pull.ensures.layer c.pull.ensures.link c.pull.ensures.turns c.pull.ensures.missing
+        (c.pull.ensures.layer_stays (layer_settings c') s.layer fits.layer) c.pull.ensures.link_stays c.pull.ensures.turn_stays (ap (λ l. l.station) c.swap_frames-2.ensures.link)
         (ap (λ l. l.frames) c.swap_frames-2.ensures.link ∙ c.swap_frames.ensures.frames ∙ fits.sent)
         (c.steps_keep_bounds.ensures.request c' s PullsAll fits.kept),
   ));
@@ -20,8 +20,8 @@ pub returns : goal.returns
 returns c = record {
   state = λ c' s fits.
       pulls_fit c' _ c.swap_frames.new.self _ s _ fits (ap (λ l. l.station) c.swap_frames.ensures.link) c.pull.result c.pull.new.link c.swap_frames-2.new.self
-      _ c.pull.ensures.layer c.pull.ensures.link c.pull.ensures.missing
-      (c.pull.ensures.layer_stays (layer_settings c') s.layer fits.layer) c.pull.ensures.link_stays (ap (λ l. l.station) c.swap_frames-2.ensures.link)
+      _ _ c.pull.ensures.layer c.pull.ensures.link c.pull.ensures.turns c.pull.ensures.missing
+      (c.pull.ensures.layer_stays (layer_settings c') s.layer fits.layer) c.pull.ensures.link_stays c.pull.ensures.turn_stays (ap (λ l. l.station) c.swap_frames-2.ensures.link)
       (ap (λ l. l.frames) c.swap_frames-2.ensures.link ∙ c.swap_frames.ensures.frames ∙ fits.sent)
       (c.steps_keep_bounds.ensures.request c' s PullsAll fits.kept);
   frames = λ c' s fits.

@@ -1,4 +1,6 @@
 use Rattle.x25_station.proofs.Names.{◌≡◌, ◌-◌, ◌≤◌, length, option_copied, arith, ap, sym, ◌∙◌, LinkStep, take_step, FitsWhole, up_of, Notes, link_settings}
+use Rattle.x25_station.proofs.Names.{ℕ, subst}
+use Rattle.x25_station.specs.{Receiving.{PutsBehind}, Step.{layer_at}}
 use Rattle.x25_layer.specs.Full.{IsNotFull}
 use Rattle.x25_station.proofs.{FrameLemmas.{few_heard}, Names.{layer_settings, CanPut, kept_of, all_put, receives}, OutcomeLemmas.{still_meant}}
 use Rattle.x25_station.proofs.TakeLemmas.{up_can_put, handed_can_put, handed_was_up, put_by_meaning, least_by_meaning, up_by_meaning, few_made, if_some}
@@ -41,14 +43,18 @@ invariant_of-self-2 c = record {
       let k : LinkStep = take_step lk c.args.octets.now s.link in
       let heard = c.hear-heard.ensures.heard lk s.link fits.link in
       let whole : FitsWhole c.hear-heard.new.self (kept_of lk k.side) =
-      record { link = c.hear-heard.ensures.state lk s.link fits.link; kept = c.hear-heard.ensures.frames lk s.link fits.link } in (
+      record { link = c.hear-heard.ensures.state lk s.link fits.link; kept = c.hear-heard.ensures.frames lk s.link fits.link } in
+      let puts = (subst (λ (at : ℕ). PutsBehind c.args.self.now.layer c.hear-heard.new.self at c.follow.new.layer c.follow.new.link c.follow.new.turn
+      (λ view cc l. layer_at view cc c.args.self.now.manner.wide l (option_copied c.hear-heard.result.packet) c.hear-heard.result.notes.down
+      c.hear-heard.result.notes.up)) fits.turned c.follow.ensures.puts) in (
         c',
         (receives c' s c.args.octets.now).near,
         took_fits c' fits.same s c.args.octets.now (option_copied c.hear-heard.result.packet) c.hear-heard.result.notes c.follow.new.link
             c.swap_frames.new.self c.follow.new.layer
             (not_abandoned c' s (c.is_up.ensures.state (link_settings c') s.link fits.link) (c.full.ensures.value (layer_settings c') s.layer fits.layer)
             c.if-is_up-full.false) (heard.packet, heard.notes)
-            (c.follow.ensures.puts.link c' s.layer k.side fits.layer whole) (c.follow.ensures.puts.layer c' s.layer k.side fits.layer whole)
+            (puts.link c' s.layer k.side fits.layer whole) (puts.layer c' s.layer k.side fits.layer whole)
+            (puts.turns c' s.layer k.side fits.layer whole)
             (ap (λ l. l.station) c.swap_frames.ensures.link) (ap (λ l. l.frames) c.swap_frames.ensures.link ∙ c.clear.ensures.frames)
             (c.steps_keep_bounds.ensures.receive c' s c.args.octets.now fits.kept),
       ));
@@ -62,10 +68,14 @@ returns-clause-does c = record {
       let heard = c.hear-heard.ensures.heard lk s.link fits.link in
       let whole : FitsWhole c.hear-heard.new.self (kept_of lk k.side) =
       record { link = c.hear-heard.ensures.state lk s.link fits.link; kept = c.hear-heard.ensures.frames lk s.link fits.link } in
+      let puts = (subst (λ (at : ℕ). PutsBehind c.args.self.now.layer c.hear-heard.new.self at c.follow.new.layer c.follow.new.link c.follow.new.turn
+      (λ view cc l. layer_at view cc c.args.self.now.manner.wide l (option_copied c.hear-heard.result.packet) c.hear-heard.result.notes.down
+      c.hear-heard.result.notes.up)) fits.turned c.follow.ensures.puts) in
       took_fits c' fits.same s c.args.octets.now (option_copied c.hear-heard.result.packet) c.hear-heard.result.notes c.follow.new.link c.swap_frames.new.self
       c.follow.new.layer (not_abandoned c' s (c.is_up.ensures.state (link_settings c') s.link fits.link)
       (c.full.ensures.value (layer_settings c') s.layer fits.layer) c.if-is_up-full.false) (heard.packet, heard.notes)
-      (c.follow.ensures.puts.link c' s.layer k.side fits.layer whole) (c.follow.ensures.puts.layer c' s.layer k.side fits.layer whole)
+      (puts.link c' s.layer k.side fits.layer whole) (puts.layer c' s.layer k.side fits.layer whole)
+      (puts.turns c' s.layer k.side fits.layer whole)
       (ap (λ l. l.station) c.swap_frames.ensures.link) (ap (λ l. l.frames) c.swap_frames.ensures.link ∙ c.clear.ensures.frames)
       (c.steps_keep_bounds.ensures.receive c' s c.args.octets.now fits.kept);
   frames = λ c' s fits.
@@ -74,7 +84,10 @@ returns-clause-does c = record {
       let heard = c.hear-heard.ensures.heard lk s.link fits.link in
       let whole : FitsWhole c.hear-heard.new.self (kept_of lk k.side) =
       record { link = c.hear-heard.ensures.state lk s.link fits.link; kept = c.hear-heard.ensures.frames lk s.link fits.link } in
-      let link = c.follow.ensures.puts.link c' s.layer k.side fits.layer whole in
+      let puts = (subst (λ (at : ℕ). PutsBehind c.args.self.now.layer c.hear-heard.new.self at c.follow.new.layer c.follow.new.link c.follow.new.turn
+      (λ view cc l. layer_at view cc c.args.self.now.manner.wide l (option_copied c.hear-heard.result.packet) c.hear-heard.result.notes.down
+      c.hear-heard.result.notes.up)) fits.turned c.follow.ensures.puts) in
+      let link = puts.link c' s.layer k.side fits.layer whole in
       c.swap_frames.ensures.frames
       ∙ took_sends c' fits.same s c.args.octets.now (option_copied c.hear-heard.result.packet) c.hear-heard.result.notes
       _ (not_abandoned c' s (c.is_up.ensures.state (link_settings c') s.link fits.link) (c.full.ensures.value (layer_settings c') s.layer fits.layer)
@@ -98,8 +111,11 @@ returns-clause-does c = record {
       let k : LinkStep = take_step lk c.args.octets.now s.link in
       let whole : FitsWhole c.hear-heard.new.self (kept_of lk k.side) =
       record { link = c.hear-heard.ensures.state lk s.link fits.link; kept = c.hear-heard.ensures.frames lk s.link fits.link } in
+      let puts = (subst (λ (at : ℕ). PutsBehind c.args.self.now.layer c.hear-heard.new.self at c.follow.new.layer c.follow.new.link c.follow.new.turn
+      (λ view cc l. layer_at view cc c.args.self.now.manner.wide l (option_copied c.hear-heard.result.packet) c.hear-heard.result.notes.down
+      c.hear-heard.result.notes.up)) fits.turned c.follow.ensures.puts) in
       let step = put_behind c' c.args.self.now.manner.wide s k (option_copied c.hear-heard.result.packet) c.hear-heard.result.notes in
-      let link = c.follow.ensures.puts.link c' s.layer k.side fits.layer whole in
+      let link = puts.link c' s.layer k.side fits.layer whole in
       let few = few_heard lk c.args.octets.now s.link step.put (c.holds_few.ensures.window lk c.args.self.now.link s.link fits.link)
       (c.holds_few.ensures.stand lk c.args.self.now.link s.link fits.link).place_low in
       few_made c'.role c.follow.new.link.frames (all_put lk step.put k.side).out 9 link.kept few) in
