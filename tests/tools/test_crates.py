@@ -61,6 +61,7 @@ class Lemmas(unittest.TestCase):
         ("x25_given", "x25_packet"): {"AddressLaws", "AgainLaws", "FacilityLemmas"},
         ("x25_line", "x25_link"): {"EndLemmas"},
         ("x25_station", "x25_link"): {"FrameCount"},
+        ("x25_clock", "x25_station"): {"UnheardLemmas"},
         ("x25_peer", "x25_line"): {"Meetings", "PeerSessionRuns", "SessionSays", "SessionSeenRuns"},
         ("x25_world", "x25_peer"): {"Granted", "LinkSteps", "ReadLemmas", "SessionLayers"},
         ("x25_world", "x25_line"): {"HealingSteps", "Lists", "Meetings", "SessionLines", "SessionsForgotten"},

@@ -15,6 +15,7 @@ import support
 import silent_runs
 from silent_runs import ENDS, OTHER
 from x25tools.piped import Station
+from x25tools.x25lines import fcs
 
 RUNS = 4
 # What leads to each state of a circuit, asked of the end that hears less, or of the other one; and what can be asked there.
@@ -93,6 +94,53 @@ class Heals(silent_runs.Run):
         return [[entry[-4:] for entry in end.entries if " message " in entry] for end in (dte, dce)]
 
 
+class Twins:
+    """A station with a clock, and one without, whose user asks in the place of each time what is due then: both have to say the same."""
+
+    LINES = {"T1": "t1 {0}", "T3": "{0} probe", "T20": "{0} relink", "T10": "{0} relink", "T23": "{0} restart", "T13": "{0} restart"}
+
+    def __init__(self, timed, plain):
+        self.timed, self.plain, self.passed = timed, plain, []
+
+    def begin(self):
+        self.timed.begin()
+        self.plain.begin()
+
+    def __exit__(self, *_):
+        self.timed.__exit__()
+        self.plain.__exit__()
+
+    def ask(self, event, now=None):
+        answer = self.timed.ask(event, now)
+        passed = [notice for notice in answer.notices if " timeout " in notice]
+        self.passed += passed
+        is_time = event.startswith("@ ")
+        said = [self.plain.ask(line) for line in (map(self.line_for, passed) if is_time else [event])]
+        told = [(one.notices, one.frames, one.refusal) for one in said]
+        notices, frames, refusals = map(list, zip(*told)) if told else ([], [], [None])
+        kept = [notice for notice in answer.notices if notice not in passed]
+        is_idle = said[-1].is_idle if said else answer.is_idle
+        if (kept, answer.frames, answer.refusal, answer.is_idle) != (sum(notices, []), sum(frames, []), refusals[-1], is_idle):
+            raise silent_runs.Failed(f"{event}: {answer}, and without a clock {said}")
+        return answer
+
+    def line_for(self, notice):
+        """The line of a user for a timer that has passed."""
+        end, _, timer, *channel = notice.split(" ")
+        return self.LINES.get(timer, "{0} clear {1}").format(end, *(word.removeprefix("ch=") for word in channel))
+
+
+class Twofold(silent_runs.Run):
+    """Each end is twins, and no answer of packets comes to one of them from some moment on."""
+
+    def __init__(self, program, seed):
+        super().__init__(program, seed)
+        self.kinds = set(silent_runs.PACKETS)
+        words = ["--channels", str(silent_runs.CHANNELS), "--n2", str(self.N2)]
+        for end in self.ends.values():
+            end.station = Twins(end.station, Station(program, end.name, words))
+
+
 @support.needs_station
 class SilentPeers(unittest.TestCase):
     def test_nothing_is_awaited_for_ever(self):
@@ -103,6 +151,15 @@ class SilentPeers(unittest.TestCase):
             for asked in STATES[state][1]:
                 with self.subTest(deaf=deaf, kind=kind, state=state, asked=asked):
                     self.assertEqual(Leaves(support.PROGRAM, deaf, kind, state, asked).play(), {})
+
+    def test_a_clock_asks_what_a_user_would(self):
+        passed = set()
+        for seed in range(RUNS):
+            with self.subTest(seed):
+                run = Twofold(support.PROGRAM, seed)
+                run.play()
+                passed.update(notice.split(" ")[2] for end in run.ends.values() for notice in end.station.passed)
+        self.assertLessEqual({"T1", "T3", "T20", "T21"}, passed)
 
     def test_it_is_where_a_timer_is_for_ever(self):
         for kind, why in ((NoT1, "awaits link|hears nothing since"), (NoT3, "hears nothing since"), (AsksNothing, "awaits (restart|call|reset|clear|fault) on channel")):
@@ -116,6 +173,52 @@ class SilentPeers(unittest.TestCase):
                 run = Heals(support.PROGRAM, seed)
                 self.assertEqual(run.play(), [messages] * 2)
                 self.assertTrue(all(any("timeout T1" in entry for entry in end.entries) for end in run.ends.values()))
+
+
+def sent(octets):
+    """The line of a frame of the DCE."""
+    return "< " + (octets + fcs(octets)).hex()
+
+
+# The answers to SABM, RESTART and polls; what sets the link up, so that a DTE is at rest.
+POLLED = sent(b"\x01\x31")
+SET_UP = ("dte connect", sent(b"\x01\x73"), sent(b"\x03\x00\x10\x00\xfb\x07\x00"), sent(b"\x01\x21"))
+NOISE = {"an octet": "< 03", "a damaged frame": "< 03010000", "another address": sent(b"\x07\x01"), "an answer to nothing": sent(b"\x01\x21")}
+
+
+@support.needs_station
+class OtherEnds(unittest.TestCase):
+    """Beside a DTE whose other end is played, in counted time."""
+
+    @staticmethod
+    def set_up(station):
+        return [station.ask(line) for line in SET_UP][-1]
+
+    def test_a_full_queue_has_an_end(self):
+        with Station(support.PROGRAM, "dte", ["--clock", "--channels", "300"]) as station:
+            self.set_up(station)
+            answer = [station.ask("dte call 1 2 -") for _ in range(264)][-1]
+            self.assertEqual(answer.refusal, "! 10")
+            told = []
+            # Each poll is answered, and no call is acknowledged.
+            while not told and answer.due is not None:
+                now = answer.due
+                answer = station.ask(f"@ {now}")
+                told = [notice for notice in answer.notices if " timeout T1" not in notice]
+                if not told and any(frame.octets[1] & 0x13 == 0x11 for frame in answer.frames):
+                    answer = station.ask(POLLED)
+        self.assertEqual((now, told[:3]), (200_000, ["dte timeout T21 ch=38", "dte relink", "dte linkdown local"]))
+
+    def test_no_noise_hides_a_dead_line(self):
+        for kind, line in NOISE.items():
+            with self.subTest(kind), Station(support.PROGRAM, "dte", ["--clock", "--t1", "1000", "--t3", "18000", "--n2", "3"]) as station:
+                answer, now, tick = self.set_up(station), 0, 17_000
+                while "dte linkdown retries" not in answer.notices and now < 100_000:
+                    now = min(answer.due, tick)
+                    answer = station.ask(f"@ {now}")
+                    if now == tick:
+                        answer, tick = station.ask(line), tick + 17_000
+                self.assertLessEqual(now, 18_000 + (3 + 1) * 1000)
 
 
 # What leads a bridge to each state, asked of it or of the station at the other end, and what it tells then; `hush` keeps the other end's

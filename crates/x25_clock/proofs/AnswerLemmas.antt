@@ -43,7 +43,7 @@ module _ (c : Settings) (h : ℕ) where
       let o : Outcome = outcome_of c deed w in
       let next : 2 ≤ rank c (done c times deed w).station h =
       subst (λ (s : Station). 2 ≤ rank c (timer.after s o) h) (sym (found_station times deed w))
-      (behind w.station o high (told c w.station h (event_of deed) high) untold.1) in
+      (behind w.station o high (told c w.station h (event_of c deed w.station) high) untold.1) in
       (high, untold.0, all_awaited told times deeds (done c times deed w) next untold.2)
 
 pub answer_is_told : EndIsTold → NothingWaits → AnswerIsTold

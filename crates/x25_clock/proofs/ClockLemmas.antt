@@ -128,14 +128,14 @@ module _ (c : Settings) (times : Times) where
   happens_true w more event (Did step) h = record {
     t1 = t1_runs times w.now more (runs w.station) (runs step.near)
         (timer.is_firing event || (tells_link step.entries || is_acknowledged w.station.link step.near.link)) w.deadlines.t1 h.t1;
-    idle = runs_on w.now more times.t3 (is_at_rest w.station) (is_at_rest step.near) (seen_of c w.station event (Did step)).come w.deadlines.idle h.idle;
+    idle = runs_on w.now more times.t3 (is_at_rest w.station) (is_at_rest step.near) (seen_of c w.station event (Did step)).heard w.deadlines.idle h.idle;
     restart = runs_on w.now more times.t20 w.station.layer.restarting step.near.layer.restarting (tells_link step.entries) w.deadlines.restart h.restart;
     waits = waits_true times w.now more (awaited_by w.station) (awaited_by step.near) w.deadlines.waits h.waits;
     channels = waits_channels times w.now more (awaited_by step.near) w.deadlines.waits ∙ h.channels;
   }
   happens_true w more event (Refused e) h = record {
     t1 = t1_stands times w.now more (runs w.station) w.deadlines.t1 h.t1;
-    idle = runs_on w.now more times.t3 (is_at_rest w.station) (is_at_rest w.station) (seen_of c w.station event (Refused e)).come w.deadlines.idle h.idle;
+    idle = runs_on w.now more times.t3 (is_at_rest w.station) (is_at_rest w.station) (seen_of c w.station event (Refused e)).heard w.deadlines.idle h.idle;
     restart = runs_on w.now more times.t20 w.station.layer.restarting w.station.layer.restarting false w.deadlines.restart h.restart;
     waits = waits_true times w.now more (awaited_by w.station) (awaited_by w.station) w.deadlines.waits h.waits;
     channels = waits_channels times w.now more (awaited_by w.station) w.deadlines.waits ∙ h.channels;

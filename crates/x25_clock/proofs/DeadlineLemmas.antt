@@ -46,7 +46,7 @@ or_t1 (Some what) = what
 
 -- ---- a moment that isn't too late
 
-some_deadline : (now time : ℕ) → 0 < time → now + time < 2 ^ 64 → deadline now time ≡ Some (now + time)
+pub some_deadline : (now time : ℕ) → 0 < time → now + time < 2 ^ 64 → deadline now time ≡ Some (now + time)
 some_deadline now time set small =
     ap (λ (b : Bool). if b then None else if nat_lt (now + time) (2 ^ 64) then Some (now + time) else None) (is_set (time == 0) refl)
     ∙ ap (λ (b : Bool). if b then Some (now + time) else None) (lt-ltb (now + time) (2 ^ 64) small)

@@ -2,6 +2,9 @@ pub mod Names
 pub mod ListLemmas
 pub mod ListedLemmas
 pub mod ClockLemmas
+pub mod AskLemmas
+pub mod FullLemmas
+pub mod NoiseLemmas
 pub mod DeadlineLemmas
 pub mod WaitLemmas
 pub mod AnswerLemmas

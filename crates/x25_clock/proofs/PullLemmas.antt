@@ -2,8 +2,11 @@
 use Rattle.x25_clock.proofs.Names.{◌≡◌, ℕ, ◌+◌, ◌==◌, List, [], ◌∷◌, map, Bool, true, false, not, ◌||◌, if◌then◌else◌, Option, Some, None, refl, sym, ap, ◌∙◌}
 use Rattle.x25_clock.proofs.Names.{arith, true≢false, eq-eqb, le-ltb, Awaits, LinkStation, awaited_at, Settings, layer_settings, Station, is_at_rest, Step}
 use Rattle.x25_clock.proofs.Names.{Outcome, Did, Refused, runs, tells_link, is_acknowledged, timer_of, IsSettled, Times, Wait, Deadlines, deadline, time_of}
-use Rattle.x25_clock.proofs.Names.{number_of, t1_after, running, wait_after, heeded, Watched, seen_of, heeds, comes, Happens, IsAsked, event_of, found_by, done}
-use Rattle.x25_clock.{proofs.WaitLemmas.{after_channel}, specs.Clock.{Seen}, specs.laws.PullLaw.{seen_pulled, pull, PullIsHeeded}}
+use Rattle.x25_clock.proofs.Names.{number_of, t1_after, running, wait_after, heeded, Watched, seen_of, heeds, comes, Happens, IsAsked, event_of, found_by, done, ◌++◌}
+use Rattle.std.proofs.Common.{append-nil}
+use Rattle.x25_clock.{proofs.NoiseLemmas.{pulled_rests}, proofs.WaitLemmas.{after_channel}, specs.Clock.{Seen, is_heard}}
+use Rattle.x25_clock.specs.laws.PullLaw.{seen_pulled, pull, PullIsHeeded}
+use Rattle.x25_frame.specs.Frame.{PlainFrame}
 use Rattle.x25_layer.specs.Calls.{PullsAll}
 use Rattle.x25_station.specs.{Command.{Requests}, Entry.{StationEntry}, Pulling.{pulled, pulled_of}, Step.{requests}, Timer.{pulled_timer}}
 use Rattle.x25_station.specs.{declared.timer.Timer.{Timer}, laws.SettledLaw.{GoesOn, PullsGoOn}}
@@ -30,6 +33,19 @@ running_twice true true true old (Some moment) goes = refl
 running_twice true true false None None goes = refl
 running_twice true true false None (Some moment) goes = refl
 running_twice true true false (Some moment) new goes = refl
+
+-- what doesn't come isn't heard
+pub none_heard : (frames : List PlainFrame) (entries : List StationEntry) → is_heard false frames entries ≡ false
+none_heard [] [] = refl
+none_heard [] (e ∷ entries) = refl
+none_heard (frame ∷ frames) entries = refl
+
+-- where the link is at rest behind what is pulled, nothing was
+heard_alike : (is come : Bool) (out more : List PlainFrame) (entries : List StationEntry) (old new : Option ℕ) → (is ≡ true → more ≡ [])
+    → running is (is_heard come out entries) old new ≡ running is (is_heard come (out ++ more) entries) old new
+heard_alike false come out more entries old new none = refl
+heard_alike true come out more entries old new none =
+    ap (λ (xs : List PlainFrame). running true (is_heard come xs entries) old new) (sym (ap (λ (ys : List PlainFrame). out ++ ys) (none refl) ∙ append-nil out))
 
 -- what is awaited is heeded already
 wait_twice : (times : Times) (now : ℕ) (a : Awaits) (w : Wait) → wait_after times now a (wait_after times now a w) ≡ wait_after times now a w
@@ -80,39 +96,47 @@ module _ (c : Settings) (times : Times) (now : ℕ) (s : Station) (event : timer
   abbrev became : Timer
   became = timer.timer s event (Did step)
 
+  abbrev heard : Bool
+  heard = is_heard (comes event) step.out step.entries
+
   abbrev awaited : Station → ℕ → Awaits
   awaited t h = awaited_at (layer_settings c) t.layer h
 
-  abbrev seen_both : Station → Seen
-  seen_both next = record {
+  abbrev seen_both : Station → List PlainFrame → Seen
+  seen_both next more = record {
     timer = pulled_timer became (runs step.near) (runs next);
     at_rest = is_at_rest next;
     restarting = next.layer.restarting;
     noted = tells_link step.entries;
-    come = comes event;
+    heard = is_heard (comes event) (step.out ++ more) step.entries;
     awaited = awaited next;
   }
 
   behind : (o : Outcome) → GoesOn c step.near (pulled_of step.near o)
+      → (is_at_rest (pulled_of step.near o).near ≡ true → (pulled_of step.near o).out ≡ [])
       → heeded times now (seen_of c step.near (timer.Asks (Requests PullsAll)) o) (heeded times now (seen_of c s event (Did step)) d)
-      ≡ heeded times now (seen_both (pulled_of step.near o).near) d
-  behind (Did p) goes =
+      ≡ heeded times now (seen_both (pulled_of step.near o).near (pulled_of step.near o).out) d
+  behind (Did p) goes silent =
       let quiet : (tells_link p.entries || is_acknowledged step.near.link p.near.link) ≡ false =
       ap (λ (es : List StationEntry). tells_link es || is_acknowledged step.near.link p.near.link) goes.told
       ∙ same_acked step.near.link p.near.link goes.acked in
       same_parts _ _
       (ap (λ (b : Bool). t1_after times now (timer_of (runs p.near) (not (runs step.near) || b)) (t1_after times now became d.t1)) quiet
       ∙ t1_twice times now became (runs step.near) (runs p.near) d.t1)
-      (running_twice (is_at_rest step.near) (is_at_rest p.near) (comes event) d.idle (deadline now times.t3) goes.rests)
+      (ap (λ (b : Bool). running (is_at_rest p.near) b (running (is_at_rest step.near) heard d.idle (deadline now times.t3)) (deadline now times.t3))
+      (none_heard p.out p.entries)
+      ∙ running_twice (is_at_rest step.near) (is_at_rest p.near) heard d.idle (deadline now times.t3) goes.rests
+      ∙ heard_alike (is_at_rest p.near) (comes event) step.out p.out step.entries d.idle (deadline now times.t3) silent)
       (ap (λ (es : List StationEntry). running p.near.layer.restarting (tells_link es)
       (running step.near.layer.restarting (tells_link step.entries) d.restart (deadline now times.t20)) (deadline now times.t20)) goes.told
       ∙ running_twice step.near.layer.restarting p.near.layer.restarting (tells_link step.entries) d.restart (deadline now times.t20)
       (λ is. sym goes.restarting ∙ is))
       (waits_twice times now (awaited step.near) (awaited p.near) d.waits goes.awaits)
-  behind (Refused e) goes =
+  behind (Refused e) goes silent =
       same_parts _ _
       (t1_still times now became (runs step.near) d.t1)
-      (running_twice (is_at_rest step.near) (is_at_rest step.near) (comes event) d.idle (deadline now times.t3) (λ is. is))
+      (running_twice (is_at_rest step.near) (is_at_rest step.near) heard d.idle (deadline now times.t3) (λ is. is)
+      ∙ heard_alike (is_at_rest step.near) (comes event) step.out [] step.entries d.idle (deadline now times.t3) (λ is. refl))
       (running_twice step.near.layer.restarting step.near.layer.restarting (tells_link step.entries) d.restart (deadline now times.t20) (λ is. is))
       (waits_twice times now (awaited step.near) (awaited step.near) d.waits (λ h. refl))
 
@@ -144,7 +168,7 @@ module _ (goes : PullsGoOn) (c : Settings) (times : Times) (now : ℕ) (s : Stat
       ap (λ (t : Station). let w : Watched = record { station = t; deadlines = heeded times now (seen_pulled c s event step) d; now = now } in w)
       (after_pulled step.near o)
       ∙ ap (λ (e : Deadlines). let w : Watched = record { station = timer.after step.near o; deadlines = e; now = now } in w)
-      (sym (behind c times now s event step d o (goes c step.near settled)))
+      (sym (behind c times now s event step d o (goes c step.near settled) (pulled_rests c step.near settled)))
       ∙ sym (ap at_moment back)
 
 pub pull_is_heeded : PullsGoOn → PullIsHeeded
@@ -154,6 +178,6 @@ pull_is_heeded goes c times (Happens later event) step w settled is =
     ∙ sym (ap (λ (o : Outcome). done c times pull (heeds c times (w.now + later) event o found)) is)
 pull_is_heeded goes c times (IsAsked later due) step w settled is =
     let found : Watched = found_by times (IsAsked later due) w in
-    let event : timer.StationEvent = event_of (IsAsked later due) in
+    let event : timer.StationEvent = event_of c (IsAsked later due) w.station in
     done_both goes c times (w.now + later) w.station event step found.deadlines settled
     ∙ sym (ap (λ (o : Outcome). done c times pull (heeds c times (w.now + later) event o found)) is)

@@ -6,9 +6,9 @@ pub silent_peer_is_left : SilentPeerIsLeft
 unfolding pumped
 silent_peer_is_left = record {
   obeys = (
-    (refl, omega arith),
+    refl,
     omega arith,
-    ((refl, omega arith), omega arith, ((refl, omega arith), omega arith, tt)),
+    (refl, omega arith, (refl, omega arith, tt)),
   );
   awaits = (omega arith, refl, (omega arith, refl, omega arith));
   now = refl;

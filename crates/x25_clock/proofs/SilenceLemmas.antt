@@ -1,15 +1,17 @@
 -- One who asks at once what is due hears nothing no longer than the times say.
 use Rattle.x25_clock.proofs.Names.{◌≡◌, ℕ, suc, ◌+◌, ◌^◌, ◌<◌, ◌≤◌, ◌⊎◌, inl, inr, List, [], ◌∷◌, Bool, true, false, not, ◌||◌, if◌then◌else◌, Option, Some}
-use Rattle.x25_clock.proofs.Names.{None, refl, sym, ap, subst, ◌∙◌, arith, true≢false, le-ltb, and_parts, none-some, Phase, Down, Waiting, Up, Closed}
+use Rattle.x25_clock.proofs.Names.{None, refl, sym, ap, subst, ◌∙◌, arith, true≢false, le-ltb, and_parts, none-some, Phase, Waiting, Up}
 use Rattle.x25_clock.proofs.Names.{LinkStation, is_up, Settings, Station, is_at_rest, Step, Outcome, Did, Refused, runs, timer_of, tells_link, is_acknowledged}
 use Rattle.x25_clock.proofs.Names.{IsSettled, Due, Times, Wait, Deadlines, deadline, is_past, sooner, running, t1_after, heeded, next_of, overdue_of, unless_on}
-use Rattle.x25_clock.proofs.Names.{due_of, renewed_on, after_due, Moment, Watched, watched_by, watched_from, seen_of, watched, comes, IsSince, AreTrue, Deed}
+use Rattle.x25_clock.proofs.Names.{due_of, renewed_on, after_due, Moment, Watched, watched_by, watched_from, seen_of, watched, IsSince, AreTrue, Deed}
 use Rattle.x25_clock.proofs.Names.{Happens, IsAsked, later_by, event_of, outcome_of, done, all_done, IsFounded, IsNotPast, AreObeyed, tells}
 use Rattle.std.proofs.{Common.{◌-◌, ◌*◌}, Math.Nat.{suc-mul}, lemmas.Nat.{mul-le}}
-use Rattle.x25_clock.proofs.{ClockLemmas.{deadlines_are_true}, DeadlineLemmas.{past_first, past_second, first_past, Ends, begins_at, end_in_time, or_t1}}
-use Rattle.x25_clock.{proofs.WaitLemmas.{asks}, specs.laws.SilenceLaw.{IsSilent, longest_silence, SilenceEnds, IsIdle, IdleIsAsked}}
+use Rattle.x25_clock.proofs.{ClockLemmas.{deadlines_are_true}, DeadlineLemmas.{past_first, past_second, first_past, some_deadline, Ends, begins_at, end_in_time, or_t1}}
+use Rattle.x25_clock.{proofs.NoiseLemmas.{noise_rests, nothing_at}, proofs.PullLemmas.{none_heard}, proofs.WaitLemmas.{asks}, specs.Due.{asked_of, event_for}}
+use Rattle.x25_clock.specs.laws.{ClockLaw.{hears}, SilenceLaw.{IsSilent, longest_silence, SilenceEnds, IsIdle, IdleIsAsked, IsQuiet}}
+use Rattle.x25_clock.specs.laws.SilenceLaw.{AreUnheard, IdleIsSinceHeard, NoiseIsUnheard}
 use Rattle.x25_link.specs.Link.{is_idle, timer_runs, timer_step, probe_refusal}
-use Rattle.x25_station.specs.{Config.{link_settings}, Step.{follows, unless}, laws.SettledLaw.{SettledBy, NewIsSettled, StaysSettled, SettledAsks}}
+use Rattle.x25_station.specs.{Config.{link_settings}, Step.{follows, receives, unless}, laws.SettledLaw.{SettledBy, NewIsSettled, StaysSettled, SettledAsks}}
 use Rattle.x25_station.specs.laws.UnheardLaw.{MayAsk, IsUnheard, takes, TakesTries, AsksOn, UnheardAsksOn}
 use Rattle.x25_link.specs.declared.error.LinkError.TheVariants as link_error
 use Rattle.x25_station.specs.laws.TimerLaw as timer
@@ -142,9 +144,17 @@ refused_behind bound times now more false rest come t1 idle on quiet by =
 waits_runs : (s : LinkStation) → s.phase ≡ Waiting → timer_runs s.phase s ≡ true
 waits_runs s is = ap (λ (p : Phase). timer_runs p s) is
 
-quiet_event : (s : Station) (event : timer.StationEvent) → IsUnheard s event → runs s ≡ false → comes event ≡ false
-quiet_event s (timer.Comes octets) is off = absurd (true≢false (sym (waits_runs s.link is) ∙ off))
-quiet_event s event is off = refl
+quiet_event : (s : Station) (event : timer.StationEvent) (step : Step) → IsUnheard s event → runs s ≡ false → hears event (Did step) ≡ false
+quiet_event s (timer.Comes octets) step is off = absurd (true≢false (sym (waits_runs s.link is) ∙ off))
+quiet_event s event step is off = none_heard step.out step.entries
+
+-- what is due is no octets that come
+due_unheard : (s : Station) (d : Due) → IsUnheard s (event_for d)
+due_unheard s due.T1 = tt
+due_unheard s due.Probe = tt
+due_unheard s (due.Clear h) = tt
+due_unheard s (due.Restart h) = tt
+due_unheard s due.Relink = tt
 
 one_firing : (event : timer.StationEvent) → timer.is_firing event ≡ true → takes event ≡ 1
 one_firing timer.Fires is = refl
@@ -188,7 +198,8 @@ deed_settled : Silent → (c : Settings) (times : Times) → c.window ≤ 7 → 
 deed_settled laws c times most (Happens later event) w settled =
     settled_after c w.station (timer.outcome c w.station event) settled (laws.stays c w.station event most settled)
 deed_settled laws c times most (IsAsked later what) w settled =
-    settled_after c w.station (timer.outcome c w.station (asks what)) settled (laws.stays c w.station (asks what) most settled)
+    (let event : timer.StationEvent = asks c w.station what in
+    settled_after c w.station (timer.outcome c w.station event) settled (laws.stays c w.station event most settled))
 
 module _ (c : Settings) (times : Times) (phase : Phase) (bound : ℕ) (may : MayAsk phase) (set : 0 < times.t1) (small : bound < 2 ^ 64) where
   abbrev left : Station → ℕ
@@ -210,9 +221,9 @@ module _ (c : Settings) (times : Times) (phase : Phase) (bound : ℕ) (may : May
       λ is. (let count : takes event ≡ 1 = one_firing event is in
       let more : s.link.tries + 1 ≤ n = subst (λ (k : ℕ). s.link.tries + k ≤ n) count took.tries in
       one_try (c.retries - n) (c.retries - s.link.tries) times.t1 (fewer s.link.tries n c.retries more (took.few count))) in
-      behind times bound set small now (left s) (left step.near) d.t1 d.idle (is_at_rest step.near) (comes event) (timer.is_firing event) (runs s)
+      behind times bound set small now (left s) (left step.near) d.t1 d.idle (is_at_rest step.near) (hears event (Did step)) (timer.is_firing event) (runs s)
       (runs step.near) (tells_link step.entries) (is_acknowledged s.link step.near.link) quiet
-      (same_acked s.link step.near.link took.acked) took.goes_on on late by_t1 by_idle (quiet_event s event unheard)
+      (same_acked s.link step.near.link took.acked) took.goes_on on late by_t1 by_idle (quiet_event s event step unheard)
       (less_tries (c.retries - n) (c.retries - s.link.tries) times.t1 fewer_tries) one
 
   -- an event, by its outcome
@@ -225,7 +236,7 @@ module _ (c : Settings) (times : Times) (phase : Phase) (bound : ℕ) (may : May
       (λ is fired. subst (λ (r : Bool). IsBy bound times r (left s) d.t1 d.idle) is by)
       (λ is off. subst (λ (r : Bool). IsBy bound times r (left s) d.t1 d.idle) is by)
   event_by now s d event (Refused e) took before after unheard quiet late by =
-      refused_behind bound times now (left s) (runs s) (is_at_rest s) (comes event) d.t1 d.idle before.on (quiet_event s event unheard) by
+      refused_behind bound times now (left s) (runs s) (is_at_rest s) false d.t1 d.idle before.on (λ off. refl) by
 
   -- ---- what is due is asked
 
@@ -238,7 +249,7 @@ module _ (c : Settings) (times : Times) (phase : Phase) (bound : ℕ) (may : May
     e = after_due times (w.now + later) w.deadlines
 
     abbrev Then : Due → Outcome → Type 0
-    Then what o = (let x : Deadlines = heeded times (w.now + later) (seen_of c s (asks what) o) e in
+    Then what o = (let x : Deadlines = heeded times (w.now + later) (seen_of c s (asks c s what) o) e in
         IsBy bound times (runs (timer.after s o)) (left (timer.after s o)) x.t1 x.idle)
 
     -- T1 fires where it runs
@@ -263,47 +274,81 @@ module _ (c : Settings) (times : Times) (phase : Phase) (bound : ℕ) (may : May
         (subst (λ (r : Bool). IsBy bound times r (left s) e.t1 e.idle) (sym on) (subst (λ (x : Option ℕ). Ends bound x (left s)) (sym same) was))
     polls_by Up is may same step took after quiet =
         let behind : TakesTries c s step.near 1 = took quiet (after.phase ∙ sym before.phase) in
-        did_by (w.now + later) s e (asks due.Probe) step behind tt quiet after.on late
+        did_by (w.now + later) s e (asks c s due.Probe) step behind tt quiet after.on late
         (λ on fired. subst (λ (x : Option ℕ). Ends bound x (left s)) (sym same)
         (subst (λ (r : Bool). IsBy bound times r (left s) w.deadlines.t1 w.deadlines.idle) on by))
         (λ off no. absurd (true≢false (sym (behind.asked refl) ∙ no)))
     polls_by p is may same step took after quiet = absurd may
 
-    asked_by : (what : Due) → (let o : Outcome = timer.outcome c s (asks what) in IsOn phase (timer.after s o) → tells o ≡ false → IsUnheard s (asks what)
+    asked_by : (what : Due) → (let o : Outcome = timer.outcome c s (asks c s what) in IsOn phase (timer.after s o) → tells o ≡ false
         → due_of (w.now + later) w.deadlines ≡ Some what → Then what o)
-    asked_by what after quiet unheard is = on (one_of times (w.now + later) w.deadlines what is)
+    asked_by what after quiet is = on (one_of times (w.now + later) w.deadlines what is)
       where
         t1_first : (x : Due) → x ≡ due.T1 → e.idle ≡ w.deadlines.idle
-            → (let o : Outcome = timer.outcome c s (asks x) in IsOn phase (timer.after s o) → tells o ≡ false → Then x o)
+            → (let o : Outcome = timer.outcome c s (asks c s x) in IsOn phase (timer.after s o) → tells o ≡ false → Then x o)
         t1_first x is same =
-            subst (λ (y : Due). let o : Outcome = timer.outcome c s (asks y) in IsOn phase (timer.after s o) → tells o ≡ false → Then y o) (sym is)
-            (fires_by (runs s) refl same (follows c s.layer (timer_step (link_settings c) s.link))
+            subst (λ (y : Due). let o : Outcome = timer.outcome c s (asks c s y) in IsOn phase (timer.after s o) → tells o ≡ false → Then y o) (sym is)
+            (fires_by (runs s) refl same (follows c s (timer_step (link_settings c) s.link))
             (silent c s timer.Fires (subst MayAsk (sym before.phase) may) tt))
 
         polled : (x : Due) → x ≡ due.Probe → e.t1 ≡ w.deadlines.t1
-            → (let o : Outcome = timer.outcome c s (asks x) in IsOn phase (timer.after s o) → tells o ≡ false → Then x o)
+            → (let o : Outcome = timer.outcome c s (asks c s x) in IsOn phase (timer.after s o) → tells o ≡ false → Then x o)
         polled x is same =
-            subst (λ (y : Due). let o : Outcome = timer.outcome c s (asks y) in IsOn phase (timer.after s o) → tells o ≡ false → Then y o) (sym is)
-            (polls_by s.link.phase refl (subst MayAsk (sym before.phase) may) same (follows c s.layer (timer_step (link_settings c) s.link))
-            (silent c s (asks due.Probe) (subst MayAsk (sym before.phase) may) tt))
+            subst (λ (y : Due). let o : Outcome = timer.outcome c s (asks c s y) in IsOn phase (timer.after s o) → tells o ≡ false → Then y o) (sym is)
+            (polls_by s.link.phase refl (subst MayAsk (sym before.phase) may) same (follows c s (timer_step (link_settings c) s.link))
+            (silent c s (asks c s due.Probe) (subst MayAsk (sym before.phase) may) tt))
 
         on : (AsksT1 w.deadlines e what ⊎ (AsksProbe w.deadlines e what ⊎ AsksOther w.deadlines e))
-            → (let o : Outcome = timer.outcome c s (asks what) in Then what o)
+            → (let o : Outcome = timer.outcome c s (asks c s what) in Then what o)
         on (inl asked) = t1_first what asked.is asked.idle after quiet
         on (inr (inl asked)) = polled what asked.is asked.t1 after quiet
         on (inr (inr asked)) =
-            let o : Outcome = timer.outcome c s (asks what) in
-            event_by (w.now + later) s e (asks what) o (silent c s (asks what) (subst MayAsk (sym before.phase) may) unheard) before after unheard quiet late
+            let event : timer.StationEvent = asks c s what in
+            let o : Outcome = timer.outcome c s event in
+            let unheard : IsUnheard s event = due_unheard s (asked_of c s what) in
+            event_by (w.now + later) s e event o (silent c s event (subst MayAsk (sym before.phase) may) unheard) before after unheard quiet late
             (subst (λ (x : Option ℕ). IsBy bound times (runs s) (left s) x e.idle) (sym asked.t1)
             (subst (λ (x : Option ℕ). IsBy bound times (runs s) (left s) w.deadlines.t1 x) (sym asked.idle) by))
 
-  deed_by : UnheardAsksOn → (w : Watched) (deed : Deed) → IsFounded deed w → IsOn phase w.station → IsOn phase (done c times deed w).station
-      → IsUnheard w.station (event_of deed) → tells (outcome_of c deed w) ≡ false
+  -- noise comes, and all is as it was
+  noise_by : (now : ℕ) (s : Station) (d : Deadlines) (octets : List ℕ) → IsOn phase s → IsBy bound times (runs s) (left s) d.t1 d.idle
+      → (let e : Deadlines = heeded times now (seen_of c s (timer.Comes octets) (Did (nothing_at s))) d in IsBy bound times (runs s) (left s) e.t1 e.idle)
+  noise_by now s d octets before by =
+      subst (λ (b : Bool). IsBy bound times (runs s) (left s) (t1_after times now (timer_of (runs s) (not (runs s) || (false || (false || b)))) d.t1)
+      (running (is_at_rest s) false d.idle (deadline now times.t3))) (sym (same_acked s.link s.link refl)) (still (runs s) refl)
+    where
+      still : (r : Bool) → runs s ≡ r → IsBy bound times (runs s) (left s) (t1_after times now (timer_of r (not r || (false || (false || false)))) d.t1)
+          (running (is_at_rest s) false d.idle (deadline now times.t3))
+      still true is = subst (λ (r : Bool). IsBy bound times (runs s) (left s) (t1_after times now (timer_of r false) d.t1)
+          (running (is_at_rest s) false d.idle (deadline now times.t3))) is
+          (refused_behind bound times now (left s) (runs s) (is_at_rest s) false d.t1 d.idle before.on (λ off. refl) by)
+      still false is = subst (λ (r : Bool). IsBy bound times (runs s) (left s) (t1_after times now (timer_of r false) d.t1)
+          (running (is_at_rest s) false d.idle (deadline now times.t3))) is
+          (refused_behind bound times now (left s) (runs s) (is_at_rest s) false d.t1 d.idle before.on (λ off. refl) by)
+
+  came_by : UnheardAsksOn → (w : Watched) (later : ℕ) (octets : List ℕ) → IsSettled c w.station → IsOn phase w.station
+      → (let o : Outcome = Did (receives c w.station octets) in IsOn phase (timer.after w.station o) → IsQuiet c w.station (timer.Comes octets) → tells o ≡ false
+      → InTime bound times (runs w.station) (left w.station) (w.now + later) → Holds w → Holds (done c times (Happens later (timer.Comes octets)) w))
+  came_by silent w later octets settled before after (inl unheard) quiet late by =
+      event_by (w.now + later) w.station w.deadlines (timer.Comes octets) (Did (receives c w.station octets))
+      (silent c w.station (timer.Comes octets) (subst MayAsk (sym before.phase) may) unheard) before after unheard quiet late by
+  came_by silent w later octets settled before after (inr noise) quiet late by =
+      subst (λ (step : Step). let e : Deadlines = heeded times (w.now + later) (seen_of c w.station (timer.Comes octets) (Did step)) w.deadlines in
+      IsBy bound times (runs step.near) (left step.near) e.t1 e.idle) (sym (noise_rests c w.station octets settled noise quiet))
+      (noise_by (w.now + later) w.station w.deadlines octets before by)
+
+  deed_by : UnheardAsksOn → (w : Watched) (deed : Deed) → IsFounded deed w → IsSettled c w.station → IsOn phase w.station → IsOn phase (done c times deed w).station
+      → IsQuiet c w.station (event_of c deed w.station) → tells (outcome_of c deed w) ≡ false
       → InTime bound times (runs w.station) (left w.station) (w.now + later_by deed) → Holds w → Holds (done c times deed w)
-  deed_by silent w (Happens later event) founded before after unheard quiet late by =
-      event_by (w.now + later) w.station w.deadlines event (timer.outcome c w.station event)
-      (silent c w.station event (subst MayAsk (sym before.phase) may) unheard) before after unheard quiet late by
-  deed_by silent w (IsAsked later what) founded before after unheard quiet late by = asked_by silent w later before late by what after quiet unheard founded.0
+  deed_by silent w (Happens later (timer.Comes octets)) founded settled before after unheard quiet late by =
+      came_by silent w later octets settled before after unheard quiet late by
+  deed_by silent w (Happens later (timer.Asks command)) founded settled before after unheard quiet late by =
+      event_by (w.now + later) w.station w.deadlines (timer.Asks command) (timer.outcome c w.station (timer.Asks command))
+      (silent c w.station (timer.Asks command) (subst MayAsk (sym before.phase) may) tt) before after tt quiet late by
+  deed_by silent w (Happens later timer.Fires) founded settled before after unheard quiet late by =
+      event_by (w.now + later) w.station w.deadlines timer.Fires (timer.outcome c w.station timer.Fires)
+      (silent c w.station timer.Fires (subst MayAsk (sym before.phase) may) tt) before after tt quiet late by
+  deed_by silent w (IsAsked later what) founded settled before after unheard quiet late by = asked_by silent w later before late by what after quiet founded
 
   in_phase : (deeds : List Deed) (w : Watched) → IsSilent c times phase deeds w → w.station.link.phase ≡ phase
   in_phase [] w all = all
@@ -318,7 +363,7 @@ module _ (c : Settings) (times : Times) (phase : Phase) (bound : ℕ) (may : May
       let v : Watched = done c times deed w in
       let then_settled : IsSettled c v.station = deed_settled laws c times most deed w settled in
       all_by laws least most deeds v then_settled obeyed.2 all.3 (now_in_time bound times (runs w.station) (left w.station) (w.now + later_by deed) late)
-      (deed_by laws.asks w deed obeyed.0 (is_on laws c phase w.station may least settled all.0)
+      (deed_by laws.asks w deed obeyed.0 settled (is_on laws c phase w.station may least settled all.0)
       (is_on laws c phase v.station may least then_settled (in_phase deeds v all.3)) all.1 all.2 late by)
 
 -- ---- where it begins
@@ -367,19 +412,19 @@ rest_is_off : (s : Station) → is_at_rest s ≡ true → runs s ≡ true → �
 rest_is_off s is on = true≢false (sym (and_parts (is_idle s.link) (not (runs s)) is).1 ∙ ap not on)
 
 module _ (c : Settings) (times : Times) (bound : ℕ) where
-  idle_by : (d : Deadlines) (now : ℕ) (s : Station) (event : timer.StationEvent) (o : Outcome) → comes event ≡ false → is_at_rest (timer.after s o) ≡ true
+  idle_by : (d : Deadlines) (now : ℕ) (s : Station) (event : timer.StationEvent) (o : Outcome) → hears event o ≡ false → is_at_rest (timer.after s o) ≡ true
       → Ends bound d.idle 0 → Ends bound (heeded times now (seen_of c s event o) d).idle 0
-  idle_by d now s event (Did step) quiet rest by = idle_stays bound 0 (is_at_rest step.near) (comes event) d.idle (deadline now times.t3) rest quiet by
-  idle_by d now s event (Refused e) quiet rest by = idle_stays bound 0 (is_at_rest s) (comes event) d.idle (deadline now times.t3) rest quiet by
+  idle_by d now s event (Did step) quiet rest by = idle_stays bound 0 (is_at_rest step.near) (hears event (Did step)) d.idle (deadline now times.t3) rest quiet by
+  idle_by d now s event (Refused e) quiet rest by = idle_stays bound 0 (is_at_rest s) false d.idle (deadline now times.t3) rest refl by
 
   -- a poll is accepted, and T1 runs behind it
   polled : UnheardAsksOn → (s : Station) → is_at_rest s ≡ true
-      → (let o : Outcome = timer.outcome c s (asks due.Probe) in tells o ≡ false → is_at_rest (timer.after s o) ≡ true → ⊥)
+      → (let o : Outcome = timer.outcome c s (asks c s due.Probe) in tells o ≡ false → is_at_rest (timer.after s o) ≡ true → ⊥)
   polled silent s rest = by s.link.phase (up_is s.link.phase (rest_is_up s rest))
-      (silent c s (asks due.Probe) (subst MayAsk (sym (up_is s.link.phase (rest_is_up s rest))) tt) tt)
+      (silent c s (asks c s due.Probe) (subst MayAsk (sym (up_is s.link.phase (rest_is_up s rest))) tt) tt)
     where
       step : Step
-      step = follows c s.layer (timer_step (link_settings c) s.link)
+      step = follows c s (timer_step (link_settings c) s.link)
 
       by : (p : Phase) → p ≡ Up → (let o : Outcome = unless (probe_refusal p) step in AsksOn c s 1 o → tells o ≡ false → is_at_rest (timer.after s o) ≡ true
           → ⊥)
@@ -391,10 +436,9 @@ module _ (c : Settings) (times : Times) (bound : ℕ) where
           rest_is_off step.near after ((took quiet same).asked refl))
 
   idle_asked : UnheardAsksOn → (w : Watched) (later : ℕ) (what : Due) → due_of (w.now + later) w.deadlines ≡ Some what → is_at_rest w.station ≡ true
-      → comes (asks what) ≡ false → tells (timer.outcome c w.station (asks what)) ≡ false
-      → is_at_rest (timer.after w.station (timer.outcome c w.station (asks what))) ≡ true → Ends bound w.deadlines.idle 0
-      → Ends bound (after_due times (w.now + later) w.deadlines).idle 0
-  idle_asked silent w later what is rest none quiet after by = on (one_of times (w.now + later) w.deadlines what is)
+      → (let o : Outcome = timer.outcome c w.station (asks c w.station what) in tells o ≡ false → is_at_rest (timer.after w.station o) ≡ true
+      → Ends bound w.deadlines.idle 0 → Ends bound (after_due times (w.now + later) w.deadlines).idle 0)
+  idle_asked silent w later what is rest quiet after by = on (one_of times (w.now + later) w.deadlines what is)
     where
       e : Deadlines
       e = after_due times (w.now + later) w.deadlines
@@ -402,18 +446,19 @@ module _ (c : Settings) (times : Times) (bound : ℕ) where
       on : (AsksT1 w.deadlines e what ⊎ (AsksProbe w.deadlines e what ⊎ AsksOther w.deadlines e)) → Ends bound e.idle 0
       on (inl asked) = subst (λ (x : Option ℕ). Ends bound x 0) (sym asked.idle) by
       on (inr (inl asked)) =
-          absurd (subst (λ (x : Due). let o : Outcome = timer.outcome c w.station (asks x) in tells o ≡ false → is_at_rest (timer.after w.station o) ≡ true
+          absurd (subst (λ (x : Due). let o : Outcome = timer.outcome c w.station (asks c w.station x) in tells o ≡ false → is_at_rest (timer.after w.station o) ≡ true
           → ⊥) (sym asked.is) (polled silent w.station rest) quiet after)
       on (inr (inr asked)) = subst (λ (x : Option ℕ). Ends bound x 0) (sym asked.idle) by
 
-  idle_deed : UnheardAsksOn → (w : Watched) (deed : Deed) → IsFounded deed w → is_at_rest w.station ≡ true → comes (event_of deed) ≡ false
-      → tells (outcome_of c deed w) ≡ false → is_at_rest (done c times deed w).station ≡ true
+  idle_deed : UnheardAsksOn → (w : Watched) (deed : Deed) → IsFounded deed w → is_at_rest w.station ≡ true
+      → hears (event_of c deed w.station) (outcome_of c deed w) ≡ false → tells (outcome_of c deed w) ≡ false → is_at_rest (done c times deed w).station ≡ true
       → Ends bound w.deadlines.idle 0 → Ends bound (done c times deed w).deadlines.idle 0
   idle_deed silent w (Happens later event) founded rest none quiet after by =
       idle_by w.deadlines (w.now + later) w.station event (timer.outcome c w.station event) none after by
   idle_deed silent w (IsAsked later what) founded rest none quiet after by =
-      idle_by (after_due times (w.now + later) w.deadlines) (w.now + later) w.station (asks what) (timer.outcome c w.station (asks what)) none after
-      (idle_asked silent w later what founded.0 rest none quiet after by)
+      (let event : timer.StationEvent = asks c w.station what in
+      idle_by (after_due times (w.now + later) w.deadlines) (w.now + later) w.station event (timer.outcome c w.station event) none after
+      (idle_asked silent w later what founded rest quiet after by))
 
   rests : (deeds : List Deed) (w : Watched) → IsIdle c times deeds w → is_at_rest w.station ≡ true
   rests [] w all = all
@@ -438,3 +483,51 @@ idle_is_asked silent c times moments deeds polled small obeyed all =
     all_idle c times bound silent deeds w obeyed all (omega arith)
     (ends_by bound w.now times.t3 0 w.deadlines.idle small polled (omega arith)
     ((deadlines_are_true c times moments).idle.on (rests c times bound deeds w all)))
+
+-- ---- since when it is watched
+
+module _ (c : Settings) (times : Times) where
+  rests_first : (moments : List Moment) (w : Watched) → AreUnheard c times moments w → is_at_rest w.station ≡ true
+  rests_first [] w all = all
+  rests_first (moment.Happens later event ∷ moments) w all = all.0
+  rests_first (moment.IsDue later ∷ moments) w all = absurd all
+
+  -- an event at which something is heard, and one at which nothing is
+  heard_idle : (now : ℕ) (s : Station) (d : Deadlines) (event : timer.StationEvent) (o : Outcome) → hears event o ≡ true → is_at_rest (timer.after s o) ≡ true
+      → (heeded times now (seen_of c s event o) d).idle ≡ deadline now times.t3
+  heard_idle now s d event (Did step) heard rest =
+      ap (λ (b : Bool). running b (hears event (Did step)) d.idle (deadline now times.t3)) rest
+      ∙ ap (λ (b : Bool). running true b d.idle (deadline now times.t3)) heard
+  heard_idle now s d event (Refused e) heard rest = absurd (true≢false (sym heard))
+
+  unheard_idle : (now at : ℕ) (s : Station) (d : Deadlines) (event : timer.StationEvent) (o : Outcome) → hears event o ≡ false
+      → is_at_rest (timer.after s o) ≡ true → d.idle ≡ Some at → (heeded times now (seen_of c s event o) d).idle ≡ Some at
+  unheard_idle now at s d event (Did step) unheard rest is =
+      ap (λ (b : Bool). running b (hears event (Did step)) d.idle (deadline now times.t3)) rest
+      ∙ ap (λ (b : Bool). running true b d.idle (deadline now times.t3)) unheard
+      ∙ ap (λ (o : Option ℕ). running true false o (deadline now times.t3)) is
+  unheard_idle now at s d event (Refused e) unheard rest is =
+      ap (λ (b : Bool). running b false d.idle (deadline now times.t3)) rest
+      ∙ ap (λ (o : Option ℕ). running true false o (deadline now times.t3)) is
+
+  stands_on : (at : ℕ) (moments : List Moment) (w : Watched) → AreUnheard c times moments w → w.deadlines.idle ≡ Some at
+      → (watched_from c times moments w).deadlines.idle ≡ Some at
+  stands_on at [] w all is = is
+  stands_on at (moment.Happens later event ∷ moments) w all is =
+      let v : Watched = watched_by c times (moment.Happens later event) w in
+      stands_on at moments v all.2
+      (unheard_idle (w.now + later) at w.station w.deadlines event (timer.outcome c w.station event) all.1 (rests_first moments v all.2) is)
+  stands_on at (moment.IsDue later ∷ moments) w all is = absurd all
+
+pub idle_is_since_heard : IdleIsSinceHeard
+idle_is_since_heard c times event later moments before small some heard all =
+    let w : Watched = watched_by c times (moment.Happens later event) before in
+    stands_on c times (w.now + times.t3) moments w all
+    (heard_idle c times w.now before.station before.deadlines event (timer.outcome c before.station event) heard (rests_first c times moments w all)
+    ∙ some_deadline w.now times.t3 some small)
+
+pub noise_is_unheard : Silent → NoiseIsUnheard
+noise_is_unheard laws c times moments octets most noise quiet =
+    let s : Station = (watched c times moments).station in
+    let rests : receives c s octets ≡ nothing_at s = noise_rests c s octets (moments_settled laws c times most moments _ (laws.new c)) noise quiet in
+    (ap (λ (step : Step). step.near) rests, ap (λ (step : Step). hears (timer.Comes octets) (Did step)) rests)

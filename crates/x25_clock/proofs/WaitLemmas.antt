@@ -1,7 +1,7 @@
 -- An answer is awaited no longer than the times say, where what is due is asked at once.
 use Rattle.x25_clock.proofs.Names.{◌≡◌, ℕ, zero, suc, ◌+◌, ◌^◌, ◌<◌, ◌≤◌, ◌==◌, ◌⊎◌, inl, inr, List, [], ◌∷◌, map, Bool, true, false, not, nat_le}
 use Rattle.x25_clock.proofs.Names.{if◌then◌else◌, Option, Some, None, refl, sym, ap, subst, ◌∙◌, arith, true≢false, eqb-true, eq-eqb, leb-true, and_parts}
-use Rattle.x25_clock.proofs.Names.{none-some, Phase, Down, Waiting, Up, Closed, is_up, Awaits, Nothing, Acceptance, ResetConfirmation, ClearConfirmation}
+use Rattle.x25_clock.proofs.Names.{none-some, Phase, Waiting, Up, is_up, Awaits, Nothing, Acceptance, ResetConfirmation, ClearConfirmation}
 use Rattle.x25_clock.proofs.Names.{is_channel, awaited_at, Settings, layer_settings, Station, Step, Outcome, Did, Refused, tells_link, rank_of, rank}
 use Rattle.x25_clock.proofs.Names.{AwaitsStill, Due, Times, Wait, Deadlines, channels_from, deadline, is_past, sooner, number_of, time_of, running, wait_after}
 use Rattle.x25_clock.proofs.Names.{heeded, next_of, overdue_of, unless_on, due_of, renewed, renewed_on, after_due, Watched, seen_of, heeds, watched, IsSince}
@@ -10,6 +10,9 @@ use Rattle.x25_circuit.specs.{Awaits.{awaited_in}, declared.state.State.{State}}
 use Rattle.x25_clock.proofs.ClockLemmas.{happens_true, due_true, deadlines_are_true}
 use Rattle.x25_clock.proofs.DeadlineLemmas.{AreNotPast, waits_past, restart_past, or_t1, Ends, begins_at, end_in_time}
 use Rattle.x25_clock.{proofs.Names.{AreObeyed, tells, AwaitsAll, NothingWaits}, specs.Clock.{asked_for, due_on}, specs.laws.WaitLaw.{longest_wait, AreSet}}
+use Rattle.x25_clock.{proofs.FullLemmas.{Keeps, clear_asked, clear_relinks, deed_kept, moments_kept, new_kept, restart_asked, restart_relinks}}
+use Rattle.x25_clock.specs.Due.{asked_of, event_for}
+use Rattle.x25_station.specs.laws.KeepLaw.{IsKept}
 use Rattle.x25_link.specs.Outgoing.{waits}
 use Rattle.x25_station.specs.laws.WayOutLaw.{rank_in, LeadsOn, ClearLeadsOn, RestartLeadsOn, RelinkLeadsOn, NothingLeadsBack}
 use Rattle.x25_station.specs.laws.TimerLaw as timer
@@ -131,13 +134,13 @@ record IsCleared (rest_a rest : ℕ) (a b : Awaits) : Type 0 where
   new : b ≡ ClearConfirmation
   differ : (number_of a == number_of ClearConfirmation) ≡ false
 
-abbrev pub asks : Due → timer.StationEvent
-asks what = event_of (IsAsked 0 what)
+abbrev pub asks : Settings → Station → Due → timer.StationEvent
+asks c s what = event_of c (IsAsked 0 what) s
 
 -- what is due is asked, and the rank is lower
 record Falls (c : Settings) (h : ℕ) (s : Station) (what : Due) : Type 0 where
   step : Step
-  is : timer.outcome c s (asks what) ≡ Did step
+  is : timer.outcome c s (asks c s what) ≡ Did step
   low : rank c step.near h < rank c s h
 
 -- the laws of the station that are used
@@ -371,37 +374,71 @@ module _ (c : Settings) (times : Times) (h bound : ℕ) (set : AreSet times) (sm
           not_same false same at_h = refl
           not_same true same at_h = absurd (true≢false (sym (eq-eqb k h (sym (eqb-true w.channel k same) ∙ at_h)) ∙ other))
 
-  cleared : Laws → (s : Station) (what : Due) → rank c s h ≡ 4 → what ≡ due.Clear h → waits s.link.outgoing < 256 → Falls c h s what
-  cleared laws s what four is low =
-      let found = laws.clear c s h four low in
-      let three : rank c found.0.near h ≡ 3 = found.2 in
-      record { step = found.0; is = ap (λ (x : Due). timer.outcome c s (asks x)) is ∙ found.1; low = omega (arith, three, four) }
+  -- the rank falls, or LinkDown is told
+  abbrev FallsOrTells : Station → Due → Type 0
+  FallsOrTells s what = Falls c h s what ⊎ (tells (timer.outcome c s (asks c s what)) ≡ true)
+
+  relinks : Laws → (s : Station) (what : Due) → is_up s.link.phase ≡ true → asked_of c s what ≡ due.Relink → tells (timer.outcome c s (asks c s what)) ≡ true
+  relinks laws s what up is =
+      let found = laws.relink c s up in
+      ap (λ (x : Due). tells (timer.outcome c s (event_for x))) is ∙ ap tells found.1 ∙ ap tells_link found.2.entries
+
+  room_or_full : (n : ℕ) → n ≤ 256 → ((n == 256) ≡ true) ⊎ (n < 256)
+  room_or_full n few = test (n == 256) refl
+    where
+      test : (b : Bool) → (n == 256) ≡ b → ((n == 256) ≡ true) ⊎ (n < 256)
+      test true is = inl is
+      test false is = inr (omega (arith, few, (λ (same : n ≡ 256). true≢false (sym (eq-eqb n 256 same) ∙ is))))
+
+  cleared : Laws → (s : Station) (what : Due) → rank c s h ≡ 4 → is_up s.link.phase ≡ true → s.layer.restarting ≡ false → is_channel c.channels h ≡ true
+      → what ≡ due.Clear h → waits s.link.outgoing ≤ 256 → FallsOrTells s what
+  cleared laws s what four up ready configured is few = subst (FallsOrTells s) (sym is) (by (room_or_full (waits s.link.outgoing) few))
+    where
+      by : ((waits s.link.outgoing == 256) ≡ true) ⊎ (waits s.link.outgoing < 256) → FallsOrTells s (due.Clear h)
+      by (inl full) = inr (relinks laws s (due.Clear h) up (clear_relinks c s up ready full h configured))
+      by (inr low) =
+          let found = laws.clear c s h four low in
+          let three : rank c found.0.near h ≡ 3 = found.2 in
+          inl (record {
+            step = found.0;
+            is = ap (λ (x : Due). timer.outcome c s (event_for x)) (clear_asked c s h (Did found.0) found.1 refl) ∙ found.1;
+            low = omega (arith, three, four);
+          })
 
   restarted : Laws → (s : Station) (what : Due) → rank c s h ≡ 3 → is_up s.link.phase ≡ true → s.layer.restarting ≡ false → what ≡ due.Restart h
-      → waits s.link.outgoing < 256 → Falls c h s what
-  restarted laws s what three up ready is low =
-      let found = laws.restart c s up ready low in
-      let two : rank c found.0.near h ≡ 2 = found.2 h in
-      record { step = found.0; is = ap (λ (x : Due). timer.outcome c s (asks x)) is ∙ found.1; low = omega (arith, two, three) }
+      → waits s.link.outgoing ≤ 256 → FallsOrTells s what
+  restarted laws s what three up ready is few = subst (FallsOrTells s) (sym is) (by (room_or_full (waits s.link.outgoing) few))
+    where
+      by : ((waits s.link.outgoing == 256) ≡ true) ⊎ (waits s.link.outgoing < 256) → FallsOrTells s (due.Restart h)
+      by (inl full) = inr (relinks laws s (due.Restart h) up (restart_relinks c s up ready full h))
+      by (inr low) =
+          let found = laws.restart c s up ready low in
+          let two : rank c found.0.near h ≡ 2 = found.2 h in
+          inl (record {
+            step = found.0;
+            is = ap (λ (x : Due). timer.outcome c s (event_for x)) (restart_asked c s h (Did found.0) found.1 refl) ∙ found.1;
+            low = omega (arith, two, three);
+          })
 
   asked_falls : Laws → (s : Station) (what : Due) (a : Awaits) → rank c s h ≡ rank_in a → 2 ≤ rank c s h → is_up s.link.phase ≡ true → s.layer.restarting
-      ≡ false → asked_for h a ≡ Some what → waits s.link.outgoing < 256 → Falls c h s what
-  asked_falls laws s what Nothing is high linked ready asked low = absurd (none-some what asked)
-  asked_falls laws s what ClearConfirmation is high linked ready asked low = restarted laws s what is linked ready (sym (ap or_t1 asked)) low
-  asked_falls laws s what a is high linked ready asked low = cleared laws s what is (sym (ap or_t1 asked)) low
+      ≡ false → asked_for h a ≡ Some what → waits s.link.outgoing ≤ 256 → FallsOrTells s what
+  asked_falls laws s what Nothing is high linked ready asked few = absurd (none-some what asked)
+  asked_falls laws s what ClearConfirmation is high linked ready asked few = restarted laws s what is linked ready (sym (ap or_t1 asked)) few
+  asked_falls laws s what a is high linked ready asked few = cleared laws s what is linked ready
+      (is_configured s.link.phase (is_channel c.channels h) (s.layer.circuits h).state
+      (subst (λ (r : Bool). 2 ≤ rank_of s.link.phase r (awaited s)) ready high))
+      (sym (ap or_t1 asked)) few
 
-  relink_told : Laws → (s : Station) (what : Due) → is_up s.link.phase ≡ true → what ≡ due.Relink → tells (timer.outcome c s (asks what)) ≡ false → ⊥
-  relink_told laws s what up is quiet =
-      let found = laws.relink c s up in
-      true≢false (sym (ap (λ (x : Due). tells (timer.outcome c s (asks x))) is ∙ ap tells found.1 ∙ ap tells_link found.2.entries) ∙ quiet)
+  relink_told : Laws → (s : Station) (what : Due) → is_up s.link.phase ≡ true → what ≡ due.Relink → tells (timer.outcome c s (asks c s what)) ≡ false → ⊥
+  relink_told laws s what up is quiet = true≢false (sym (relinks laws s what up (ap (asked_of c s) is)) ∙ quiet)
 
   -- a moment at which what is due is asked
-  asked_deed : Laws → (w : Watched) (later : ℕ) (what : Due) → AreTrue c times w → 2 ≤ rank c w.station h → IsFounded (IsAsked later what) w
+  asked_deed : Laws → (w : Watched) (later : ℕ) (what : Due) → AreTrue c times w → 2 ≤ rank c w.station h → IsFounded (IsAsked later what) w → waits w.station.link.outgoing ≤ 256
       → (let o : Outcome = outcome_of c (IsAsked later what) w in tells o ≡ false → 2 ≤ rank c (timer.after w.station o) h)
       → (let o : Outcome = outcome_of c (IsAsked later what) w in tells o ≡ false) → IsBy w.station.layer.restarting w.deadlines.restart w.deadlines.waits
       → InTime w.station.layer.restarting (awaited w.station) (w.now + later)
       → (let v : Watched = done c times (IsAsked later what) w in IsBy v.station.layer.restarting v.deadlines.restart v.deadlines.waits)
-  asked_deed laws w later what true_now high founded higher quiet by late = on (what_is_asked times now d what founded.0)
+  asked_deed laws w later what true_now high founded few higher quiet by late = on (what_is_asked times now d what founded)
     where
       s : Station
       s = w.station
@@ -419,7 +456,7 @@ module _ (c : Settings) (times : Times) (h bound : ℕ) (set : AreSet times) (sm
       then_true = due_true c times w later true_now
 
       event : timer.StationEvent
-      event = asks what
+      event = asks c s what
 
       o : Outcome
       o = timer.outcome c s event
@@ -444,6 +481,10 @@ module _ (c : Settings) (times : Times) (h bound : ℕ) (set : AreSet times) (sm
           (fallen_by now now s high e then_true.restart.off then_true.waits event f.step (ap tells (sym f.is) ∙ quiet)
           (subst (λ (x : Outcome). 2 ≤ rank c (timer.after s x) h) f.is (higher quiet)) f.low late)
 
+      falls_or_tells : FallsOrTells s what → Behind now now s high e then_true.restart.off then_true.waits event o
+      falls_or_tells (inl f) = falls f
+      falls_or_tells (inr told) = absurd (true≢false (sym told ∙ quiet))
+
       itself : (asked : AsksOn times now d e what) → asked.wait.channel ≡ h → (r : Bool) → s.layer.restarting ≡ r → IsBy r d.restart d.waits
           → Behind now now s high e then_true.restart.off then_true.waits event o
       itself asked at_h true is by = goes (subst (λ (r : Bool). IsBy r e.restart e.waits) (sym is)
@@ -454,7 +495,7 @@ module _ (c : Settings) (times : Times) (h bound : ℕ) (set : AreSet times) (sm
           let asks_it : asked_for h (awaited s) ≡ Some what = sym (ap (λ (k : ℕ). asked_for k asked.wait.awaits) at_h ∙ ap (asked_for h) awaits) ∙ asked.is in
           let same : rank c s h ≡ rank_in (awaited s) = rank_up s.link.phase s.layer.restarting (awaited s) is_up_now
           ∙ ap (λ (r : Bool). rank_of Up r (awaited s)) is in
-          falls (asked_falls laws s what (awaited s) same high is_up_now is asks_it founded.1)
+          falls_or_tells (asked_falls laws s what (awaited s) same high is_up_now is asks_it few)
 
       on_wait : (asked : AsksOn times now d e what) (b : Bool) → (asked.wait.channel == h) ≡ b
           → Behind now now s high e then_true.restart.off then_true.waits event o
@@ -470,15 +511,16 @@ module _ (c : Settings) (times : Times) (h bound : ℕ) (set : AreSet times) (sm
       on (inr (inl asked)) = goes (relinked asked s.layer.restarting refl by)
       on (inr (inr asked)) = on_wait asked (asked.wait.channel == h) refl
 
-  deed_by : Laws → (w : Watched) (deed : Deed) → AreTrue c times w → 2 ≤ rank c w.station h → IsFounded deed w → tells (outcome_of c deed w) ≡ false → 2
+  deed_by : Laws → (w : Watched) (deed : Deed) → AreTrue c times w → 2 ≤ rank c w.station h → IsFounded deed w → IsKept w.station
+      → tells (outcome_of c deed w) ≡ false → 2
       ≤ rank c (done c times deed w).station h
       → IsBy w.station.layer.restarting w.deadlines.restart w.deadlines.waits → InTime w.station.layer.restarting (awaited w.station) (w.now + later_by deed)
       → (let v : Watched = done c times deed w in IsBy v.station.layer.restarting v.deadlines.restart v.deadlines.waits)
-  deed_by laws w (Happens later event) true_now high founded quiet higher by late =
+  deed_by laws w (Happens later event) true_now high founded kept quiet higher by late =
       event_by w.now (w.now + later) w.station high w.deadlines true_now.restart.off true_now.waits event (timer.outcome c w.station event)
       (laws.back c w.station h event high) quiet higher by late
-  deed_by laws w (IsAsked later what) true_now high founded quiet higher by late =
-      asked_deed laws w later what true_now high founded (λ q. higher) quiet by late
+  deed_by laws w (IsAsked later what) true_now high founded kept quiet higher by late =
+      asked_deed laws w later what true_now high founded kept.few (λ q. higher) quiet by late
 
   -- ---- deed after deed
 
@@ -487,21 +529,24 @@ module _ (c : Settings) (times : Times) (h bound : ℕ) (set : AreSet times) (sm
   deed_true w (IsAsked later what) true_now =
       let found : Watched = found_by times (IsAsked later what) w in
       let nothing : found.now + 0 ≡ found.now = omega arith in
-      subst (λ (n : ℕ). AreTrue c times (heeds c times n (asks what) (timer.outcome c w.station (asks what)) found)) nothing
-      (happens_true c times found 0 (asks what) (timer.outcome c w.station (asks what)) (due_true c times w later true_now))
+      let event : timer.StationEvent = asks c w.station what in
+      subst (λ (n : ℕ). AreTrue c times (heeds c times n event (timer.outcome c w.station event) found)) nothing
+      (happens_true c times found 0 event (timer.outcome c w.station event) (due_true c times w later true_now))
 
   higher_next : (deeds : List Deed) (w : Watched) → AwaitsAll c times h deeds w → 2 ≤ rank c w.station h
   higher_next [] w all = all
   higher_next (deed ∷ deeds) w all = all.0
 
-  all_by : Laws → (deeds : List Deed) (w : Watched) → AreTrue c times w → AreObeyed c times deeds w → AwaitsAll c times h deeds w → w.now ≤ bound
+  all_by : Laws → Keeps → (deeds : List Deed) (w : Watched) → AreTrue c times w → IsKept w.station → AreObeyed c times deeds w → AwaitsAll c times h deeds w
+      → w.now ≤ bound
       → IsBy w.station.layer.restarting w.deadlines.restart w.deadlines.waits → (all_done c times deeds w).now ≤ bound
-  all_by laws [] w true_now obeyed all low by = low
-  all_by laws (deed ∷ deeds) w true_now obeyed all low by =
+  all_by laws keeps [] w true_now kept obeyed all low by = low
+  all_by laws keeps (deed ∷ deeds) w true_now kept obeyed all low by =
       let late : InTime w.station.layer.restarting (awaited w.station) (w.now + later_by deed) = in_time w (w.now + later_by deed) true_now all.0 obeyed.1 by in
       let v : Watched = done c times deed w in
-      all_by laws deeds v (deed_true w deed true_now) obeyed.2 all.2 (now_in_time w.station.layer.restarting (awaited w.station) (w.now + later_by deed) late)
-      (deed_by laws w deed true_now all.0 obeyed.0 all.1 (higher_next deeds v all.2) by late)
+      all_by laws keeps deeds v (deed_true w deed true_now) (deed_kept keeps c times w deed kept) obeyed.2 all.2
+      (now_in_time w.station.layer.restarting (awaited w.station) (w.now + later_by deed) late)
+      (deed_by laws w deed true_now all.0 obeyed.0 kept all.1 (higher_next deeds v all.2) by late)
 
 -- ---- where it begins
 
@@ -541,11 +586,12 @@ module _ (c : Settings) (times : Times) (h : ℕ) (set : AreSet times) where
       let two : rank c w.station h ≡ rank_in a = rank_up w.station.link.phase w.station.layer.restarting a up ∙ ap (λ (r : Bool). rank_of Up r a) is in
       first_on bound w.now few (λ k. awaited_at (layer_settings c) w.station.layer k) w.deadlines.waits same (subst (λ (n : ℕ). 2 ≤ n) two high) true_now.waits
 
-pub nothing_waits : ClearLeadsOn → RestartLeadsOn → RelinkLeadsOn → NothingLeadsBack → NothingWaits
-nothing_waits clear restart relink back c times h moments deeds set small obeyed all =
+pub nothing_waits : ClearLeadsOn → RestartLeadsOn → RelinkLeadsOn → NothingLeadsBack → Keeps → NothingWaits
+nothing_waits clear restart relink back keeps c times h moments deeds set small obeyed all =
     let w : Watched = watched c times moments in
     let r : Bool = w.station.layer.restarting in
     let bound : ℕ = w.now + longest_wait times r (awaited_at (layer_settings c) w.station.layer h) in
     let true_now : AreTrue c times w = deadlines_are_true c times moments in
-    all_by c times h bound set small (record { clear = clear; restart = restart; relink = relink; back = back }) deeds w true_now obeyed all (omega arith)
+    all_by c times h bound set small (record { clear = clear; restart = restart; relink = relink; back = back }) keeps deeds w true_now
+    (moments_kept keeps c times moments _ new_kept) obeyed all (omega arith)
     (first_by c times h set bound w small r refl refl (higher_next c times h bound set small deeds w all) true_now)

@@ -5,6 +5,7 @@ use Rattle.x25_circuit.specs.declared.awaits.Awaits.{Awaits}
 use Rattle.x25_circuit.specs.declared.awaits.Awaits.TheVariants.{Nothing, Acceptance, ResetConfirmation}
 use Rattle.x25_circuit.specs.declared.awaits.Awaits.TheVariants.{ClearConfirmation}
 use Rattle.x25_layer.specs.Layer.{LayerSettings, Layer}
+use Rattle.x25_link.specs.Link.{timer_runs}
 use Rattle.x25_layer.specs.code.FitsLayer.{awaited_at}
 use Rattle.x25_station.specs.declared.step.Step as step_code
 use Rattle.x25_station.specs.declared.timer.Timer.{Timer}
@@ -84,15 +85,21 @@ time_of times ClearConfirmation = times.t23
 -- ---- behind a step
 
 -- What one who has a clock sees of a step and of the station after it: what T1 became, whether the link is at rest,
--- whether a restart is under way, whether the link came up or went down, whether octets came, and what each channel
--- awaits.
+-- whether a restart is under way, whether the link came up or went down, whether something was heard, and what each
+-- channel awaits.
 pub record Seen : Type 0 where
   pub timer : Timer
   pub at_rest : Bool
   pub restarting : Bool
   pub noted : Bool
-  pub come : Bool
+  pub heard : Bool
   pub awaited : ℕ → Awaits
+
+-- Octets came, and the station answers a frame or tells something. So a damaged frame isn't heard, nor one whose
+-- address isn't the other end's, nor any other noise.
+abbrev pub is_heard : {F E : Type 0} → Bool → List F → List E → Bool
+is_heard come [] [] = false
+is_heard come frames entries = come
 
 abbrev pub seen : Settings → Station → step_code.Step → Bool → Seen
 seen c s step come = record {
@@ -100,7 +107,18 @@ seen c s step come = record {
   at_rest = is_at_rest s;
   restarting = s.layer.restarting;
   noted = tells_link step.entries.items;
-  come = come;
+  heard = is_heard come step.frames step.entries.items;
+  awaited = λ h. awaited_at (layer_settings c) s.layer h;
+}
+
+-- What is seen as a clock begins beside a station, of which no step is heeded: T1 begins where it runs.
+abbrev pub seen_first : Settings → Station → Seen
+seen_first c s = record {
+  timer = if timer_runs s.link.phase s.link then Begins else Off;
+  at_rest = is_at_rest s;
+  restarting = s.layer.restarting;
+  noted = false;
+  heard = false;
   awaited = λ h. awaited_at (layer_settings c) s.layer h;
 }
 
@@ -116,6 +134,9 @@ running true true old new = new
 running true false None new = new
 running true false (Some moment) new = Some moment
 
+abbrev pub since : Bool → ℕ → ℕ → Option ℕ
+since stands now time = if stands then deadline now time else None
+
 -- another answer than before has its time from now on
 abbrev pub wait_after : Times → ℕ → Awaits → Wait → Wait
 wait_after times now awaits w = if number_of w.awaits == number_of awaits then w
@@ -127,10 +148,14 @@ heeded_on times now c l w = wait_after times now (awaited_at c l w.channel) w
 abbrev pub heeded : Times → ℕ → Seen → Deadlines → Deadlines
 heeded times now x d = record {
   t1 = t1_after times now x.timer d.t1;
-  idle = running x.at_rest x.come d.idle (deadline now times.t3);
+  idle = running x.at_rest x.heard d.idle (deadline now times.t3);
   restart = running x.restarting x.noted d.restart (deadline now times.t20);
   waits = map (λ w. wait_after times now (x.awaited w.channel) w) d.waits;
 }
+
+-- all that is awaited, of a clock that knew of none of it, is awaited from now on
+abbrev pub begun : Times → ℕ → ℕ → Settings → Station → Deadlines
+begun times now channels c s = heeded times now (seen_first c s) (nothing_awaited channels)
 
 -- ---- what is due
 

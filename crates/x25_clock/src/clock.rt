@@ -7,7 +7,7 @@ ghost use Rattle.x25_station.specs.Station.{Station as State};
 use crate::awaited::{list_all, overdue_in, renew_in, soonest};
 use crate::due::Due;
 use crate::times::Times;
-use crate::wait::{Wait, deadline, is_past, running, sooner, time_of};
+use crate::wait::{Wait, deadline, is_heard, is_past, running, since, sooner};
 use std::alloc::{AllocError, Global};
 use std::mem;
 use x25_station::{Station, Step, Timer};
@@ -36,7 +36,7 @@ pub struct Clock {
 impl Clock {
     ghost use Rattle.std.specs.Prelude.{IfOk};
     ghost use Rattle.x25_clock.specs.Clock.{after_due, due_of, heeded, heeded_on, next_of, nothing_awaited, overdue_of};
-    ghost use Rattle.x25_clock.specs.Clock.{most_due, plain, renewed, seen};
+    ghost use Rattle.x25_clock.specs.Clock.{begun, most_due, plain, renewed, seen};
 
     /// The clock of a station with so many channels (`Station::channels`) whose link is down.
     ///
@@ -60,7 +60,8 @@ impl Clock {
     }
 
     /// Heeds a step of the station, which has led to this one: a deadline is set where something begins to be awaited,
-    /// stays while that is, and is dropped. `has_come` is whether octets came, from which an idle link is watched anew.
+    /// stays while that is, and is dropped. `has_come` is whether octets came: where the station answers these by a
+    /// frame or tells of them, an idle link is watched anew.
     pub fn heed(&mut self, now: u64, station: &Station, step: &Step, has_come: bool)
         ensures heeds { (c : Settings) (s : State) → FitsStation c station.now s
             → plain self.new ≡ heeded self.old.times now (seen c s step.now has_come) (plain self.old) }
@@ -75,10 +76,27 @@ impl Clock {
         };
         let status = station.status();
         let asks = deadline(now, times.t3);
-        self.idle = running(status.is_at_rest, has_come, self.idle, asks);
+        let heard = is_heard(has_come, step);
+        self.idle = running(status.is_at_rest, heard, self.idle, asks);
         let anew = step.tells_link();
         let relinks = deadline(now, times.t20);
         self.restart = running(status.is_restarting, anew, self.restart, relinks);
+        self.heed_channels(now, station);
+    }
+
+    /// Begins beside a station, whatever it has heeded: what the station awaits is awaited from this moment on.
+    pub fn begin(&mut self, now: u64, station: &Station)
+        ensures begins { (c : Settings) (s : State) → FitsStation c station.now s
+            → plain self.new ≡ begun self.old.times now self.old.channels c s }
+        ensures times { self.new.times ≡ self.old.times }
+        ensures channels { self.new.channels ≡ self.old.channels }
+    {
+        let times = self.times;
+        let status = station.status();
+        self.t1 = since(status.timer_runs, now, times.t1);
+        self.idle = since(status.is_at_rest, now, times.t3);
+        self.restart = since(status.is_restarting, now, times.t20);
+        self.waits.clear();
         self.heed_channels(now, station);
     }
 

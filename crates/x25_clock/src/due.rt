@@ -1,8 +1,10 @@
 ghost use Rattle.std.specs.Prelude.{◌≡◌, option_map};
-ghost use Rattle.x25_clock.specs.Due.{channel_for, command_for, timer_number};
+ghost use Rattle.x25_clock.specs.Due.Asking.{AsksFor, DoesDue};
+ghost use Rattle.x25_clock.specs.Due.{channel_for, command_for, is_full, is_packet, timer_number};
 ghost use Rattle.x25_station.specs.Command.{command_of};
 
-use x25_station::{Awaits, Cmd, Role};
+use x25_layer::LayerError;
+use x25_station::{Awaits, Cmd, Role, Station, StationError, Step};
 
 /// What is to be asked of a station, as a time has passed.
 #[derive(Clone, Copy, Debug, PartialEq, Eq)]
@@ -17,6 +19,13 @@ pub enum Due {
     Restart { channel: u16 },
     /// `Cmd::Relink`: a restart wasn't confirmed, T20.
     Relink,
+}
+
+// Whether it is refused since 256 packets wait.
+fn is_full(error: StationError) -> bool
+    ensures { result ≡ is_full error }
+{
+    matches!(error, StationError::Layer(LayerError::QueueFull))
 }
 
 impl Due {
@@ -38,6 +47,41 @@ impl Due {
                 diagnostic: 0,
             }),
             Due::Relink => Some(Cmd::Relink),
+        }
+    }
+
+    // Whether it is asked by a packet.
+    fn is_packet(self) -> bool
+        ensures { result ≡ is_packet self }
+    {
+        matches!(self, Due::Clear { .. } | Due::Restart { .. })
+    }
+
+    // Asks this and nothing else.
+    fn ask_alone(self, station: &mut Station, step: &mut Step) -> Result<(), StationError>
+        ensures { DoesDue station.old station.new step.new result self }
+    {
+        match self.command() {
+            Some(command) => station.command(command, step),
+            None => station.t1(step),
+        }
+    }
+
+    /// Asks a station for it. Where 256 packets wait in the link, a clear and a restart would be refused (10): then the
+    /// link is set up anew at once, by `Cmd::Relink`, which needs no packet.
+    ///
+    /// Refused as T1 is, or the command that is asked, but never with 10 or 70. The station is as before then.
+    pub fn ask(self, station: &mut Station, step: &mut Step) -> Result<(), StationError>
+        ensures { AsksFor station.old station.new step.new result self }
+    {
+        match self.ask_alone(station, step) {
+            Ok(()) => Ok(()),
+            Err(error) => {
+                if self.is_packet() && is_full(error) {
+                    return Due::Relink.ask_alone(station, step);
+                }
+                Err(error)
+            }
         }
     }
 

@@ -2,11 +2,11 @@
 ghost use Rattle.x25_clock.specs.laws.AnswerLaw.{AnswerIsTold};
 ghost use Rattle.x25_clock.specs.laws.ClockLaw.{DeadlinesAreTrue};
 ghost use Rattle.x25_clock.specs.laws.PullLaw.{PullIsHeeded};
-ghost use Rattle.x25_clock.specs.laws.SilenceLaw.{IdleIsAsked, SilenceEnds};
+ghost use Rattle.x25_clock.specs.laws.SilenceLaw.{IdleIsAsked, IdleIsSinceHeard, NoiseIsUnheard, SilenceEnds};
 ghost use Rattle.x25_clock.specs.laws.WaitLaw.{NothingWaits};
 ghost use Rattle.x25_clock.specs.rows.SilentRows.{SilentPeerIsLeft};
 
-use x25_station::{silence_is_asked, stations_ask_or_rest, ways_out_lead_on};
+use x25_station::{silence_is_asked, stations_ask_or_rest, steps_keep_bounds, ways_out_lead_on};
 
 /// Over any events of a station at any times, each of them heeded, and with what is due asked for at any moments: the
 /// deadline of T1 stands exactly while T1 runs, that of an idle link while it is at rest, that of a restart while one
@@ -19,11 +19,13 @@ pub fn awaited_deadlines_are_true()
 /// No silence of the other end leaves a channel waiting. One who heeds each event, lets no moment pass at which
 /// something is due, and asks at once what is: then, whatever comes and whatever else is asked, a channel awaits an
 /// answer no longer than T21 for a call or T22 for a reset, T23 and T20 together, or hears of LinkUp or LinkDown
-/// before. None of these times is for ever, and 256 packets don't wait in the link where something is due.
+/// before. None of these times is for ever. Where 256 packets wait in the link as a clear or a restart is asked, the
+/// link is set up anew, and LinkDown is told.
 pub fn nothing_waits_for_ever()
     ensures { NothingWaits }
 {
     ways_out_lead_on();
+    steps_keep_bounds();
 }
 
 /// And the answer is told. One who obeys his clock so, while a channel awaits an answer or a restart is under way, is
@@ -35,12 +37,16 @@ pub fn answers_are_told()
     ways_out_lead_on();
 }
 
-/// Nor does a dead line stay unnoticed. One who obeys his clock so polls a link at rest of which no octets come after
-/// T3 at the latest; and while UA is awaited, or no octets come of a link that is up, LinkUp or LinkDown is told after
-/// N2 times T1 and once more at the latest, where T1 doesn't run after T3 and that. Neither T1 nor T3 is for ever.
+/// Nor does a dead line stay unnoticed. One who obeys his clock so polls a link at rest of which nothing is heard after
+/// T3 at the latest, and not before T3 since it was heard last; and while UA is awaited, or nothing comes but noise of
+/// a link that is up, LinkUp or LinkDown is told after N2 times T1 and once more at the latest, where T1 doesn't run
+/// after T3 and that. Neither T1 nor T3 is for ever. Noise, which is no frame that the other end sends, isn't heard and
+/// leaves the station as it was.
 pub fn silence_is_told()
     ensures ends { SilenceEnds }
     ensures idle { IdleIsAsked }
+    ensures since { IdleIsSinceHeard }
+    ensures noise { NoiseIsUnheard }
 {
     silence_is_asked();
     stations_ask_or_rest();

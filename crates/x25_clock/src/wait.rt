@@ -1,11 +1,12 @@
 //! Deadlines, and the answer that is awaited on a channel.
 ghost use Rattle.std.specs.Prelude.{◌≡◌, ◌==◌, not};
-ghost use Rattle.x25_clock.specs.Clock.{deadline, is_past, number_of, running, sooner, time_of, wait_after};
-ghost use Rattle.x25_clock.specs.Clock.{due_on, nothing_on, renewed};
+ghost use Rattle.x25_clock.specs.Clock.{deadline, is_heard, is_past, number_of, running, since, sooner, time_of};
+ghost use Rattle.x25_clock.specs.Clock.{due_on, nothing_on, renewed, wait_after};
 
 use crate::due::Due;
 use crate::times::Times;
 use x25_layer::Awaits;
+use x25_station::Step;
 
 /// What is awaited on a channel, and until when; no moment where it may take for ever.
 #[derive(Clone, Copy)]
@@ -47,6 +48,16 @@ pub(crate) fn sooner(one: Option<u64>, other: Option<u64>) -> Option<u64>
     }
 }
 
+/// Whether something is heard: octets came, and the station answers a frame or tells something.
+pub(crate) fn is_heard(has_come: bool, step: &Step) -> bool
+    ensures { result ≡ is_heard has_come step.now.frames step.now.entries.items }
+{
+    if step.frames.len() == 0 && step.entries.as_slice().is_empty() {
+        return false;
+    }
+    has_come
+}
+
 /// A deadline that stands while something is so, and begins anew where it is to.
 pub(crate) fn running(stands: bool, anew: bool, old: Option<u64>, new: Option<u64>) -> Option<u64>
     ensures { result ≡ running stands anew old new }
@@ -56,6 +67,13 @@ pub(crate) fn running(stands: bool, anew: bool, old: Option<u64>, new: Option<u6
         (true, false, Some(_)) => old,
         (true, _, _) => new,
     }
+}
+
+/// The deadline of what begins now, where that is so.
+pub(crate) fn since(stands: bool, now: u64, time: u32) -> Option<u64>
+    ensures { result ≡ since stands now time }
+{
+    if stands { deadline(now, time) } else { None }
 }
 
 fn number(awaits: Awaits) -> u8

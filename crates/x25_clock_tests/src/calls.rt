@@ -43,8 +43,9 @@ pub fn ask(station: &mut Station, command: Cmd<'_>, out: &mut Step) -> Result<()
     station.command(command, out)
 }
 
-pub fn fire(station: &mut Station, out: &mut Step) -> Result<(), StationError> {
-    station.t1(out)
+/// What is due is asked.
+pub fn insist(due: Due, station: &mut Station, out: &mut Step) -> Result<(), StationError> {
+    due.ask(station, out)
 }
 
 pub fn receive(station: &mut Station, octets: &[u8], out: &mut Step) {
@@ -53,6 +54,10 @@ pub fn receive(station: &mut Station, octets: &[u8], out: &mut Step) {
 
 pub fn heed(clock: &mut Clock, now: u64, station: &Station, step: &Step, has_come: bool) {
     clock.heed(now, station, step, has_come);
+}
+
+pub fn begin(clock: &mut Clock, now: u64, station: &Station) {
+    clock.begin(now, station);
 }
 
 pub fn due(clock: &mut Clock, now: u64) -> Option<Due> {
@@ -76,4 +81,9 @@ pub fn awaited(station: &Station) -> (Awaits, bool, bool) {
         station.status().is_restarting,
         station.awaits_answers(),
     )
+}
+
+/// Whether UA is awaited.
+pub fn awaits_ua(station: &Station) -> bool {
+    station.status().awaits_ua
 }

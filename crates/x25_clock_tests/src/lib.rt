@@ -4,6 +4,8 @@
 #[cfg(test)]
 mod calls;
 #[cfg(test)]
+mod full;
+#[cfg(test)]
 mod moments;
 #[cfg(test)]
 mod silence;

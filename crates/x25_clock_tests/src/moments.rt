@@ -141,6 +141,64 @@ static ON_THE_HIGHEST: [Row; 11] = [
     (250, RR_4, 0, None, Some(260), CLEARED),
 ];
 
+/// Noise on a line at rest: an octet, a damaged frame, one of another address, and an RR that asks for nothing begin no
+/// time anew; a poll does.
+static NOISE: [Row; 11] = [
+    (0, Act::Ask(Cmd::Connect), 0, None, Some(10), NONE),
+    (0, UA, 0, None, Some(10), RESTARTS),
+    (0, RR_1, 0, None, Some(200), RESTARTS),
+    (0, RESTART, 0, None, Some(1000), NONE),
+    (10, Act::Take(&[0x03]), 0, None, Some(1000), NONE),
+    (
+        20,
+        Act::Take(&[0x01, 0x21, 0x14, 0x27]),
+        0,
+        None,
+        Some(1000),
+        NONE,
+    ),
+    (
+        30,
+        Act::Take(&[0x07, 0x01, 0xC6, 0x53]),
+        0,
+        None,
+        Some(1000),
+        NONE,
+    ),
+    (
+        40,
+        Act::Take(&[0x03, 0x21, 0xA4, 0x15]),
+        0,
+        None,
+        Some(1000),
+        NONE,
+    ),
+    (
+        50,
+        Act::Take(&[0x03, 0x31, 0x25, 0x05]),
+        0,
+        None,
+        Some(1050),
+        NONE,
+    ),
+    (1049, Act::Obey, 0, None, Some(1050), NONE),
+    (1050, Act::Obey, 0, Some(Due::Probe), Some(1060), NONE),
+];
+
+/// The clock begins once UA is awaited, and again once a call is.
+static BEGUN: [Row; 10] = [
+    (0, Act::Ask(Cmd::Connect), 0, None, Some(10), NONE),
+    (7000, Act::Begin, 0, None, Some(7010), NONE),
+    (7000, Act::Obey, 0, None, Some(7010), NONE),
+    (7000, UA, 0, None, Some(7010), RESTARTS),
+    (7000, RR_1, 0, None, Some(7200), RESTARTS),
+    (7100, Act::Begin, 0, None, Some(7300), RESTARTS),
+    (7100, RESTART, 0, None, Some(8100), NONE),
+    (7110, CALL, 0, None, Some(7120), CALLED),
+    (7111, RR_2, 0, None, Some(7320), CALLED),
+    (7200, Act::Begin, 0, None, Some(7410), CALLED),
+];
+
 #[test]
 fn moments_are_told_apart(rt: HostRuntime) {
     let odd_rows = [
@@ -149,6 +207,8 @@ fn moments_are_told_apart(rt: HostRuntime) {
         odd_row_of(rt.alloc(), (2, RESETS), &ANSWERED),
         odd_row_of(rt.alloc(), (2, TIMES), &LAST),
         odd_row_of(rt.alloc(), (4095, TIMES), &ON_THE_HIGHEST),
+        odd_row_of(rt.alloc(), (2, TIMES), &NOISE),
+        odd_row_of(rt.alloc(), (2, TIMES), &BEGUN),
     ];
-    assert_eq!(rt; odd_rows, [Some(None); 5]);
+    assert_eq!(rt; odd_rows, [Some(None); 7]);
 }

@@ -1,6 +1,6 @@
 //! A call that nobody answers, step by step, until the link is told down.
 
-use crate::calls::{ask, awaited, clock, due, fire, heed, next, receive, station};
+use crate::calls::{ask, awaited, begin, clock, due, heed, insist, next, receive, station};
 use std::alloc::Global;
 use x25_clock::{Clock, Due, Times};
 use x25_station::{Awaits, Cmd, Station, StationError, Step};
@@ -22,6 +22,8 @@ pub(crate) enum Act {
     Take(&'static [u8]),
     /// What is due is asked, the first of it.
     Obey,
+    /// The clock begins.
+    Begin,
 }
 
 /// The time, what happens then, the number of a refusal or 0, what was due, the next moment, and what is awaited on the
@@ -98,10 +100,7 @@ fn obey(station: &mut Station, due: Option<Due>, out: &mut Step) -> Result<(), S
     let Some(due) = due else {
         return Ok(());
     };
-    match due.command() {
-        None => fire(station, out),
-        Some(command) => ask(station, command, out),
-    }
+    insist(due, station, out)
 }
 
 fn number(answer: Result<(), StationError>) -> u8 {
@@ -111,7 +110,7 @@ fn number(answer: Result<(), StationError>) -> u8 {
     }
 }
 
-fn happens(
+pub(crate) fn happens(
     station: &mut Station,
     clock: &mut Clock,
     (now, act): (u64, Act),
@@ -135,6 +134,10 @@ fn happens(
                 heed(clock, now, station, out, false);
             }
             (number, found)
+        }
+        Act::Begin => {
+            begin(clock, now, station);
+            (0, None)
         }
     }
 }

@@ -1,35 +1,38 @@
 -- The pipe heeds a step with the pull behind it, as one who obeys a clock heeds both in turn.
-use Rattle.x25_pipe.proofs.Names.{◌≡◌, ◌≤◌, ◌+◌, ℕ, List, [], ◌++◌, Option, Some, None, refl, sym, ap, ◌∙◌, arith, PullsAll, Settings, layer_settings}
-use Rattle.x25_pipe.proofs.Names.{StationEntry, Station, Outcome, Did, Refused, StationEvent, Due, Times, Deadlines, Seen, heeded, after_due, command_for, Act}
+use Rattle.x25_pipe.proofs.Names.{◌≡◌, ◌≤◌, ◌+◌, ℕ, List, ◌++◌, refl, sym, ap, ◌∙◌, arith, PullsAll, Settings, layer_settings}
+use Rattle.x25_pipe.proofs.Names.{StationEntry, Station, Outcome, Did, Refused, StationEvent, Due, Times, Deadlines, Seen, heeded, after_due, Act}
 use Rattle.std.proofs.Common.{append-nil}
 use Rattle.x25_clock.specs.laws.{ClockLaw.{Watched, comes, heeds as heeds_event, seen_of}, PullLaw.{PullIsHeeded, seen_pulled}}
-use Rattle.x25_clock.specs.laws.WaitLaw.{Happens, IsAsked, by_command, all_done}
+use Rattle.x25_clock.specs.{Clock.{is_heard}, Due.{asked_of, event_for}, laws.WaitLaw.{Happens, IsAsked, all_done}}
+use Rattle.x25_frame.specs.Frame.{PlainFrame}
 use Rattle.x25_layer.specs.code.FitsLayer.{awaited_at}
-use Rattle.x25_pipe.{proofs.Names.{act_of, event_act, event_for, pulled_behind}, specs.Timed.{seen_at}}
+use Rattle.x25_pipe.{proofs.Names.{act_of, event_act, pulled_behind}, specs.Timed.{seen_at}}
 use Rattle.x25_pipe.specs.laws.ClockedLaw.{watched_in, with_pull, done_with_pull, EventIsDone, DueIsDone}
-use Rattle.x25_station.specs.{Command.{Command}, Pulling.{pulled_of}, Station.Told.{is_at_rest}, Step.{Step, requests}, Timer.{tells_link, timer_pulled}}
+use Rattle.x25_station.specs.{Pulling.{pulled_of}, Station.Told.{is_at_rest}, Step.{Step, requests}, Timer.{tells_link, timer_pulled}}
 use Rattle.x25_station.specs.laws.SettledLaw.{IsSettled, SettledBy, StaysSettled, GoesOn, PullsGoOn}
 use Rattle.x25_station.specs.laws.TimerLaw as timer
 
 -- ---- what is seen of a step with its pull
 
 -- by what the pull leads to
-abbrev at_both : Settings → Station → StationEvent → Step → Station → List StationEntry → Seen
-at_both c s event step next entries = record {
+abbrev at_both : Settings → Station → StationEvent → Step → Station → List PlainFrame → List StationEntry → Seen
+at_both c s event step next out entries = record {
   timer = timer_pulled (timer.timer s event (Did step)) step.near next;
   at_rest = is_at_rest next;
   restarting = next.layer.restarting;
   noted = tells_link entries;
-  come = comes event;
+  heard = is_heard (comes event) out entries;
   awaited = λ h. awaited_at (layer_settings c) next.layer h;
 }
 
 seen_same : (c : Settings) (s : Station) (event : StationEvent) (step : Step) (o : Outcome) → GoesOn c step.near (pulled_of step.near o)
-    → at_both c s event step (pulled_behind step o).near (pulled_behind step o).entries ≡ at_both c s event step (pulled_of step.near o).near step.entries
+    → at_both c s event step (pulled_behind step o).near (pulled_behind step o).out (pulled_behind step o).entries
+    ≡ at_both c s event step (pulled_of step.near o).near (step.out ++ (pulled_of step.near o).out) step.entries
 seen_same c s event step (Did p) goes =
-    ap (λ (es : List StationEntry). at_both c s event step p.near (step.entries ++ es)) goes.told
-    ∙ ap (λ (es : List StationEntry). at_both c s event step p.near es) (append-nil step.entries)
-seen_same c s event step (Refused e) goes = refl
+    ap (λ (es : List StationEntry). at_both c s event step p.near (step.out ++ p.out) (step.entries ++ es)) goes.told
+    ∙ ap (λ (es : List StationEntry). at_both c s event step p.near (step.out ++ p.out) es) (append-nil step.entries)
+seen_same c s event step (Refused e) goes =
+    ap (λ (out : List PlainFrame). at_both c s event step step.near out step.entries) (sym (append-nil step.out))
 
 next_same : (step : Step) (o : Outcome) → (pulled_behind step o).near ≡ (pulled_of step.near o).near
 next_same step (Did p) = refl
@@ -48,7 +51,7 @@ module _ (goes : PullsGoOn) (c : Settings) (times : Times) (event : StationEvent
       ≡ at_found (pulled_of step.near (requests c step.near PullsAll)).near (seen_pulled c s event step)
   did step settled =
       let o : Outcome = requests c step.near PullsAll in
-      ap (λ (t : Station). at_found t (at_both c s event step (pulled_behind step o).near (pulled_behind step o).entries)) (next_same step o)
+      ap (λ (t : Station). at_found t (at_both c s event step (pulled_behind step o).near (pulled_behind step o).out (pulled_behind step o).entries)) (next_same step o)
       ∙ ap (λ (x : Seen). at_found (pulled_of step.near o).near x) (seen_same c s event step o (goes c step.near settled))
 
 -- one who obeys does so at that moment, and none later
@@ -79,12 +82,12 @@ module _ (goes : PullsGoOn) (stays : StaysSettled) (heeded_so : PullIsHeeded) (c
           ∙ ap (λ (o : Outcome). heeds_event c times (w.now + 0) event o found) (sym is)
           ∙ ap (λ (o : Outcome). all_done c times (with_pull (Happens 0 event) o) w) (sym is)
 
-  asked : (due : Due) → (let event : StationEvent = by_command (command_for due) in
+  asked : (due : Due) → (let event : StationEvent = event_for (asked_of c s due) in
       acted goes c times event s (after_due times w.now w.deadlines) w.now (timer.outcome c s event)) ≡ done_with_pull c times (IsAsked 0 due) w
   asked due = by (timer.outcome c s event) refl (stays c s event small settled)
     where
       event : StationEvent
-      event = by_command (command_for due)
+      event = event_for (asked_of c s due)
 
       found : Watched
       found = record w { deadlines = after_due times (w.now + 0) w.deadlines; now = w.now + 0 }
@@ -106,13 +109,6 @@ pub event_is_done : PullsGoOn → StaysSettled → PullIsHeeded → EventIsDone
 unfolding event_act
 event_is_done goes stays heeded_so c times event w small settled = happens goes stays heeded_so c times (watched_in w) small settled event
 
-same_event : (o : Option Command) → by_command o ≡ event_for o
-same_event None = refl
-same_event (Some command) = refl
-
 pub due_is_done : PullsGoOn → StaysSettled → PullIsHeeded → DueIsDone
 unfolding event_act
-due_is_done goes stays heeded_so c times due w small settled =
-    let d : Deadlines = after_due times w.now w.deadlines in
-    ap (λ (event : StationEvent). acted goes c times event w.station d w.now (timer.outcome c w.station event)) (sym (same_event (command_for due)))
-    ∙ asked goes stays heeded_so c times (watched_in w) small settled due
+due_is_done goes stays heeded_so c times due w small settled = asked goes stays heeded_so c times (watched_in w) small settled due

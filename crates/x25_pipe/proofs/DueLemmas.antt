@@ -1,7 +1,7 @@
 -- What is due at one moment is asked so often at most: each time one moment less is past.
 use Rattle.x25_pipe.proofs.Names.{◌≡◌, ℕ, zero, suc, ◌+◌, ◌<◌, ◌≤◌, ◌==◌, List, [], ◌∷◌, length, map, Bool, true, false, if◌then◌else◌, nat_lt, Option, Some}
-use Rattle.x25_pipe.proofs.Names.{None, refl, sym, ap, subst, ◌∙◌, arith, lt-leb, Settings, Due, Times, command_for, Deadlines, Seen, heeded, due_of, after_due}
-use Rattle.x25_pipe.proofs.Names.{Act, asked_act, event_act, event_for, event_in, nothing_act, Timed, TimedTurn, new_timed, insist_turn, told_due, due_first}
+use Rattle.x25_pipe.proofs.Names.{None, refl, sym, ap, subst, ◌∙◌, arith, lt-leb, Settings, Due, Times, asked_of, event_for, Deadlines, Seen, heeded, due_of, after_due}
+use Rattle.x25_pipe.proofs.Names.{Act, asked_act, event_act, event_in, nothing_act, Timed, TimedTurn, new_timed, insist_turn, told_due, due_first}
 use Rattle.std.proofs.{Common.{◌^◌, not}, lemmas.Bool.{true≢false, eq-eqb, ltb-true}, lemmas.Option.{none-some, same_Some}}
 use Rattle.x25_circuit.specs.declared.awaits.{Awaits.{Awaits}, Awaits.TheVariants.{Nothing, Acceptance, ResetConfirmation, ClearConfirmation}}
 use Rattle.x25_clock.specs.Clock.{most_due, nothing_awaited, channels_from, deadline, is_past, number_of, time_of, t1_after, running, wait_after, overdue_of}
@@ -82,7 +82,7 @@ module _ (times : Times) (now : ℕ) where
   heeded_lower : (x : Seen) (d : Deadlines) → count now (heeded times now x d) ≤ count now d
   heeded_lower x d =
       let t1 = t1_lower x.timer d.t1 in
-      let idle = running_lower x.at_rest x.come d.idle times.t3 in
+      let idle = running_lower x.at_rest x.heard d.idle times.t3 in
       let restart = running_lower x.restarting x.noted d.restart times.t20 in
       let waits = waits_lower x.awaited d.waits in
       omega (arith, t1, idle, restart, waits)
@@ -295,7 +295,7 @@ module _ (c : Settings) (times : Times) where
   act_clock w a h = clock_heeds times w.now (seen_at c a) w.deadlines h
 
   insist_clock : (what : Due) (w : Timed) → IsClock w.deadlines → IsClock (insist_turn c times what w).next.deadlines
-  insist_clock what w h = act_clock w (event_act c w.station (event_for (command_for what))) h
+  insist_clock what w h = act_clock w (event_act c w.station (event_for (asked_of c w.station what))) h
 
   all_asked : (n : ℕ) (w : Timed) → IsClock w.deadlines → count w.now w.deadlines ≤ n
       → (let v : Timed = (due_turns c times n w).next in (due_of w.now v.deadlines ≡ None) × IsClock v.deadlines)
@@ -314,7 +314,7 @@ module _ (c : Settings) (times : Times) where
       by (Some what) is rest =
           let u : Timed = (insist_turn c times what v).next in
           let less = due_less times w.now w.deadlines what is in
-          let lower = heeded_lower times w.now (seen_at c (event_act c v.station (event_for (command_for what)))) v.deadlines in
+          let lower = heeded_lower times w.now (seen_at c (event_act c v.station (event_for (asked_of c v.station what)))) v.deadlines in
           rest u (insist_clock what v (clock_tells times w.now w.deadlines h)) (omega (arith, low, less, lower))
 
   answer_clock : (line : List ℕ) (w : Timed) (o : Option ℕ) → IsClock w.deadlines → IsClock (answer_turn c times line w o).next.deadlines

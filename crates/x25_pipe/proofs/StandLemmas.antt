@@ -2,8 +2,8 @@
 use Rattle.x25_pipe.proofs.Names.{◌≡◌, ◌∙◌, ◌==◌, ℕ, Bool, true, false, List, [], ◌∷◌, ◌++◌, map, Option, Some, None, Result, ap, sym, subst, refl, ◌||◌}
 use Rattle.x25_pipe.proofs.Names.{append-nil, or-false, Role, AppendsPrefix, PullsAll, StationEntry, StationEvent, FitsStation, Settings, layer_settings}
 use Rattle.x25_pipe.proofs.Names.{Station, Outcome, Did, Refused, prefix_more, saying_line, sayings_text, has_refusal, Turn, and_then, pulled_behind, Act}
-use Rattle.std.proofs.{Common.{Ok, MatchResult}, Math.Bool.{or-true}, lemmas.List.{map-append}, lemmas.Result.{MatchResult-weaker}}
-use Rattle.x25_clock.specs.laws.ClockLaw.{comes}
+use Rattle.std.proofs.{Common.{ap₂, Ok, MatchResult}, Math.Bool.{or-true}, lemmas.List.{map-append}, lemmas.Result.{MatchResult-weaker}}
+use Rattle.x25_clock.specs.Clock.{is_heard}
 use Rattle.x25_console.specs.Telling.{nothing_line, refusal_line}
 use Rattle.x25_frame.specs.{Frame.{PlainFrame}, Spelling.{spelling_of}}
 use Rattle.x25_io.specs.{code.Written.{Tells}, declared.fault.Fault.{Fault}}
@@ -122,6 +122,19 @@ pub begins_step : (c : Settings) (old next : Option (List ℕ)) (v : code.Statio
     → BeginsAt c old next told (said plain.near (step_told c plain))
 begins_step c old next v step plain told h b = subst (λ sayings. AppendsPrefix old next (told ++ sayings_text c.role sayings)) (answer_is c v step plain h) b
 
+-- whether it is heard doesn't go by what spells the frames
+heard_spelled : (come : Bool) (f : PlainFrame → List ℕ) (out : List PlainFrame) (entries : List StationEntry) → is_heard come (map f out) entries
+    ≡ is_heard come out entries
+heard_spelled come f [] [] = refl
+heard_spelled come f [] (e ∷ entries) = refl
+heard_spelled come f (x ∷ out) entries = refl
+
+pub heard_same : (c : Settings) (v : code.Station) (step : code_step.Step) (plain : Step) (come : Bool) → IsStep c v step (Did plain)
+    → is_heard come step.frames step.entries.items ≡ is_heard come plain.out plain.entries
+heard_same c v step plain come h =
+    ap₂ (λ (frames : List (List ℕ)) (entries : List StationEntry). is_heard come frames entries) h.sends h.enters
+    ∙ heard_spelled come (spelling_of c.role) plain.out plain.entries
+
 -- no step is answered where the definition refuses
 pub is_step : (c : Settings) (v : code.Station) (step : code_step.Step) (P : Outcome → Type 0) → ((plain : Step) → IsStep c v step (Did plain) → P (Did plain))
     → (o : Outcome) → IsStep c v step o → P o
@@ -132,32 +145,31 @@ is_step c v step P f (Refused e) h = absurd h.accepted
 
 module _ (c : Settings) (old now : Option (List ℕ)) (q : Pipe) (s : Station) (told : List ℕ) (refused : Bool) (result : Result Unit Fault) where
   -- what was refused, or asks for nothing
-  acted_quiet : (line : List ℕ) (x : Saying) (come : Bool) → has_refusal (x ∷ []) ≡ true → line ≡ saying_line c.role x
+  acted_quiet : (line : List ℕ) (x : Saying) → has_refusal (x ∷ []) ≡ true → line ≡ saying_line c.role x
       → MatchResult result (λ _. Tells old now q.output (told ++ line)) (λ _. AppendsPrefix old now (told ++ line))
-      → FitsStation c q.station s → q.end ≡ c.role → q.is_refused ≡ true → q.step.timer ≡ standing s → q.step.entries.items ≡ [] → q.has_come ≡ come
-      → Acted c old now q told refused result (record { next = s; sayings = x ∷ []; timer = standing s; entries = []; has_come = come })
-  acted_quiet line x come is same tells fits role status timer empty comes = MatchResult-weaker result tells
+      → FitsStation c q.station s → q.end ≡ c.role → q.is_refused ≡ true → q.step.timer ≡ standing s → fits.IsEmpty q.step
+      → Acted c old now q told refused result (record { next = s; sayings = x ∷ []; timer = standing s; entries = []; is_heard = false })
+  acted_quiet line x is same tells fits role status timer empty = MatchResult-weaker result tells
       (λ _ t. record {
         stands = stands_refused c old now q s told line refused x is same fits role status t;
         timer = timer;
-        entries = empty;
-        has_come = comes;
+        entries = empty.entries;
+        is_heard = ap₂ (λ (frames : List (List ℕ)) (entries : List StationEntry). is_heard q.has_come frames entries) empty.frames empty.entries;
       })
       (λ _ b. begins_told c old now s told line x same b)
 
   pub acted_nothing : MatchResult result (λ _. Tells old now q.output (told ++ nothing_line)) (λ _. AppendsPrefix old now (told ++ nothing_line))
-      → FitsStation c q.station s → q.end ≡ c.role → q.is_refused ≡ true → q.step.timer ≡ standing s → q.step.entries.items ≡ [] → q.has_come ≡ false
+      → FitsStation c q.station s → q.end ≡ c.role → q.is_refused ≡ true → q.step.timer ≡ standing s → fits.IsEmpty q.step
       → Acted c old now q told refused result (nothing_act s)
-  acted_nothing tells fits role status timer empty comes = acted_quiet nothing_line reads_nothing false refl (nothing_said c.role) tells fits role status timer
-      empty comes
+  acted_nothing tells fits role status timer empty = acted_quiet nothing_line reads_nothing refl (nothing_said c.role) tells fits role status timer empty
 
   pub acted_refused : (event : StationEvent) (error : StationError) (o : Outcome) → o ≡ Refused error
       → MatchResult result (λ _. Tells old now q.output (told ++ refusal_line (number_of error)))
       (λ _. AppendsPrefix old now (told ++ refusal_line (number_of error)))
-      → FitsStation c q.station s → q.end ≡ c.role → q.is_refused ≡ true → q.step.timer ≡ standing s → q.step.entries.items ≡ [] → q.has_come ≡ comes event
+      → FitsStation c q.station s → q.end ≡ c.role → q.is_refused ≡ true → q.step.timer ≡ standing s → fits.IsEmpty q.step
       → Acted c old now q told refused result (act_of c s event o)
-  acted_refused event error o is tells fits role status timer empty come = subst (λ o. Acted c old now q told refused result (act_of c s event o)) (sym is)
-      (acted_quiet (refusal_line (number_of error)) (refuses error) (comes event) refl (refusal_said c.role error) tells fits role status timer empty come)
+  acted_refused event error o is tells fits role status timer empty = subst (λ o. Acted c old now q told refused result (act_of c s event o)) (sym is)
+      (acted_quiet (refusal_line (number_of error)) (refuses error) refl (refusal_said c.role error) tells fits role status timer empty)
 
 -- ---- and with it
 
@@ -219,7 +231,7 @@ none_entered : (c : Settings) (s : Station) → (pulled c s).entries ≡ []
 none_entered c s =
     let lc = layer_settings c in
     none_in c s (layer_outcome lc (waiting_after (link_settings c) s.link [] == 256) s.layer PullsAll)
-    (calls (view_of (link_settings c) s.link) lc s.layer PullsAll)
+    (calls (view_of (link_settings c) s.turn s.link) lc s.layer PullsAll)
 
 module _ (c : Settings) (v u : code.Station) (step both : code_step.Step) where
   pub pulled_step : (o : Outcome) → IsStep c v step o → Pulls v u step.frames both.frames

@@ -2,7 +2,7 @@
 use Rattle.x25_pipe.proofs.Names.{◌≡◌, ◌∙◌, ◌<◌, ℕ, zero, suc, Bool, false, List, [], ◌∷◌, ◌++◌, Option, Some, None, Result, append_assoc, ap, refl, sym, subst}
 use Rattle.x25_pipe.proofs.Names.{arith, ◌||◌, append-nil, or-false, Due, Times, Deadlines, Seen, after_due, due_of, heeded, lines_of, AppendsPrefix}
 use Rattle.x25_pipe.proofs.Names.{prefix_more, Settings, FitsStation, Timed, TimedTurn, answer_turn, due_first, due_turns, insist_turn, new_timed, time_said}
-use Rattle.std.{proofs.Common.{◌-◌, MatchResult}, proofs.Math.Bool.{or_assoc}, proofs.lemmas.Result.{MatchResult-weaker}, specs.Io.KnownBytes.{Appends}}
+use Rattle.std.{proofs.Math.Bool.{or_assoc}, proofs.lemmas.Result.{MatchResult-weaker}, specs.Io.KnownBytes.{Appends}}
 use Rattle.x25_clock.specs.Clock.{nothing_awaited, plain}
 use Rattle.x25_io.proofs.{TakerLemmas.{between}, ToldLemmas.{told_prefix}}
 use Rattle.x25_io.specs.{HeldLine.{HoldsLine}, code.LinesLead.{LinesLead}}

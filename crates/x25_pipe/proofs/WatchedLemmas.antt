@@ -1,11 +1,11 @@
 -- What a pipe does with its clock, line by line, as moments of one who has a clock.
 use Rattle.x25_pipe.proofs.Names.{◌≡◌, ◌≤◌, ◌+◌, ◌==◌, ℕ, zero, suc, length, List, [], ◌∷◌, ◌++◌, Bool, true, false, if◌then◌else◌, nat_lt, Option, Some, None}
 use Rattle.x25_pipe.proofs.Names.{refl, sym, ap, subst, ◌∙◌, arith, PullsAll, Settings, layer_settings, StationEntry, Station, Outcome, Did, Refused}
-use Rattle.x25_pipe.proofs.Names.{StationEvent, Due, Times, due_of, after_due, command_for, act_of, asked_act, event_act, event_for, event_in, nothing_act}
+use Rattle.x25_pipe.proofs.Names.{StationEvent, Due, Times, due_of, after_due, act_of, asked_act, event_act, event_in, nothing_act}
 use Rattle.x25_pipe.proofs.Names.{pulled_behind, Timed, TimedTurn, answer_turn, due_first, due_turns, insist_turn, new_timed, time_said, timed_turn}
 use Rattle.std.proofs.{Common.{◌-◌}, lemmas.Bool.{ltb-false}}
 use Rattle.x25_circuit.specs.Calling.{SaysReady}
-use Rattle.x25_clock.specs.{Clock.{most_due}, laws.ClockLaw.{Moment, Happens, IsDue, Watched, heeds as heeds_event, watched_by, watched_from}}
+use Rattle.x25_clock.specs.{Clock.{most_due}, Due.{asked_of, event_for}, laws.ClockLaw.{Moment, Happens, IsDue, Watched, heeds as heeds_event, watched_by, watched_from}}
 use Rattle.x25_layer.specs.{Calls.{Asks as asks_on, outcome_in}, laws.Rounds.{Refuses, went}}
 use Rattle.x25_link.specs.{Link.{alone}, Outgoing.{waits}, Station.{is_up}}
 use Rattle.x25_pipe.{proofs.Names.{timed_turns, told_due}, specs.Timed.{act_turn}, specs.laws.ClockedLaw.{watched_in, with_pull, EventIsDone, PipeIsWatched}}
@@ -62,7 +62,7 @@ never c s = by (is_up s.link.phase) s.layer.restarting
         (outcome_in (layer_settings c) full s.layer.restarting s.layer.restarts s.layer.circuits (asks_on 0 SaysReady))
 
     by : (up busy : Bool) → IsRefused (did c (alone s.link) entries
-        (if up then went (view_of (link_settings c) s.link) (layer_settings c)
+        (if up then went (view_of (link_settings c) s.turn s.link) (layer_settings c)
         (outcome_in (layer_settings c) full busy s.layer.restarts s.layer.circuits (asks_on 0 SaysReady)) else Refuses layer_error.NotUp))
     by false busy = record { error = station_error.Layer layer_error.NotUp; is = refl }
     by true true = record { error = station_error.Layer layer_error.Restarting; is = refl }
@@ -125,7 +125,7 @@ module _ (done : EventIsDone) (stays : StaysSettled) (c : Settings) (times : Tim
   first_reaches n w (Some what) rest h =
       let v : Timed = told_due times w in
       let u : Timed = (insist_turn c times what v).next in
-      let asked : Reaches v u = event_reaches v (event_for (command_for what)) h in
+      let asked : Reaches v u = event_reaches v (event_for (asked_of c v.station what)) h in
       on v u (due_turns c times n u).next asked.leads (rest u asked.settled)
 
   all_reach : (n : ℕ) (w : Timed) → IsSettled c w.station → Reaches w (due_turns c times n w).next

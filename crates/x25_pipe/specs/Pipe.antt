@@ -20,8 +20,8 @@ use Rattle.x25_station.specs.declared.config.Cfg.{Cfg}
 use Rattle.x25_station.specs.declared.error.StationError.{StationError}
 use Rattle.x25_station.specs.Error.{number_of}
 use Rattle.x25_station.specs.Config.{Settings, settings_from}
-use Rattle.x25_clock.specs.laws.ClockLaw.{comes}
-use Rattle.x25_station.specs.Command.{Command, Requests}
+use Rattle.x25_clock.specs.laws.ClockLaw.{hears}
+use Rattle.x25_station.specs.Command.{Requests}
 use Rattle.x25_layer.specs.Calls.{PullsAll}
 use Rattle.x25_station.specs.Entry.{StationEntry}
 use Rattle.x25_station.specs.Station.{Station, new_station}
@@ -181,13 +181,13 @@ event_turn c s event = pulling_turn c s event (timer.outcome c s event)
 
 -- ---- what comes of a line, but for its mark
 
--- the station behind it and what is said; what T1 became, what entries were told, and whether octets came
+-- the station behind it and what is said; what T1 became, what entries were told, and whether something was heard
 pub record Act : Type 0 where
   pub next : Station
   pub sayings : List Saying
   pub timer : Timer
   pub entries : List StationEntry
-  pub has_come : Bool
+  pub is_heard : Bool
 
 abbrev pub entries_told : Outcome → List StationEntry
 entries_told (Did step) = step.entries
@@ -199,7 +199,7 @@ act_of c s event o = record {
   sayings = outcome_told c (with_pulls c o);
   timer = timer_with_pulls c s event o;
   entries = entries_told (with_pulls c o);
-  has_come = comes event;
+  is_heard = hears event (with_pulls c o);
 }
 
 unfoldable pub event_act : Settings → Station → StationEvent → Act
@@ -211,17 +211,12 @@ nothing_act s = record {
   sayings = reads_nothing ∷ [];
   timer = standing s;
   entries = [];
-  has_come = false;
+  is_heard = false;
 }
 
 abbrev pub asked_act : Settings → Station → Option StationEvent → Act
 asked_act c s None = nothing_act s
 asked_act c s (Some event) = event_act c s event
-
--- what is due is asked for by a command, or else T1 fires
-abbrev pub event_for : Option Command → StationEvent
-event_for None = Fires
-event_for (Some asked) = Asks asked
 
 -- ---- with its mark
 

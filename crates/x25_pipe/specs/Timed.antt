@@ -14,7 +14,7 @@ use Rattle.x25_clock.specs.declared.due.Due.TheVariants as due
 use Rattle.x25_clock.specs.declared.times.Times.{Times}
 use Rattle.x25_clock.specs.Clock.{Deadlines, Seen, after_due, due_of, heeded, most_due, next_of}
 use Rattle.x25_clock.specs.Clock.{nothing_awaited}
-use Rattle.x25_clock.specs.Due.{command_for}
+use Rattle.x25_clock.specs.Due.{asked_of, event_for}
 use Rattle.x25_io.specs.HeldLine.{most_line}
 use Rattle.x25_io.specs.Lines.{lines_of}
 use Rattle.x25_layer.specs.code.FitsLayer.{awaited_at}
@@ -23,7 +23,7 @@ use Rattle.x25_station.specs.Station.{Station, new_station}
 use Rattle.x25_station.specs.Station.Told.{awaits_answers, is_at_rest, is_idle}
 use Rattle.x25_station.specs.Timer.{tells_link}
 use Rattle.x25_transcript.specs.EntryText.{channel_text, end_text}
-use Rattle.x25_pipe.specs.Pipe.{Act, asked_act, event_act, event_for, event_in, has_refusal, nothing_act, sayings_text}
+use Rattle.x25_pipe.specs.Pipe.{Act, asked_act, event_act, event_in, has_refusal, nothing_act, sayings_text}
 use Rattle.x25_pipe.specs.Pipe.{work_text}
 
 -- the station, its deadlines, and the time that was said last
@@ -59,7 +59,7 @@ seen_at c a = record {
   at_rest = is_at_rest a.next;
   restarting = a.next.layer.restarting;
   noted = tells_link a.entries;
-  come = a.has_come;
+  heard = a.is_heard;
   awaited = λ h. awaited_at (layer_settings c) a.next.layer h;
 }
 
@@ -114,10 +114,10 @@ unfoldable pub timeout_line : Role → Awaits → Due → List ℕ
 timeout_line end awaits due = end_text end ++ (codes "timeout " ++ (timer_text end awaits due ++ (channel_in due
     ++ codes "\n")))
 
--- it is told which timer has passed, and then what is due is asked for, as by the user
+-- it is told which timer has passed, and then what is due is asked for, as by the user, or that for which there is room
 abbrev pub insist_turn : Settings → Times → Due → Timed → TimedTurn
 insist_turn c times due w =
-    and_then (λ w. act_turn c times w (event_act c w.station (event_for (command_for due))))
+    and_then (λ w. act_turn c times w (event_act c w.station (event_for (asked_of c w.station due))))
     (writes w (timeout_line c.role (awaited_for c w.station due) due))
 
 abbrev pub told_due : Times → Timed → Timed

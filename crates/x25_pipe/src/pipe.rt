@@ -11,7 +11,7 @@ use x25_console::{
 use x25_decode::read_sent;
 use x25_io::{Fault, Output, Sink};
 use x25_script::{Command, HexDigits, ScriptTaker, read_line};
-use x25_station::{Cfg, Cmd, Role, Station, StationError, Step};
+use x25_station::{Cfg, Role, Station, StationError, Step};
 use x25_text::MOST_OCTETS;
 
 /// The station at an end, what it answered last, whether octets came then, the octets of a frame and of a command, and
@@ -47,7 +47,7 @@ fn is_memory(error: StationError) -> bool
 impl Pipe {
     ghost use Rattle.std.specs.Prelude.{[], ◌∷◌, ℕ, ◌<◌, Bool, true, false, List, Option, Some, None, OnOk, OnErr};
     ghost use Rattle.std.specs.Prelude.{MatchOption, MatchResult, length, take};
-    ghost use Rattle.x25_clock.specs.Due.{command_for};
+    ghost use Rattle.x25_clock.specs.Due.{asked_of, event_for};
     ghost use Rattle.x25_clock.specs.laws.ClockLaw.{comes};
     ghost use Rattle.x25_console.specs.Commands.{command_asked};
     ghost use Rattle.x25_io.specs.HeldLine.{most_line};
@@ -55,12 +55,11 @@ impl Pipe {
     ghost use Rattle.x25_io.specs.code.Written.{AppendsPrefix, Tells, TellsMore};
     ghost use Rattle.x25_script.specs.ScriptLine.{is_taken, plain_command};
     ghost use Rattle.x25_station.specs.code.FitsStation.{FitsStation};
-    ghost use Rattle.x25_station.specs.Command.{command_of};
     ghost use Rattle.x25_station.specs.Config.{Settings, config_refusal, settings_from};
     ghost use Rattle.x25_station.specs.Station.{Station as State, new_station};
     ghost use Rattle.x25_station.specs.Step.{Outcome};
     ghost use Rattle.x25_station.specs.laws.TimerLaw.{Asks, Comes, StationEvent, Fires, timer as timer_of};
-    ghost use Rattle.x25_pipe.specs.Pipe.{act_of, asked_act, event_act, event_for, event_in, mark_turn, nothing_act};
+    ghost use Rattle.x25_pipe.specs.Pipe.{act_of, asked_act, event_act, event_in, mark_turn, nothing_act};
     ghost use Rattle.x25_pipe.specs.Pipe.{sayings_text, standing_turn, trace_event};
     ghost use Rattle.x25_pipe.specs.code.Stands.{Acted, Acts, IsError, IsStep, Stands, Turns, answer_told};
 
@@ -265,30 +264,17 @@ impl Pipe {
         }
     }
 
-    /// Something is asked for that no line says.
-    fn request<W: Sink>(&mut self, command: Cmd, writer: &mut W) -> Result<(), Fault>
-        ensures acts { (c : Settings) (old : Option (List ℕ))
-            → Acts c old (W.contents writer.old) (W.contents writer.new) self.old self.new result
-            (λ s. event_act c s (Asks (command_of command.entry))) }
-        ensures faults { MarksFaults W.Sink writer.old writer.new result }
-    {
-        self.has_come = false;
-        match self.station.command(command, &mut self.step) {
-            Ok(()) => self.follow_up(writer),
-            Err(error) => self.refuse(error, writer),
-        }
-    }
-
-    /// What is due is asked for.
+    /// What is due is asked for, as no line says it.
     pub(crate) fn insist<W: Sink>(&mut self, due: Due, writer: &mut W) -> Result<(), Fault>
         ensures acts { (c : Settings) (old : Option (List ℕ))
             → Acts c old (W.contents writer.old) (W.contents writer.new) self.old self.new result
-            (λ s. event_act c s (event_for (command_for due))) }
+            (λ s. event_act c s (event_for (asked_of c s due))) }
         ensures faults { MarksFaults W.Sink writer.old writer.new result }
     {
-        match due.command() {
-            None => self.fire(writer),
-            Some(command) => self.request(command, writer),
+        self.has_come = false;
+        match due.ask(&mut self.station, &mut self.step) {
+            Ok(()) => self.follow_up(writer),
+            Err(error) => self.refuse(error, writer),
         }
     }
 

@@ -12,7 +12,7 @@ use Rattle.x25_station.specs.laws.TimerLaw as timer
 use Rattle.x25_station.specs.laws.TimerLaw.{Comes, Asks, Fires}
 use Rattle.x25_clock.specs.declared.times.Times.{Times}
 use Rattle.x25_clock.specs.declared.wait.Wait.{Wait}
-use Rattle.x25_clock.specs.Clock.{Deadlines, Seen, nothing_awaited, deadline, time_of, heeded, after_due}
+use Rattle.x25_clock.specs.Clock.{Deadlines, Seen, nothing_awaited, deadline, time_of, is_heard, heeded, after_due}
 
 -- so much later an event of the station happens, and is heeded; or what is due is asked for
 pub data Moment : Type 0 where
@@ -30,13 +30,18 @@ comes (Comes octets) = true
 comes (Asks command) = false
 comes Fires = false
 
+-- something is heard
+abbrev pub hears : timer.StationEvent → Outcome → Bool
+hears event (Did step) = is_heard (comes event) step.out step.entries
+hears event (Refused e) = false
+
 abbrev pub seen_of : Settings → Station → timer.StationEvent → Outcome → Seen
 seen_of c s event (Did step) = record {
   timer = timer.timer s event (Did step);
   at_rest = is_at_rest step.near;
   restarting = step.near.layer.restarting;
   noted = tells_link step.entries;
-  come = comes event;
+  heard = hears event (Did step);
   awaited = λ h. awaited_at (layer_settings c) step.near.layer h;
 }
 seen_of c s event (Refused e) = record {
@@ -44,7 +49,7 @@ seen_of c s event (Refused e) = record {
   at_rest = is_at_rest s;
   restarting = s.layer.restarting;
   noted = false;
-  come = comes event;
+  heard = false;
   awaited = λ h. awaited_at (layer_settings c) s.layer h;
 }
 

@@ -2,22 +2,20 @@
 -- long an answer is then awaited, whatever the other end does, and whatever else is asked. That memory is refused isn't
 -- spoken of.
 use Rattle.std.specs.Prelude.{◌≡◌, ℕ, ◌+◌, ◌^◌, ◌<◌, ◌≤◌, Bool, true, false, List, [], ◌∷◌, Option, Some, None}
-use Rattle.x25_link.specs.Outgoing.{waits}
 use Rattle.x25_circuit.specs.declared.awaits.Awaits.{Awaits}
 use Rattle.x25_circuit.specs.declared.awaits.Awaits.TheVariants.{Nothing, Acceptance, ResetConfirmation}
 use Rattle.x25_circuit.specs.declared.awaits.Awaits.TheVariants.{ClearConfirmation}
 use Rattle.x25_layer.specs.code.FitsLayer.{awaited_at}
-use Rattle.x25_station.specs.Command.{Command}
 use Rattle.x25_station.specs.Config.{Settings, layer_settings}
+use Rattle.x25_station.specs.Station.{Station}
 use Rattle.x25_station.specs.Step.{Outcome, Did, Refused}
 use Rattle.x25_station.specs.Timer.{tells_link}
 use Rattle.x25_station.specs.laws.TimerLaw as timer
-use Rattle.x25_station.specs.laws.TimerLaw.{Asks, Fires}
 use Rattle.x25_station.specs.laws.WayOutLaw.{rank}
 use Rattle.x25_clock.specs.declared.due.Due.{Due}
 use Rattle.x25_clock.specs.declared.times.Times.{Times}
 use Rattle.x25_clock.specs.Clock.{next_of, due_of, after_due}
-use Rattle.x25_clock.specs.Due.{command_for}
+use Rattle.x25_clock.specs.Due.{asked_of, event_for}
 use Rattle.x25_clock.specs.laws.ClockLaw.{Moment, Watched, heeds, watched}
 
 -- so much later an event of the station happens; or this is due, and is asked
@@ -25,18 +23,14 @@ pub data Deed : Type 0 where
   Happens : (later : ℕ) → (event : timer.StationEvent) → Deed
   IsAsked : (later : ℕ) → (due : Due) → Deed
 
--- what is due is asked by its command, and T1 fires
-abbrev pub by_command : Option Command → timer.StationEvent
-by_command None = Fires
-by_command (Some command) = Asks command
-
 abbrev pub later_by : Deed → ℕ
 later_by (Happens later event) = later
 later_by (IsAsked later due) = later
 
-abbrev pub event_of : Deed → timer.StationEvent
-event_of (Happens later event) = event
-event_of (IsAsked later due) = by_command (command_for due)
+-- what happens to the station then
+abbrev pub event_of : Settings → Deed → Station → timer.StationEvent
+event_of c (Happens later event) s = event
+event_of c (IsAsked later due) s = event_for (asked_of c s due)
 
 -- the deadlines as the event finds them: where something is asked its time has begun anew
 abbrev pub found_by : Times → Deed → Watched → Watched
@@ -46,10 +40,10 @@ found_by times (IsAsked later due) w =
 
 -- it happens, and is heeded
 abbrev pub outcome_of : Settings → Deed → Watched → Outcome
-outcome_of c deed w = timer.outcome c w.station (event_of deed)
+outcome_of c deed w = timer.outcome c w.station (event_of c deed w.station)
 
 abbrev pub done : Settings → Times → Deed → Watched → Watched
-done c times deed w = heeds c times (w.now + later_by deed) (event_of deed) (outcome_of c deed w)
+done c times deed w = heeds c times (w.now + later_by deed) (event_of c deed w.station) (outcome_of c deed w)
     (found_by times deed w)
 
 abbrev pub all_done : Settings → Times → List Deed → Watched → Watched
@@ -58,11 +52,10 @@ all_done c times (deed ∷ deeds) w = all_done c times deeds (done c times deed 
 
 -- ---- to obey
 
--- what is asked is due, and 256 packets don't wait in the link then
+-- what is asked is due
 abbrev pub IsFounded : Deed → Watched → Type 0
 IsFounded (Happens later event) w = Unit {0}
-IsFounded (IsAsked later due) w =
-    (due_of (w.now + later) w.deadlines ≡ Some due) × (waits w.station.link.outgoing < 256)
+IsFounded (IsAsked later due) w = due_of (w.now + later) w.deadlines ≡ Some due
 
 -- the next moment at which something is due doesn't pass
 abbrev pub IsNotPast : ℕ → Option ℕ → Type 0

@@ -36,7 +36,7 @@ times = record { t1 = 0; t3 = 0; t20 = 5; t21 = 3; t22 = 2; t23 = 4 }
 -- its link is up and in r1, and it calls at once
 abbrev pub before : Watched
 before = record {
-  station = record { link = fresh; layer = at_rest };
+  station = record { link = fresh; layer = at_rest; turn = 0 };
   deadlines = nothing_awaited dte.channels.count;
   now = 7;
 }

@@ -1,5 +1,6 @@
 -- What is held in the midst of an input: a station of which all was told, and what was told.
 use Rattle.std.specs.Prelude.{◌≡◌, ℕ, Bool, ◌||◌, List, ◌++◌, map, Option, Result, Ok, Err, MatchResult}
+use Rattle.x25_clock.specs.Clock.{is_heard}
 use Rattle.x25_io.specs.code.Written.{AppendsPrefix, Tells}
 use Rattle.x25_io.specs.declared.fault.Fault.{Fault}
 use Rattle.x25_station.specs.declared.error.StationError.{StationError}
@@ -43,7 +44,7 @@ pub record IsActed (c : Settings) (old now : Option (List ℕ)) (p : Pipe) (told
   pub stands : Stands c old now p a.next (told ++ sayings_text c.role a.sayings) (refused || has_refusal a.sayings)
   pub timer : p.step.timer ≡ a.timer
   pub entries : p.step.entries.items ≡ a.entries
-  pub has_come : p.has_come ≡ a.has_come
+  pub is_heard : is_heard p.has_come p.step.frames p.step.entries.items ≡ a.is_heard
 
 abbrev pub Acted : Settings → Option (List ℕ) → Option (List ℕ) → Pipe → List ℕ → Bool → Result Unit Fault → Act
     → Type 0

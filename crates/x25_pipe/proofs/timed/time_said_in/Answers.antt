@@ -1,4 +1,4 @@
-use Rattle.std.proofs.Common.{◌≡◌, ◌∙◌, ◌<◌, ◌≤◌, length, ap, sym, subst}
+use Rattle.std.proofs.Common.{◌≡◌, ◌∙◌, ◌<◌, ◌≤◌, length, ap, subst}
 use Rattle.std.specs.Prelude.{MatchOption}
 use Rattle.x25_io.specs.HeldLine.{most_line}
 use Rattle.x25_pipe.specs.Timed.{time_in}

@@ -1,4 +1,5 @@
-use Rattle.std.proofs.Common.{◌≡◌, ◌∙◌, ◌++◌, map, ap, subst, sym}
+use Rattle.std.proofs.Common.{◌≡◌, ◌∙◌, ◌++◌, Bool, ap, ap₂, subst, sym}
+use Rattle.x25_clock.specs.{Clock.{is_heard}, laws.ClockLaw.{comes}}
 use Rattle.std.proofs.lemmas.Result.{MatchResult-weaker}
 use Rattle.x25_io.specs.code.Written.{AppendsPrefix, Tells}
 use Rattle.x25_station.specs.declared.step.Step as code_step
@@ -6,7 +7,7 @@ use Rattle.x25_station.specs.Step.{Did}
 use Rattle.x25_station.specs.laws.TimerLaw as timer
 use Rattle.x25_pipe.specs.Pipe.{act_of, and_pulls, sayings_text}
 use Rattle.x25_pipe.specs.code.Stands.{Acted, IsStep, answer_told}
-use Rattle.x25_pipe.proofs.StandLemmas.{begins_step, is_step, pulled_step, pulled_timer_is, stands_told}
+use Rattle.x25_pipe.proofs.StandLemmas.{begins_step, heard_same, is_step, pulled_step, pulled_timer_is, stands_told}
 use Rattle.x25_pipe.proofs.pipe.Pipe.follow_up.Goals as goal
 
 pub returns-clause-acted : goal.returns-clause-acted
@@ -30,7 +31,8 @@ returns-clause-acted g c = λ k old s event o told refused is timed come role te
       timer = ap (λ (x : code_step.Step). x.timer) c.tell_answer.ensures.step
           ∙ pulled_timer_is k v u step both s event (Did plain) h (c.pull.ensures.timer c.requires k) timed;
       entries = ap (λ (x : code_step.Step). x.entries.items) c.tell_answer.ensures.step ∙ here.enters;
-      has_come = c.tell_answer.ensures.has_come ∙ come;
+      is_heard = ap₂ (λ (h : Bool) (x : code_step.Step). is_heard h x.frames x.entries.items) (c.tell_answer.ensures.has_come ∙ come) c.tell_answer.ensures.step
+          ∙ heard_same k q.station both pulls (comes event) here;
     })
     (λ _ b. begins_step k old now u both pulls told pulled (subst (λ end. AppendsPrefix old now (told ++ sayings_text end (answer_told both))) role b)))
     o is) timed

@@ -12,4 +12,4 @@ returns-clause-acted g c = λ k old s event o told refused h come is.
     let refusal = error_is error o is (λ is. let yes = c.is_memory.ensures.1 is in let no_memory = c.if-is_memory.false in cc) in
     acted_refused k old _ _ s told refused c.tell_refusal.result event error o refusal (rw c.number.ensures at (c.tell_refusal.ensures.tells old told h.tells))
     h.fits h.role refl
-    (c.reuse.ensures.timer k s h.fits) c.reuse.ensures.empty.entries come
+    (c.reuse.ensures.timer k s h.fits) c.reuse.ensures.empty

@@ -1,4 +1,4 @@
-use Rattle.std.proofs.Common.{◌≡◌, subst}
+use Rattle.std.proofs.Common.{subst}
 use Rattle.x25_pipe.specs.Timed.{answer_turn}
 use Rattle.x25_pipe.specs.code.TimedStands.{StoodTimed}
 use Rattle.x25_pipe.proofs.timed.TimedPipe.answer.Goals as goal

@@ -1,6 +1,5 @@
-use Rattle.std.proofs.Common.{◌≡◌, ◌∙◌, ◌-◌, ◌<◌, ℕ, suc, Option, Some, None, ap, refl, arith}
+use Rattle.std.proofs.Common.{◌∙◌, ◌-◌, Some, None, ap, refl, arith}
 use Rattle.std.proofs.lemmas.Result.{err_from_is_err_and}
-use Rattle.x25_clock.specs.declared.due.Due.{Due}
 use Rattle.x25_clock.specs.Clock.{most_due}
 use Rattle.x25_pipe.specs.Timed.{due_turns, insist_turn, told_due}
 use Rattle.x25_pipe.proofs.TimedLemmas.{all_left, due_alike, no_turn_left, none_left, nothing_is_due, part_done, part_failed, something_is_due, told_alike}

@@ -1,16 +1,16 @@
-use Rattle.std.proofs.Common.{◌≡◌, ◌∙◌, ◌++◌, ℕ, false, Option, List, ap, ap₂, sym, subst}
+use Rattle.std.proofs.Common.{◌≡◌, ◌∙◌, ◌++◌, ℕ, false, ap, ap₂, sym, subst}
 use Rattle.std.specs.Prelude.{◌||◌}
 use Rattle.std.proofs.Math.Bool.{or-false}
 use Rattle.std.proofs.lemmas.Result.{err_from_is_err_and}
 use Rattle.x25_bits.specs.declared.role.Role.{Role}
 use Rattle.x25_circuit.specs.declared.awaits.Awaits.{Awaits}
 use Rattle.x25_clock.specs.declared.due.Due.{Due}
-use Rattle.x25_clock.specs.Due.{command_for}
+use Rattle.x25_clock.specs.Due.{asked_of, event_for}
 use Rattle.x25_io.specs.code.Written.{AppendsPrefix, Tells}
 use Rattle.x25_layer.specs.code.FitsLayer.{awaited_at}
 use Rattle.x25_station.specs.Config.{Settings, layer_settings}
 use Rattle.x25_station.specs.Station.{Station}
-use Rattle.x25_pipe.specs.Pipe.{event_act, event_for}
+use Rattle.x25_pipe.specs.Pipe.{event_act}
 use Rattle.x25_pipe.specs.Timed.{Timed, act_turn, awaited_for, channel_for, timeout_line, writes}
 use Rattle.x25_pipe.proofs.TimedLemmas.{begins_before, begins_behind, stands_behind}
 use Rattle.x25_pipe.proofs.timed.TimedPipe.insist.Goals as goal
@@ -28,7 +28,7 @@ returns-in_err-tell_timeout-clause-turns g c = λ k times old w told refused h.
     let due = c.args.due in
     let line = line_is k w.station _ c.channel-awaits.result.awaits _ due h.pipe.role (c.channel-awaits.ensures.awaits k w.station h.pipe.fits)
     c.channel_of.ensures in
-    rw p.1 (begins_before k times old _ told refused (λ (v : Timed). act_turn k times v (event_act k v.station (event_for (command_for due))))
+    rw p.1 (begins_before k times old _ told refused (λ (v : Timed). act_turn k times v (event_act k v.station (event_for (asked_of k v.station due))))
     (writes w (timeout_line k.role (awaited_for k w.station due) due))
     (subst (λ t. AppendsPrefix old (g.W.Sink.contents c.tell_timeout.new.writer) (told ++ t)) line (c.in_err-tell_timeout.ensures.tells old told h.pipe.tells)))
 
@@ -39,7 +39,7 @@ returns-in_err-insist-clause-turns g c = λ k times old w told refused h.
     let line = line_is k w.station _ c.channel-awaits.result.awaits _ due h.pipe.role (c.channel-awaits.ensures.awaits k w.station h.pipe.fits)
     c.channel_of.ensures in
     let text = timeout_line k.role (awaited_for k w.station due) due in
-    rw p.1 (begins_behind k times old _ told refused (λ (v : Timed). act_turn k times v (event_act k v.station (event_for (command_for due)))) (writes w text)
+    rw p.1 (begins_behind k times old _ told refused (λ (v : Timed). act_turn k times v (event_act k v.station (event_for (asked_of k v.station due)))) (writes w text)
     (c.in_err-insist.ensures.acts k old w.station (told ++ text) (refused || false)
     (record {
       fits = h.pipe.fits;
@@ -55,8 +55,8 @@ returns-clause-turns g c = λ k times old w told refused h.
     let line = line_is k w.station _ c.channel-awaits.result.awaits _ due h.pipe.role (c.channel-awaits.ensures.awaits k w.station h.pipe.fits)
     c.channel_of.ensures in
     let text = timeout_line k.role (awaited_for k w.station due) due in
-    stands_behind k times old _ told refused (λ (v : Timed). act_turn k times v (event_act k v.station (event_for (command_for due)))) (writes w text) _
-    (c.heed.ensures k times old _ w (told ++ text) (refused || false) (event_act k w.station (event_for (command_for due)))
+    stands_behind k times old _ told refused (λ (v : Timed). act_turn k times v (event_act k v.station (event_for (asked_of k v.station due)))) (writes w text) _
+    (c.heed.ensures k times old _ w (told ++ text) (refused || false) (event_act k w.station (event_for (asked_of k w.station due)))
     (c.in_ok-insist.ensures.acts k old w.station (told ++ text) (refused || false)
     (record {
       fits = h.pipe.fits;

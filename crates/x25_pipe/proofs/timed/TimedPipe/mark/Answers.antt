@@ -1,4 +1,4 @@
-use Rattle.std.proofs.Common.{◌≡◌, ◌∙◌, ◌++◌, false, Bool, List, ℕ, Option, ap, ap₂, sym, subst}
+use Rattle.std.proofs.Common.{◌∙◌, ◌++◌, false, ap, ap₂, sym, subst}
 use Rattle.std.specs.Prelude.{◌||◌}
 use Rattle.std.proofs.Math.Bool.{or-false}
 use Rattle.std.proofs.lemmas.Result.{err_from_is_err_and, MatchResult-weaker}
