@@ -1,0 +1,4 @@
+pub mod Error
+pub mod Relay
+pub mod code
+pub mod laws

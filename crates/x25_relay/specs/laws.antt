@@ -1,0 +1,2 @@
+pub mod Recut
+pub mod RecutLaw

@@ -1,0 +1,2 @@
+pub mod SwitchLemmas
+pub mod rows

@@ -1,0 +1,2 @@
+-- Proofs of worked rows.
+pub mod SwitchRowLemmas

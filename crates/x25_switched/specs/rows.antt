@@ -1,0 +1,2 @@
+-- Worked rows.
+pub mod SwitchRows
