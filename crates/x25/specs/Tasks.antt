@@ -130,3 +130,14 @@ IsCutShort task status input old now = (status ≡ 3) × OfInput input (λ input
 -- how a run ends
 abbrev pub Ends : Task → ℕ → Option (List ℕ) → Option (List ℕ) → Option (List ℕ) → Type 0
 Ends task status input old now = IsDone task status input old now ⊎ IsCutShort task status input old now
+
+-- and how one on a file does: on what that gives, as `remaining` has it; where there is none, the status is 2 and
+-- nothing is written
+pub record EndsOnOne (F : Type 0) (remaining : F → Option (List ℕ)) (task : Task) (status : ℕ)
+    (old now : Option (List ℕ)) : Type 0 where
+  pub file : F
+  pub ends : Ends task status (remaining file) old now
+
+abbrev pub EndsOnFile : (F : Type 0) → (F → Option (List ℕ)) → Task → ℕ → Option (List ℕ) → Option (List ℕ) → Type 0
+EndsOnFile F remaining task status old now =
+    EndsOnOne F remaining task status old now ⊎ ((status ≡ 2) × (now ≡ old))

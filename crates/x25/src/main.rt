@@ -8,7 +8,7 @@ ghost use Rattle.clap.specs.Values.{kind_of};
 ghost use Rattle.std.specs.Prelude.{◌≡◌, ◌≢◌, ◌≤◌, ◌⊎◌, ◌↔◌, ◌++◌, ◌∷◌, [], ℕ, List};
 ghost use Rattle.std.specs.Prelude.{IfErr, IfOk, IfSome, IsTrue, OnErr, map};
 ghost use Rattle.x25.specs.Main.{EndsWithout, IsToldOf};
-ghost use Rattle.x25.specs.Tasks.{Ends};
+ghost use Rattle.x25.specs.Tasks.{Ends, EndsOnFile};
 ghost use Rattle.x25_settings.specs.Words.{AreInRange, Say};
 ghost use Rattle.x25_settings.specs.declared.words.Task.{Task as TaskValue};
 
@@ -181,7 +181,9 @@ fn run_on<R: Eprint + AllocGlobal + Files, W: Write>(
     writer: &mut Output<W>,
 ) -> u8
     requires { AreInRange task }
-    ensures { result ≤ 3 }
+    ensures done { EndsOnFile R.File R.File.remaining task result
+        (W.contents writer.old.writer) (W.contents writer.new.writer) }
+    ensures range { result ≤ 3 }
 {
     match File::open(rt, path) {
         Ok(file) => run(rt, task, &mut Device::new(file), writer),

@@ -7,4 +7,15 @@ pub mod JoinedShows
 pub mod JoinedRuns
 pub mod PeerEntries
 pub mod PeerShows
+pub mod PlayedText
+pub mod PlayedFollows
+pub mod PlayedLines
+pub mod PlayedReads
+pub mod PeerPlays
+pub mod JoinedPlays
+pub mod WithoutClock
+pub mod NotPast
+pub mod PullPhase
+pub mod Deeds
+pub mod Answered
 pub mod rows

@@ -39,10 +39,10 @@ ups_noted None false b = omega (arith)
 ups_noted (Some reason) true b = omega (arith)
 ups_noted (Some reason) false b = omega (arith)
 
-pub follows_ups : (c : Settings) (l : Layer) (k : LinkStep) (b : ℕ) → begun_by k.notes.up b ≡ b + ups_in (follows c l k).entries
-follows_ups c l k b =
-    let more = ups_append (entries_noted k.notes) (entries_heard (layer_settings c) c.wide l k.packet k.notes.down k.notes.up) in
-    let none = ups_heard (layer_settings c) c.wide l k.packet k.notes.down k.notes.up in
+pub follows_ups : (c : Settings) (s : Station) (k : LinkStep) (b : ℕ) → begun_by k.notes.up b ≡ b + ups_in (follows c s k).entries
+follows_ups c s k b =
+    let more = ups_append (entries_noted k.notes) (entries_heard (layer_settings c) c.wide s.layer k.packet k.notes.down k.notes.up) in
+    let none = ups_heard (layer_settings c) c.wide s.layer k.packet k.notes.down k.notes.up in
     let noted = ups_noted k.notes.down k.notes.up b in
     omega (arith, more, none, noted)
 
@@ -54,12 +54,12 @@ asked_ups : (c : Settings) (l : Layer) (request : LayerRequest) (o : LayerOutcom
 asked_ups c l request o step is = plain_none step.entries (subst ArePlain (sym is) (outcome_plain (layer_settings c) l request o))
 
 -- or to the link, which notes no LinkUp by it
-link_ups : (c : Settings) (l : Layer) (refusal : Option LinkError) (asked : List StationEntry) (k : LinkStep) (step : Step) → ups_in asked ≡ 0
-    → k.notes.up ≡ false → unless refusal (led_by asked (follows c l k)) ≡ Did step → ups_in step.entries ≡ 0
-link_ups c l refusal asked k step quiet none is =
-    let told : 0 ≡ 0 + ups_in (follows c l k).entries = subst (λ up. begun_by up 0 ≡ 0 + ups_in (follows c l k).entries) none (follows_ups c l k 0) in
-    let sum = ups_append asked (follows c l k).entries in
-    subst (λ s. ups_in s.entries ≡ 0) (unless_did refusal (led_by asked (follows c l k)) step is).1 (omega (arith, sum, quiet, told))
+link_ups : (c : Settings) (s : Station) (refusal : Option LinkError) (asked : List StationEntry) (k : LinkStep) (step : Step) → ups_in asked ≡ 0
+    → k.notes.up ≡ false → unless refusal (led_by asked (follows c s k)) ≡ Did step → ups_in step.entries ≡ 0
+link_ups c s refusal asked k step quiet none is =
+    let told : 0 ≡ 0 + ups_in (follows c s k).entries = subst (λ up. begun_by up 0 ≡ 0 + ups_in (follows c s k).entries) none (follows_ups c s k 0) in
+    let sum = ups_append asked (follows c s k).entries in
+    subst (λ s. ups_in s.entries ≡ 0) (unless_did refusal (led_by asked (follows c s k)) step is).1 (omega (arith, sum, quiet, told))
 
 pub commands_ups : (c : Settings) (s : Station) (asked : command.Command) (step : Step) → commands c s asked ≡ Did step → ups_in step.entries ≡ 0
 commands_ups c s (command.Requests request) step is =
@@ -67,14 +67,14 @@ commands_ups c s (command.Requests request) step is =
 commands_ups c s (command.RequestsWith g request) step is =
     asked_ups c s.layer _ _ step (gave_granted c s g (command.said_by c.say_sizes s.layer request) step is).entries
 commands_ups c s command.Connects step is =
-    link_ups c s.layer (connect_refusal s.link.phase) (connect_asked ∷ []) (connect_step (link_settings c) s.link) step refl refl is
+    link_ups c s (connect_refusal s.link.phase) (connect_asked ∷ []) (connect_step (link_settings c) s.link) step refl refl is
 commands_ups c s command.Disconnects step is =
-    link_ups c s.layer (disconnect_refusal s.link.phase) (disconnect_asked ∷ []) (disconnect_step (link_settings c) s.link) step refl refl is
+    link_ups c s (disconnect_refusal s.link.phase) (disconnect_asked ∷ []) (disconnect_step (link_settings c) s.link) step refl refl is
 commands_ups c s command.Probes step is =
-    link_ups c s.layer (probe_refusal s.link.phase) [] (timer_step (link_settings c) s.link) step refl (timer_silent (link_settings c) s.link).1 is
+    link_ups c s (probe_refusal s.link.phase) [] (timer_step (link_settings c) s.link) step refl (timer_silent (link_settings c) s.link).1 is
 commands_ups c s command.Relinks step is =
-    link_ups c s.layer (relink_refusal s.link.phase) (relink_asked ∷ []) (relink_step (link_settings c) s.link) step refl refl is
+    link_ups c s (relink_refusal s.link.phase) (relink_asked ∷ []) (relink_step (link_settings c) s.link) step refl refl is
 
 pub fires_ups : (c : Settings) (s : Station) (step : Step) → fires c s ≡ Did step → ups_in step.entries ≡ 0
 fires_ups c s step is =
-    link_ups c s.layer (timer_refusal s.link) [] (timer_step (link_settings c) s.link) step refl (timer_silent (link_settings c) s.link).1 is
+    link_ups c s (timer_refusal s.link) [] (timer_step (link_settings c) s.link) step refl (timer_silent (link_settings c) s.link).1 is

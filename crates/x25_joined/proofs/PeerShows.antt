@@ -285,7 +285,7 @@ module _ (c : Settings) (p : Program) (k : Kept c p) where
       let l = link_receives c s e.octets in
       something_happens (frame_words (other c.role) e.octets) (frame_open (other c.role) e.octets) l.notes.up rest (met_by c w e) step
       (line_did c s (frame_words (other c.role) e.octets) (Comes e.octets) (and_pulls c step) (frame_comes c.wide c.role e.octets fits) refl)
-      (follows_ups c s.layer l b) (beside.here w (took c w e rest) k.world.reached (beside.Takes e rest front))
+      (follows_ups c s l b) (beside.here w (took c w e rest) k.world.reached (beside.Takes e rest front))
 
   -- ---- the peer and the line
 

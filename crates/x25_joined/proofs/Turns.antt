@@ -18,7 +18,7 @@ frames-append [] ys = refl
 frames-append (sends octets ∷ xs) ys = ap (λ (fs : List (List ℕ)). octets ∷ fs) (frames-append xs ys)
 frames-append (other ∷ xs) ys = frames-append xs ys
 
-entries_entered : (es : List StationEntry) → entries_in (map enters es) ≡ es
+pub entries_entered : (es : List StationEntry) → entries_in (map enters es) ≡ es
 entries_entered [] = refl
 entries_entered (e ∷ es) = ap (λ (xs : List StationEntry). e ∷ xs) (entries_entered es)
 
@@ -26,7 +26,7 @@ frames_entered : (es : List StationEntry) → frames_in (map enters es) ≡ []
 frames_entered [] = refl
 frames_entered (e ∷ es) = frames_entered es
 
-entries_sent : (fs : List (List ℕ)) → entries_in (map sends fs) ≡ []
+pub entries_sent : (fs : List (List ℕ)) → entries_in (map sends fs) ≡ []
 entries_sent [] = refl
 entries_sent (f ∷ fs) = entries_sent fs
 

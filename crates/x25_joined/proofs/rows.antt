@@ -1,3 +1,4 @@
 -- Worked rows, by computing.
 pub mod JoinedRowLemmas
 pub mod BesidePeerRowLemmas
+pub mod TimedRowLemmas

@@ -3,3 +3,10 @@ pub mod JoinedClaims
 pub mod Joined
 pub mod BesidePeer
 pub mod BesidePeerClaims
+pub mod Obeyed
+pub mod Played
+pub mod PlayedClaims
+pub mod TimedJoined
+pub mod TimedJoinedClaims
+pub mod TimedPeer
+pub mod TimedPeerClaims

@@ -1,3 +1,4 @@
 -- Worked rows.
 pub mod JoinedRows
 pub mod BesidePeerRows
+pub mod TimedRows

@@ -1,16 +1,25 @@
-//! Two programs `x25 station`, or one and any peer, joined by a line, as laws about what they read and write. Each is
-//! the contract of a function that does nothing.
+//! Two programs `x25 station`, or one and any peer, joined by a line, with clocks or without, as laws about what they
+//! read and write. Each is the contract of a function that does nothing.
 ghost use Rattle.x25_world.specs.laws.Claims.{HasNoProcedureError, IsNamed};
 ghost use Rattle.x25_world.specs.laws.SessionClaims.{SessionsKeepOrder};
 ghost use Rattle.x25_joined.specs.laws.BesidePeerClaims.{KeepsSessions, OfProgram};
 ghost use Rattle.x25_joined.specs.laws.JoinedClaims.{AreLawful, AreWorlds, Arrive, OfPrograms, OfProgramsUpOnce};
 ghost use Rattle.x25_joined.specs.laws.JoinedClaims.{UntilSecondUp};
+ghost use Rattle.x25_joined.specs.laws.Obeyed.{AnswerIsWritten, ClockIsObeyed, SilenceIsWritten};
+ghost use Rattle.x25_joined.specs.laws.PlayedClaims.{AreProgramsWithoutClock, SaidIsWritten};
+ghost use Rattle.x25_joined.specs.laws.TimedJoinedClaims.{AreLawfulTimed, ArriveTimed, OfTimedPrograms};
+ghost use Rattle.x25_joined.specs.laws.TimedJoinedClaims.{OfTimedProgramsUpOnce, UntilSecondUpTimed};
+ghost use Rattle.x25_joined.specs.laws.TimedPeerClaims.{OfTimedProgram};
 ghost use Rattle.x25_joined.specs.rows.BesidePeerRows.{CallIsAccepted};
 ghost use Rattle.x25_joined.specs.rows.JoinedRows.{FiringHasToWait, LinkIsSetUp, LostSabmGoesAgain, MessageArrives};
 ghost use Rattle.x25_joined.specs.rows.JoinedRows.{OtherLinesDoNothing};
+ghost use Rattle.x25_joined.specs.rows.TimedRows.{LinkIsSetUpTimed, SabmGoesAgain, TimeHasToWait};
 
+use x25_clock::{answers_are_told, awaited_deadlines_are_true, silence_is_told};
 use x25_peer::any_peer_keeps_stations_over_sessions;
-use x25_script::lines_are_in_octets;
+use x25_pipe::clock_is_obeyed;
+use x25_script::{lines_are_in_octets, reading_is_the_grammar};
+use x25_station::stations_ask_or_rest;
 use x25_world::{stations_meet_in_sessions, two_stations_keep_order};
 
 /// Two programs, one at each end, with the same settings: each reads lines of its user, firings of its timer T1, and
@@ -95,4 +104,81 @@ pub fn programs_move()
     ensures timer { FiringHasToWait }
     ensures others { OtherLinesDoNothing }
     ensures message { MessageArrives }
+{}
+
+/// What a program with a clock writes, by the clause `text` of `timed_station`, is the text of what it plays: of lines
+/// that say no time, and of what is due at those that do (`text`). Its entries, its frames and its station are those of
+/// the program without one that reads, in the place of each line that says a time, the lines of its user for what is
+/// due then, in their order (`same`).
+///
+/// Premise of `same`: at most 4,095 channels.
+pub fn timed_program_is_a_program()
+    ensures text { SaidIsWritten }
+    ensures same { AreProgramsWithoutClock }
+{
+    reading_is_the_grammar();
+}
+
+/// As `any_peer_keeps_programs`, of a program with a clock: it reads lines of its user, times, and the frames on the
+/// line to it, in any interleaving.
+///
+/// Premises: those of `any_peer_keeps_programs`, of timer T1 where a line says a time at which it is due.
+pub fn any_peer_keeps_timed_programs()
+    ensures { OfTimedProgram KeepsSessions }
+{
+    reading_is_the_grammar();
+    lines_are_in_octets();
+    any_peer_keeps_programs();
+}
+
+/// As `two_programs_keep_order`, of two programs with clocks, each with times of its own: all its clauses.
+///
+/// Premises: those of `two_programs_are_a_world`, of timer T1 where a line says a time at which it is due.
+pub fn two_timed_programs_keep_order()
+    ensures lawful { UntilSecondUpTimed AreLawfulTimed }
+    ensures arrives { UntilSecondUpTimed ArriveTimed }
+    ensures named { OfTimedProgramsUpOnce IsNamed }
+    ensures quiet { OfTimedProgramsUpOnce HasNoProcedureError }
+{
+    reading_is_the_grammar();
+    two_programs_keep_order();
+}
+
+/// As `programs_meet_in_sessions`, of two programs with clocks.
+///
+/// Premises: those of `two_timed_programs_keep_order`.
+pub fn timed_programs_meet_in_sessions()
+    ensures { OfTimedPrograms SessionsKeepOrder }
+{
+    reading_is_the_grammar();
+    programs_meet_in_sessions();
+}
+
+/// A program with a clock obeys it, where no line says a time after the next moment that the mark before it has: what
+/// is due is asked at its moment, as the deeds of one who obeys his clock are (`clock`). So who asks something of it is
+/// answered within a bound, whatever the other end does: while a channel awaits an answer, or a restart is under way,
+/// it writes the answer, LinkUp or LinkDown within the time that `answers_are_told` has (`answers`). Where nothing
+/// comes of a link that is up but noise, or UA is awaited, it writes LinkUp or LinkDown within the time that
+/// `silence_is_told` has (`silence`).
+///
+/// Premises: k is at most 7; of `answers`, T20 to T23 aren't for ever; of `silence`, T1 and T3 aren't.
+pub fn timed_programs_obey_their_clock()
+    ensures clock { ClockIsObeyed }
+    ensures answers { AnswerIsWritten }
+    ensures silence { SilenceIsWritten }
+{
+    stations_ask_or_rest();
+    awaited_deadlines_are_true();
+    answers_are_told();
+    silence_is_told();
+    clock_is_obeyed();
+}
+
+/// Worked rows: a program asks that the link be set up, SABM is lost, and it goes again as T1 is due by its clock,
+/// beside a peer; the same of two programs, up to the RESTARTs of both; and that T1 has to wait while SABM is on the
+/// line.
+pub fn timed_programs_move()
+    ensures peer { SabmGoesAgain }
+    ensures two { LinkIsSetUpTimed }
+    ensures timer { TimeHasToWait }
 {}

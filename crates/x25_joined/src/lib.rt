@@ -7,6 +7,8 @@
 mod law;
 
 pub use law::{
-    any_peer_keeps_programs, programs_meet_in_sessions, programs_move, programs_move_beside_peers,
-    two_programs_are_a_world, two_programs_keep_order,
+    any_peer_keeps_programs, any_peer_keeps_timed_programs, programs_meet_in_sessions,
+    programs_move, programs_move_beside_peers, timed_program_is_a_program,
+    timed_programs_meet_in_sessions, timed_programs_move, timed_programs_obey_their_clock,
+    two_programs_are_a_world, two_programs_keep_order, two_timed_programs_keep_order,
 };

@@ -5,7 +5,7 @@ use Rattle.x25_sim.{proofs.Names.{◌≡◌, ℕ, Bool, true, false, List, Optio
 use Rattle.x25_sim.specs.laws.RunLaw.{IsInWindow, OfScripts, OfScriptsSetUp, OfAllScripts, ScriptsAreTold, ScriptsAreTapped}
 use Rattle.x25_sim.specs.laws.WritesRun.{Writes, WritesRun, WritesSetUp}
 use Rattle.x25_station.specs.Config.{config_refusal}
-use Rattle.x25_world.specs.laws.{Claims.{ArrivesAll, HasNoProcedureError, IsLawful, IsNamed}, SessionClaims.{SessionsKeepOrder}, SessionWindow.{UpIsInWindow}}
+use Rattle.x25_world.specs.laws.{Claims.{ArrivesAll, HasNoProcedureError, IsLawful, IsNamed}, ConfirmedClaims.{ConfirmedAreHandedUp}, SessionClaims.{SessionsKeepOrder}, SessionWindow.{UpIsInWindow}}
 use Rattle.x25_world.specs.laws.SessionClaims.{MeetInStep, AreLawfulWhereMet, AreNamedInSessions, AllArrive, UnmetAreToldNothing, OpenStretchesMeet}
 
 writes : (Holds : Cfg → World → Type 0) (cfg : Cfg) (down : Bool) (shown : Shown) (script : List ℕ) (old now : Option (List ℕ)) → ScriptsAreTold
@@ -26,16 +26,18 @@ module _ (cfg : Cfg) (fine : config_refusal cfg ≡ None) (shown : Shown) (old n
   set_up Holds law false script text up first = writes Holds cfg false shown script old now told taps text (law cfg fine shown script first)
 
   pub run_written : (down : Bool) → OfScripts IsLawful → OfScripts IsNamed → OfScripts ArrivesAll → OfScriptsSetUp IsInWindow → OfAllScripts SessionsKeepOrder
+      → OfAllScripts ConfirmedAreHandedUp
       → (read : List ℕ → List ℕ) (input : Option (List ℕ)) → OfInput input (λ script. Appends old now (sim_text cfg down shown (read script)))
       → OfInput input (λ script. WritesRun cfg down shown (read script) old now)
-  run_written down lawful named arrives window sessions read None text = tt
-  run_written down lawful named arrives window sessions read (Some script) text = λ few. record {
+  run_written down lawful named arrives window sessions confirmed read None text = tt
+  run_written down lawful named arrives window sessions confirmed read (Some script) text = λ few. record {
     lawful = λ once. writes IsLawful cfg down shown (read script) old now told taps (text few) (lawful cfg fine down shown (read script) once);
     named = λ once. writes IsNamed cfg down shown (read script) old now told taps (text few) (named cfg fine down shown (read script) once);
     arrives = λ once. writes ArrivesAll cfg down shown (read script) old now told taps (text few) (arrives cfg fine down shown (read script) once);
     quiet = λ once. writes HasNoProcedureError cfg down shown (read script) old now told taps (text few) (sessions cfg fine down shown (read script)).quiet;
     window = set_up IsInWindow window down (read script) (text few);
     sessions = writes SessionsKeepOrder cfg down shown (read script) old now told taps (text few) (sessions cfg fine down shown (read script));
+    confirmed = writes ConfirmedAreHandedUp cfg down shown (read script) old now told taps (text few) (confirmed cfg fine down shown (read script));
   }
 
 pub all_of_scripts : OfAllScripts MeetInStep → OfAllScripts AreLawfulWhereMet → OfAllScripts AreNamedInSessions → OfAllScripts AllArrive

@@ -1,6 +1,7 @@
 //! What the simulator writes is a run, and what holds of it, as laws about the definition: each is the contract of a
 //! function that does nothing.
 ghost use Rattle.x25_world.specs.laws.Claims.{ArrivesAll, HasNoProcedureError, IsLawful, IsNamed};
+ghost use Rattle.x25_world.specs.laws.ConfirmedClaims.{ConfirmedAreHandedUp};
 ghost use Rattle.x25_world.specs.laws.SessionClaims.{AllArrive, AreLawfulWhereMet, AreNamedInSessions, MeetInStep};
 ghost use Rattle.x25_world.specs.laws.SessionClaims.{OpenStretchesMeet, UnmetAreToldNothing};
 ghost use Rattle.x25_world.specs.laws.SessionWindow.{UpIsInWindow};
@@ -60,6 +61,7 @@ pub fn scripts_meet_in_sessions()
     ensures stand { OfAllScripts OpenStretchesMeet }
     ensures quiet { OfAllScripts HasNoProcedureError }
     ensures window { OfAllScripts UpIsInWindow }
+    ensures confirmed { OfAllScripts ConfirmedAreHandedUp }
 {
     scripts_are_runs();
     stations_meet_in_sessions();

@@ -4,6 +4,7 @@ use Rattle.std.specs.Io.KnownBytes.{Appends}
 use Rattle.x25_station.specs.declared.config.Cfg.{Cfg}
 use Rattle.x25_world.specs.World.{World}
 use Rattle.x25_world.specs.laws.Claims.{ArrivesAll, HasNoProcedureError, IsLawful, IsNamed, IsUpOnce, IsUpAtMostOnce}
+use Rattle.x25_world.specs.laws.ConfirmedClaims.{ConfirmedAreHandedUp}
 use Rattle.x25_world.specs.laws.SessionClaims.{SessionsKeepOrder}
 use Rattle.x25_sim.specs.Telling.{Saying, sayings_text}
 use Rattle.x25_sim.specs.Stage.{simulated}
@@ -44,3 +45,4 @@ pub record WritesRun (cfg : Cfg) (down : Bool) (shown : Shown) (script : List â„
   pub window : WritesSetUp IsInWindow cfg down shown script old now
   -- of every script
   pub sessions : Writes SessionsKeepOrder cfg down shown script old now
+  pub confirmed : Writes ConfirmedAreHandedUp cfg down shown script old now

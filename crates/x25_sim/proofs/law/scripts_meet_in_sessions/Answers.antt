@@ -1,4 +1,5 @@
 use Rattle.x25_world.specs.laws.Claims.{HasNoProcedureError}
+use Rattle.x25_world.specs.laws.ConfirmedClaims.{ConfirmedAreHandedUp}
 use Rattle.x25_world.specs.laws.SessionClaims.{AllArrive, AreLawfulWhereMet, AreNamedInSessions, MeetInStep, OpenStretchesMeet, UnmetAreToldNothing}
 use Rattle.x25_world.specs.laws.SessionWindow.{SessionsStayInWindow}
 use Rattle.x25_sim.proofs.RunLemmas.{of_all_scripts, of_all_runs}
@@ -27,3 +28,6 @@ returns-clause-quiet c = of_all_scripts HasNoProcedureError c.stations_meet_in_s
 
 pub returns-clause-window : goal.returns-clause-window
 returns-clause-window c = of_all_runs SessionsStayInWindow c.stations_meet_in_sessions.ensures.window c.scripts_are_runs.ensures
+
+pub returns-clause-confirmed : goal.returns-clause-confirmed
+returns-clause-confirmed c = of_all_scripts ConfirmedAreHandedUp c.stations_meet_in_sessions.ensures.confirmed c.scripts_are_runs.ensures

@@ -10,6 +10,6 @@ returns-clause-claims g c =
     let all = all_of_scripts of.step of.lawful of.named of.arrives of.unmet of.stand of.quiet of.window in
     on_ok_weaker c.play.result
     (run_written c.args.cfg c.requires.range c.args.shown (g.W.Sink.contents c.args.writer.now) _ law.told law.tapped c.args.down law.lawful law.named
-    law.arrives law.window all (asked_text c.args.loose)
+    law.arrives law.window all of.confirmed (asked_text c.args.loose)
     (g.R.Source.remaining c.args.reader.now))
     c.play.ensures.answers.text
