@@ -104,7 +104,8 @@ def judged(program, words, frames):
     done = subprocess.run([program, "judge", "--at", "line", *words], input="".join(frames), stdout=subprocess.PIPE, text=True)
     lines = done.stdout.splitlines()
     at_fault = [line for line in lines if runs.TOLD.search(line) or line == "? 60"]
-    if done.returncode != (0 if frames else 1) and not at_fault:
+    nothing_judged = bool(lines) and lines[-1].startswith("# nothing was judged")
+    if done.returncode != nothing_judged and not at_fault:
         at_fault = [f"judge ended with status {done.returncode}"]
     return at_fault, len(lines)
 

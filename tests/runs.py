@@ -2,6 +2,7 @@
 
 import argparse
 import os
+import random
 import re
 import sys
 
@@ -55,7 +56,7 @@ def words(about, runs):
     """The parser of the words that each such script takes."""
     parser = argparse.ArgumentParser(description=about, formatter_class=argparse.RawDescriptionHelpFormatter)
     parser.add_argument("runs", metavar="RUNS", type=int, nargs="?", default=runs, help=f"how many runs ({runs:,})")
-    parser.add_argument("--from", dest="first", metavar="SEED", type=int, default=0, help="the seed of the first run (0)")
+    parser.add_argument("--from", dest="first", metavar="SEED", type=int, help="the seed of the first run; else it is a new one, and is said")
     parser.add_argument("--program", default=find_program(), help="the program")
     return parser
 
@@ -65,6 +66,9 @@ def options_of(parser):
     options = parser.parse_args()
     if options.program is None:
         parser.error("there is no program: make x25")
+    if options.first is None:
+        options.first = random.randrange(1 << 30)
+        print(f"from seed {options.first} on", flush=True)
     options.seeds = range(options.first, options.first + options.runs)
     return options
 

@@ -60,6 +60,7 @@ def in_other_forms(trace):
 
 
 NOTHING = b"# nothing was judged: no line has a frame in hexadecimal digits\n"
+UNJUDGED = b"# nothing was judged: the trace shows no set-up of the link\n"
 
 
 def remarks(mark, output):
@@ -72,9 +73,12 @@ class Cases(unittest.TestCase):
 
     def setUp(self):
         page = support.read("docs", "JUDGE.md").decode()
-        lists = re.findall(r"(?:^- `.*\n(?:  .*\n)*)+", page, re.MULTILINE)
-        told = [re.findall("`([^`]+)`", "".join(re.findall(r"^- (`[^`]+`(?:, `[^`]+`)*)", part, re.MULTILINE))) for part in lists]
-        self.rules, self.manners, self.notes = ([re.sub(r" \d+$", "", text) for text in texts] for texts in told)
+        told: dict[str, list[str]] = {}
+        for section in re.split(r"^## ", page, flags=re.MULTILINE):
+            texts = re.findall(r"^\*\*`([^`]+)`", section, re.MULTILINE)
+            told[section.partition("\n")[0]] = [re.sub(r" \d+$", "", text) for text in texts]
+        self.rules = told["Rules of the link"] + told["Rules of packets"]
+        self.manners, self.notes = told["Manners"], told["Notes"]
         self.cases = {case.name: case for case in golden.cases(golden.chosen(["judge"])[0])}
 
     def broken(self, mark, rules):
@@ -91,11 +95,12 @@ class Cases(unittest.TestCase):
             is_strict = "--strict" in case.words and re.search(rb"^# .* [1-9]\d* not judged$|^[<>] \.\.$| in doubt$", case.output, re.MULTILINE)
             doubts = len(re.findall(rb" (?:!|~)\? ", case.output))
             is_empty = b"# dte: 0 frames" in case.output and b"# dce: 0 frames" in case.output
-            counts = broken[name] or ("--manners" in case.words and ill[name]) or is_strict or is_empty or b"\n? 60\n" in b"\n" + case.output
+            is_judged = re.search(rb"^# .* [1-9]\d* judged, ", case.output, re.MULTILINE) or broken[name] or ill[name] or doubts
+            counts = broken[name] or ("--manners" in case.words and ill[name]) or is_strict or not is_judged or b"\n? 60\n" in b"\n" + case.output
             self.assertEqual(case.status, 1 if counts else 0, name)
             more = b", %d in doubt" % doubts if doubts else b""
             told = b"# told: %d rules, %d manners%s\n" % (len(broken[name]), len(ill[name]), more)
-            self.assertTrue(case.output.endswith(NOTHING if is_empty else told), name)
+            self.assertTrue(case.output.endswith(NOTHING if is_empty else told if is_judged else UNJUDGED), name)
 
     def test_each_of_manners_counts_with_a_word_for_it(self):
         ill = self.broken(" ~ manners: ", self.manners)
@@ -182,8 +187,8 @@ class Runs(support.ToolCase):
 class Oracle(support.ToolCase):
     """No break is missed and no innocent accused, by an oracle of the rules."""
 
-    def none_is_wrong(self, play, count, broken):
-        played = [play(PROGRAM, seed) for seed in range(count)]
+    def none_is_wrong(self, play, count, broken, more=()):
+        played = [play(PROGRAM, seed) for seed in (*range(count), *more)]
         self.assertEqual([line for run in played for line in run.wrong], [])
         self.assertGreaterEqual(sum(run.broken for run in played), broken * sum(run.tapes for run in played))
 
@@ -205,7 +210,7 @@ class Oracle(support.ToolCase):
 
     @support.needs_program
     def test_of_short_tapes(self):
-        self.none_is_wrong(rules_runs.play, RULES_RUNS, 1 / 3)
+        self.none_is_wrong(rules_runs.play, RULES_RUNS, 1 / 3, rules_runs.ONCE_WRONG)
 
 
 @support.needs_program
@@ -225,17 +230,15 @@ class Recorded(support.ToolCase):
         lines = [line for line in done.stdout.decode().splitlines() if not line.startswith("# ")]
         told = collections.Counter(told[1].split(" (")[0] for line in lines if (told := runs.TOLD.search(line)))
         self.assertEqual(told, {
-            "dte: CLEAR CONFIRMATION of no CLEAR": 1,
+            "dte: CLEAR CONFIRMATION of no CLEAR": 4,
+            "dte: nothing but CLEAR goes before its confirmation": 1,
+            "dte: P(R) falls": 1,
             "dte: an I frame sent again has other octets": 1,
             "dte: N(S) repeats without REJ or a poll": 3,
         })
         # Packets weren't seen since the set-up before these.
         doubted = collections.Counter(line.split(" !? ")[1].split(" (")[0] for line in lines if " !? " in line)
-        self.assertEqual(doubted, {
-            "dte: CLEAR CONFIRMATION of no CLEAR": 5,
-            "dte: nothing but CLEAR goes before its confirmation": 1,
-            "dte: P(R) falls": 1,
-        })
+        self.assertEqual(doubted, {"dte: CLEAR CONFIRMATION of no CLEAR": 2})
         ends = rules.Ends()
         for line in trace.splitlines():
             ends.passes(rules.frame_of(chr(line[0]), bytes.fromhex(line[2:].decode())[:-2]))

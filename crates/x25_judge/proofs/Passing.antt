@@ -1,8 +1,8 @@
 -- A frame between two ends in a session, with nothing on the way.
-use Rattle.std.proofs.Common.{Bool, true, false, ◌≡◌, ◌&&◌, nat_lt, ℕ, refl, ap, ◌∙◌}
-use Rattle.x25_frame.specs.Frame.{PlainFrame, info}
+use Rattle.std.proofs.Common.{Bool, true, false, ◌≡◌, ◌&&◌, nat_lt, ℕ, refl, ap, ap₂, ◌∙◌}
+use Rattle.x25_frame.specs.Frame.{PlainFrame, info, ua}
 use Rattle.x25_judge.specs.{Held.{differs, is_same, keeps}, Links.{end_sent, end_shown, held_by, is_blind, judges, mind, minds, quiet}}
-use Rattle.x25_judge.specs.Links.{is_up, quietly, sees, sees_as, sees_by, sent_by, shown, steady}
+use Rattle.x25_judge.specs.Links.{is_up, opens, quietly, sees, sees_as, sees_by, sent_by, shown, steady}
 use Rattle.x25_judge.specs.declared.{links.End.{End}, links.Sent.{Sent}, manners.Manners.{Manners}}
 use Rattle.x25_possible_links.specs.code.Steps.{IsStep, IsTaken, Stepped, in_session, marked, numbers, sends_to, session_facts, telling, unread}
 use Rattle.x25_possible_links.specs.declared.{frame.Frame.{Frame}, set.Facts.{Facts}, set.LinkSet.{LinkSet}, set.Told.TheVariants.{Nothing}}
@@ -12,6 +12,11 @@ shown_so : (frame : PlainFrame) (d : Bool) → shown frame d ≡ marked d (shown
 unfolding shown
 shown_so (info ns nr p octets) d = refl
 shown_so frame d = refl
+
+none_open : (next : Numbers) (s : LinkSet) (frame : PlainFrame) → opens (in_session next s) frame ≡ false
+unfolding opens
+none_open next s (ua f) = refl
+none_open next s frame = refl
 
 sent_so : (frame : PlainFrame) (e : End) (k next : Numbers) (x : Frame) (d : Bool) → IsStep x k next e.set
     → sent_by frame (marked d x) e ≡ steady (is_same e.held frame) k
@@ -41,9 +46,9 @@ passing window frame own other k next taken m n step take judged minded =
     (sent_so frame own k next (shown frame false) d step) ∙ ap (λ (r : Stepped). sees_by window frame y (is_blind own other) t
     (record own { set = r.set; held = keeps (held_by r.told own.held) frame }) (end_shown y other)) (step.step d)
     ∙ ap (λ (s : LinkSet). sees_by window frame y (is_blind own other) t one (record other { set = s })) (take.step d)
-    ∙ ap (λ (b : Bool). mind one two (minds window t two.set frame (record (quietly own.manners other.manners) {
-      seen = record quiet { is_judged = b };
-    }))) (judged other.manners.polls (is_same own.held frame)) ∙ ap (mind one two) (minded (is_same own.held frame) two.set take.there)
+    ∙ ap₂ (λ (b o : Bool). mind one two (minds window t two.set frame (record (quietly own.manners other.manners) {
+      seen = record quiet { is_judged = b; is_open = o };
+    }))) (judged other.manners.polls (is_same own.held frame)) (none_open next own.set frame) ∙ ap (mind one two) (minded (is_same own.held frame) two.set take.there)
   where
     d : Bool
     d = differs own.held frame

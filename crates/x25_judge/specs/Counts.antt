@@ -1,9 +1,10 @@
 -- How many frames and packets of an end were seen, how many of them were judged, and what was told (profile).
-use Rattle.std.specs.Prelude.{ℕ, ◌+◌, ◌-◌, ◌%◌, ◌==◌, Bool, if◌then◌else◌, min, List, [], ◌++◌, codes, decimal}
+use Rattle.std.specs.Prelude.{ℕ, ◌+◌, ◌-◌, ◌%◌, ◌==◌, Bool, not, ◌||◌, if◌then◌else◌, min, List, [], ◌++◌, codes}
+use Rattle.std.specs.Prelude.{decimal}
 use Rattle.std.specs.{Prelude.{replicate, slice_index_or, slice_set}, List.{flat_map}}
 use Rattle.x25_bits.specs.declared.{role.Role.{Role}, role.Role.TheVariants.{Dte, Dce}}
 use Rattle.x25_judge.specs.declared.{counts.Count.{Count}, counts.Line.{Line}, counts.Tally.{Tally}}
-use Rattle.x25_judge.specs.declared.counts.Line.TheVariants.{Frames, Nothing, Packets, Told}
+use Rattle.x25_judge.specs.declared.counts.Line.TheVariants.{Frames, Nothing, Packets, Told, Unjudged}
 
 abbrev pub none : Count
 none = record { channel = 0; seen = 0; judged = 0 }
@@ -42,9 +43,17 @@ abbrev pub counted_text : Count → List ℕ → List ℕ
 counted_text c what = decimal c.seen ++ what ++ decimal c.judged ++ codes " judged, "
     ++ decimal (c.seen - c.judged) ++ codes " not judged\n"
 
+-- why none was judged
+abbrev pub why_of : Role → List ℕ
+why_of Dte = codes "# no frame of dte is judged: the trace shows no set-up\n"
+why_of Dce = codes "# no frame of dce is judged: the trace shows no set-up\n"
+
+abbrev pub why_line : Role → Count → List ℕ
+why_line from c = if c.seen == 0 || not (c.judged == 0) then [] else why_of from
+
 abbrev pub frames_line : Role → Count → List ℕ
-frames_line Dte c = codes "# dte: " ++ counted_text c (codes " frames, ")
-frames_line Dce c = codes "# dce: " ++ counted_text c (codes " frames, ")
+frames_line Dte c = codes "# dte: " ++ counted_text c (codes " frames, ") ++ why_line Dte c
+frames_line Dce c = codes "# dce: " ++ counted_text c (codes " frames, ") ++ why_line Dce c
 
 abbrev pub channel_of : Role → Count → List ℕ
 channel_of Dte c = codes "# dte channel " ++ decimal c.channel ++ codes ": "
@@ -70,3 +79,4 @@ line_text (Frames from c) = frames_line from c
 line_text (Packets from c) = packets_line from c
 line_text (Told t) = tally_line t
 line_text Nothing = codes "# nothing was judged: no line has a frame in hexadecimal digits\n"
+line_text Unjudged = codes "# nothing was judged: the trace shows no set-up of the link\n"

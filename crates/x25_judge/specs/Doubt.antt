@@ -5,7 +5,7 @@ use Rattle.x25_judge.specs.Rule.{is_of_manners}
 use Rattle.x25_judge.specs.declared.doubt.At.TheVariants as at
 use Rattle.x25_judge.specs.declared.{doubt.Frames.TheVariants.{Nothing, Lost, Any}, rule.Rule.{Rule}}
 use Rattle.x25_judge.specs.declared.doubt.{At.{At}, Frames.{Frames}, Lack.{Lack}}
-use Rattle.x25_judge.specs.declared.rule.Rule.TheVariants.{NoFrame, Differs, Packet}
+use Rattle.x25_judge.specs.declared.rule.Rule.TheVariants.{NoFrame, Differs, Packet, UaUnasked}
 use Rattle.x25_packet_judge.specs.declared.packet_rule.PacketRule.TheVariants.{NoPacket}
 use Rattle.x25_possible_links.specs.code.Steps.{awaits_before, has_request}
 use Rattle.x25_possible_links.specs.declared.set.LinkSet.{LinkSet}
@@ -28,10 +28,11 @@ abbrev pub lack : At → Role → LinkSet → Frames
 lack at from s = if awaits_before s then Any else lack_at at from s
 
 -- No frame that is missing makes a frame of octets that spell none. A number behind I frames that the line lost is a
--- new one.
+-- new one, and UA behind a UA that it lost may answer what waits.
 abbrev pub explains_as : Frames → Rule → Bool
 explains_as Nothing rule = false
 explains_as Lost Differs = true
+explains_as Lost UaUnasked = true
 explains_as Lost rule = is_of_manners rule
 explains_as Any NoFrame = false
 explains_as Any rule = true

@@ -1,7 +1,7 @@
 -- What `judge` writes, as a function of what it reads (profile): for each line what `decode` writes, and the rule or
 -- manners that its frame breaks.
 use Rattle.std.specs.Prelude.{ℕ, ◌==◌, Bool, true, false, not, ◌&&◌, ◌||◌, List, [], ◌++◌, codes, if◌then◌else◌, Option}
-use Rattle.std.specs.Prelude.{Some, None, is_some, Result, Ok, Err, unwrap_or}
+use Rattle.std.specs.Prelude.{Some, None, is_some, nat_le, Result, Ok, Err, unwrap_or}
 use Rattle.x25_bits.specs.declared.{role.Role.{Role}, role.Role.TheVariants.{Dte, Dce}}
 use Rattle.x25_decode.specs.Decoding.{gap_in, gap_text, line_text, mark_of, n1, sent_in}
 use Rattle.x25_decode.specs.declared.answer.Reading.{Reading}
@@ -14,9 +14,11 @@ use Rattle.x25_judge.specs.{Doubt.{explains_told, lack}, Held.{forgets_all}, Man
 use Rattle.x25_judge.specs.{Links.{Both, Missed, no_end, sees, misses}, Note.{first_note, note_text, packet_note}}
 use Rattle.x25_judge.specs.{Rule.{breaks_manners, breaks_order, first, is_of_manners}, RuleText.{rule_text}}
 use Rattle.x25_packet.specs.Reading.{channel_in}
-use Rattle.x25_possible_links.specs.code.Steps.{is_followed, is_known, unknown}
+use Rattle.x25_possible_links.specs.code.Steps.{is_followed, is_known, numbers, unknown}
+use Rattle.x25_possible_links.specs.declared.{stand.Stand.{Stand}, stand.Stand.TheVariants.{Up}}
 use Rattle.x25_packet_judge.specs.declared.{book.Book.{Book}, book.Verdict.{Verdict}}
-use Rattle.x25_judge.specs.declared.{counts.Line.{Line}, counts.Line.TheVariants.{Nothing, Told}, doubt.At.{At}}
+use Rattle.x25_judge.specs.declared.{counts.Line.{Line}, counts.Line.TheVariants.{Nothing, Told, Unjudged}}
+use Rattle.x25_judge.specs.declared.doubt.At.{At}
 use Rattle.x25_judge.specs.declared.{doubt.At.TheVariants.{Line as OnLine}, judge.Judge.{Judge}, links.End.{End}}
 use Rattle.x25_judge.specs.declared.{doubt.Lack.{Lack}, doubt.Frames.TheVariants.{Any}, links.Seen.{Seen}}
 use Rattle.x25_judge.specs.declared.{judge.Strictness.{Strictness}, note.Note.{Note}, rule.Rule.{Rule}}
@@ -37,8 +39,10 @@ begins window reading strictness = record {
   dte_packets = no_counts;
   dce_packets = no_counts;
   told = record { rules = 0; manners = 0; doubts = 0 };
+  has_judged = false;
   at = OnLine;
-  has_gap = false;
+  dte_misses = false;
+  dce_misses = false;
 }
 
 -- of a trace that was made at a place
@@ -63,12 +67,16 @@ behind Dce own other b j = record j { dte = other; dce = own; book = b }
 -- ---- what was judged
 
 abbrev pub counts_frame : Role → Bool → Judge → Judge
-counts_frame Dte is_judged j = record j { dte_frames = more 0 is_judged j.dte_frames }
-counts_frame Dce is_judged j = record j { dce_frames = more 0 is_judged j.dce_frames }
+counts_frame Dte is_judged j =
+    record j { dte_frames = more 0 is_judged j.dte_frames; has_judged = j.has_judged || is_judged }
+counts_frame Dce is_judged j =
+    record j { dce_frames = more 0 is_judged j.dce_frames; has_judged = j.has_judged || is_judged }
 
 abbrev pub counts_packet : Role → ℕ → Bool → Judge → Judge
-counts_packet Dte channel is_judged j = record j { dte_packets = counted channel is_judged j.dte_packets }
-counts_packet Dce channel is_judged j = record j { dce_packets = counted channel is_judged j.dce_packets }
+counts_packet Dte channel is_judged j =
+    record j { dte_packets = counted channel is_judged j.dte_packets; has_judged = j.has_judged || is_judged }
+counts_packet Dce channel is_judged j =
+    record j { dce_packets = counted channel is_judged j.dce_packets; has_judged = j.has_judged || is_judged }
 
 -- A packet counts where its I frame wasn't sent before. Information that is too short to name a channel counts on
 -- channel 0.
@@ -98,14 +106,28 @@ pub record Answer : Type 0 where
 
 -- ---- what may be missing
 
+-- an end acknowledged eight I frames of its session: of those that were on the way at once it took the last
+abbrev pub has_taken : Stand → Bool
+has_taken (Up k) = nat_le 8 k.told
+has_taken s = false
+
 -- it is known where an end stands, and nothing of before may come to it
 abbrev pub is_settled : End → Bool
 is_settled e = is_known e.set && is_followed e.set
 
--- after a gap any frames may be missing, until both ends are settled; and packets until the next set-up
+-- a gap may explain what is told of an end: one of both isn't settled, or it may not have taken what is missing
+abbrev pub misses_of : Role → Judge → Bool
+misses_of Dte j = j.dte_misses
+misses_of Dce j = j.dce_misses
+
+abbrev pub is_behind_gap : Role → Judge → Bool
+is_behind_gap from j = (j.dte_misses || j.dce_misses) && (not (is_settled j.dte && is_settled j.dce)
+    || (misses_of from j && not (has_taken (numbers (own_of from j).set))))
+
+-- then any frames may be missing; and packets until the next set-up
 abbrev pub lack_of : Judge → Role → Lack
 lack_of j from = record {
-  frames = if j.has_gap && not (is_settled j.dte && is_settled j.dce) then Any else lack j.at from (own_of from j).set;
+  frames = if is_behind_gap from j then Any else lack j.at from (own_of from j).set;
   packets = not j.book.is_whole;
 }
 
@@ -155,7 +177,10 @@ counts_by s in_doubt r =
 
 -- one more rule, or one more of manners, that was told
 abbrev pub tallies : Bool → Option Rule → Judge → Judge
-tallies in_doubt rule j = record j { told = tallied in_doubt (breaks_order rule) (breaks_manners rule) j.told }
+tallies in_doubt rule j = record j {
+  told = tallied in_doubt (breaks_order rule) (breaks_manners rule) j.told;
+  has_judged = is_some rule || j.has_judged;
+}
 
 abbrev pub told_of : Judge → Role → List ℕ → Seen → Judge → Answer
 told_of j from octets r next = let in_doubt = explains_told (lack_of j from) r.rule in record {
@@ -178,7 +203,7 @@ next_by from frame t s j = counts_carried from frame t.seen.is_again s.verdict.i
     (counts_frame from t.seen.is_judged (behind from t.own t.other s.book j))
 
 abbrev pub book_of : Judge → Role → PlainFrame → Seen → book.Seen
-book_of j from frame t = book.sees from j.reading frame (breaks_order t.rule) j.book
+book_of j from frame t = book.sees from j.reading frame (breaks_order t.rule) t.is_open j.book
 
 abbrev pub told_frame : Judge → Role → List ℕ → PlainFrame → Both → Answer
 told_frame j from octets frame t = told_of j from octets (remark_by frame t.seen (book_of j from frame t.seen).verdict)
@@ -192,7 +217,13 @@ remark_of j from frame t = remark_by frame t.seen (book_of j from frame t.seen).
 
 -- octets that spell no frame are judged where they aren't damaged
 abbrev pub remark_missed : FrameError → Missed → Seen
-remark_missed e m = record { rule = no_frame e; note = m.note; is_again = false; is_judged = is_some (no_frame e) }
+remark_missed e m = record {
+  rule = no_frame e;
+  note = m.note;
+  is_again = false;
+  is_judged = is_some (no_frame e);
+  is_open = false;
+}
 
 abbrev pub missed_by : Judge → Role → Missed
 missed_by j from = misses (own_of from j) (other_of from j)
@@ -212,16 +243,25 @@ read_of j from octets (Err e) =
 abbrev pub forgotten : End → End
 forgotten e = record { set = unknown; held = forgets_all e.held; manners = no_manners }
 
+abbrev pub is_dte : Role → Bool
+is_dte Dte = true
+is_dte Dce = false
+
 -- nothing is known of either end any more, but which packets may be on the way; and counts go on
-abbrev pub past_gap : Judge → Judge
-past_gap j =
-    record j { dte = forgotten j.dte; dce = forgotten j.dce; book = book.passes_gap j.book; has_gap = true }
+abbrev pub past_gap : Role → Judge → Judge
+past_gap from j = record j {
+  dte = forgotten j.dte;
+  dce = forgotten j.dce;
+  book = book.passes_gap j.book;
+  dte_misses = j.dte_misses || not (is_dte from);
+  dce_misses = j.dce_misses || is_dte from;
+}
 
 -- What is missing isn't judged; and a line that is none of a trace counts.
 abbrev pub gap_of : Judge → Option Role → Answer
 gap_of j None = record { next = j; text = gap_text None ++ codes "\n"; is_faulty = true; counts = true }
 gap_of j (Some from) = record {
-  next = past_gap j;
+  next = past_gap from j;
   text = gap_text (Some from) ++ codes "\n";
   is_faulty = j.strictness.unjudged;
   counts = j.strictness.unjudged;
@@ -238,12 +278,15 @@ answer_to j line = sent_of j (gap_in line) (sent_in line)
 
 -- ---- lines
 
--- no line had octets
+-- no frame and no packet was judged, and nothing told
 abbrev pub is_nothing : Judge → Bool
-is_nothing j = j.dte_frames.seen == 0 && j.dce_frames.seen == 0
+is_nothing j = not j.has_judged
 
+-- or no line had octets
 abbrev pub last_line : Judge → Line
-last_line j = if is_nothing j then Nothing else Told j.told
+last_line j =
+    if j.has_judged then Told j.told
+    else if j.dte_frames.seen == 0 && j.dce_frames.seen == 0 then Nothing else Unjudged
 
 -- behind the last one, how much was judged, and what was told
 abbrev pub counts_text : Judge → List ℕ

@@ -32,6 +32,11 @@ shown (ua f) differs = Ua
 shown (dm f) differs = Dm
 shown (frmr f why) differs = Frmr
 
+-- it is UA, behind which I frames may come in front of a SABM or DISC that waits
+unfoldable pub opens : LinkSet → PlainFrame → Bool
+opens s (ua f) = steps.is_open s
+opens s frame = false
+
 -- ---- which rule
 
 -- an N(R) that it may not send: whichever is nearer (2.3.4.9)
@@ -136,7 +141,8 @@ minded_as (Broken s) window k t ns p differs m = manners.again (t.is_same || dif
 minded_as (Skips s) window k t ns p differs m = manners.sends window (place_of k) ns p true m
 minded_as Nothing window k t ns p differs m =
     if t.facts.is_counted then manners.sends window (place_of k) ns p false m
-    else if ns == k.sent % 8 then manners.quiet m else manners.notes SentBehindDamage t.is_same m
+    else if ns == k.sent % 8 then manners.quiet (manners.adrift m)
+    else manners.notes SentBehindDamage t.is_same (manners.adrift m)
 
 -- where the end isn't known to be in a session, numbers may be left out
 abbrev pub counts_in : Stand → Told → ℕ → Sent → ℕ → Bool → Minding → Minding
@@ -197,7 +203,7 @@ minds window t to (frmr f why) b = answers f t.facts.is_shown b
 -- ---- a frame of a session of which nothing is said
 
 abbrev pub quiet : Seen
-quiet = record { rule = None; note = None; is_again = false; is_judged = true }
+quiet = record { rule = None; note = None; is_again = false; is_judged = true; is_open = false }
 
 abbrev pub quietly : Manners → Manners → Minding
 quietly own other = record { own = own; other = other; seen = quiet }
@@ -261,12 +267,13 @@ sent_by frame x e = record {
 }
 
 -- but for manners
-abbrev pub seen_of : Bool → Bool → ℕ → PlainFrame → Frame → Sent → Seen
-seen_of was is polls frame x t = record {
+abbrev pub seen_of : Bool → Bool → Bool → ℕ → PlainFrame → Frame → Sent → Seen
+seen_of was is is_open polls frame x t = record {
   rule = rule_of t.told x;
   note = blind_note was is;
   is_again = false;
   is_judged = judges polls frame t.facts;
+  is_open = is_open;
 }
 
 abbrev pub mind : End → End → Minding → Both
@@ -280,7 +287,7 @@ abbrev pub sees_by : ℕ → PlainFrame → Frame → Bool → Sent → End → 
 sees_by window frame x was t own other = mind own other (minds window t other.set frame (record {
   own = own.manners;
   other = other.manners;
-  seen = seen_of was (is_blind own other) other.manners.polls frame x t;
+  seen = seen_of was (is_blind own other) (opens own.set frame) other.manners.polls frame x t;
 }))
 
 abbrev pub sees_as : ℕ → PlainFrame → Frame → Bool → End → End → Both
@@ -303,7 +310,7 @@ misses own other = record {
   own = record {
     set = (sends_to Unread own.set).set;
     held = forgets_each own.set.spots.items own.held;
-    manners = manners.asks_on own.manners.is_polling own.manners;
+    manners = manners.adrift (manners.asks_on own.manners.is_polling own.manners);
   };
   other = record other {
     set = shows_to Unread other.set;

@@ -39,6 +39,7 @@ none = record {
   reach = 8;
   farthest = 0;
   is_astray = false;
+  is_adrift = false;
   is_rejecting = false;
   polls = 0;
   is_polling = false;
@@ -90,6 +91,10 @@ sent_back far m = record m {
 abbrev pub unheard : ℕ → Manners → Manners
 unheard pending m = record (sent_back pending m) { is_astray = true; is_rejecting = false }
 
+-- some of its own, or an I frame that doesn't show where V(S) stands: any number may be the next one
+abbrev pub adrift : Manners → Manners
+adrift m = record m { behind = 0; farthest = 255; is_adrift = true }
+
 -- ---- N(S) (2.4.5.1, 2.4.5.9)
 
 -- the next new number goes, with P=0, and nothing is said of it
@@ -100,13 +105,14 @@ goes_straight window at number m =
 abbrev pub grown : ℕ → Manners → Manners
 grown count m = record m {
   behind = 0;
+  is_adrift = false;
   causes = if nat_lt 7 (m.reach + count) then 0 else m.causes;
   reach = if nat_lt 7 (m.reach + count) then 8 else m.reach + count;
   farthest = min 255 (m.farthest + count);
 }
 
 abbrev pub repeated : ℕ → Manners → Manners
-repeated back m = record m { behind = back - 1 }
+repeated back m = record m { behind = back - 1; is_adrift = false }
 
 abbrev pub gone_back : Bool → ℕ → Manners → Manners
 gone_back is_poll back m = if is_poll then repeated back m else record (repeated back m) { causes = m.causes - 1 }
@@ -117,7 +123,7 @@ may_go_back at is_poll back m =
     && (nat_le back at.ever && (is_poll || (nat_lt 0 m.causes && nat_le back m.farthest))))
 
 abbrev pub goes_on : Place → ℕ → Manners → Bool
-goes_on at back m = back == m.behind || (nat_le at.pending back && nat_lt back m.behind)
+goes_on at back m = m.is_adrift || (back == m.behind || (nat_le at.pending back && nat_lt back m.behind))
 
 -- seven are of order
 abbrev pub sent_new : ℕ → Place → Manners → Minded

@@ -141,7 +141,7 @@ impl Counts {
 }
 
 /// The most characters of a line of counts.
-const MOST_COUNT: usize = 160;
+const MOST_COUNT: usize = 180;
 
 /// Appends a number.
 fn push_count(count: u64, text: &mut Text)
@@ -168,7 +168,21 @@ fn push_counted(count: Count, what: &[u8], text: &mut Text)
     text.push(b" not judged\n");
 }
 
-/// Appends the line on the frames of an end.
+/// Appends why no frame of an end was judged, where it sent some.
+fn push_why(from: Role, count: Count, text: &mut Text)
+    requires { length text.old + 60 ≤ ROOM }
+    ensures { text.new ≡ text.old ++ definition.why_line from count }
+{
+    if count.seen == 0 || count.judged != 0 {
+        return;
+    }
+    match from {
+        Role::Dte => text.push(b"# no frame of dte is judged: the trace shows no set-up\n"),
+        Role::Dce => text.push(b"# no frame of dce is judged: the trace shows no set-up\n"),
+    }
+}
+
+/// Appends the line on the frames of an end, and why none was judged.
 fn push_frames(from: Role, count: Count, text: &mut Text)
     requires { length text.old + MOST_COUNT ≤ ROOM }
     ensures { text.new ≡ text.old ++ definition.frames_line from count }
@@ -178,6 +192,7 @@ fn push_frames(from: Role, count: Count, text: &mut Text)
         Role::Dce => text.push(b"# dce: "),
     }
     push_counted(count, b" frames, ", text);
+    push_why(from, count, text);
 }
 
 /// Appends the line on the packets of an end on a channel, where there are any.
@@ -224,13 +239,15 @@ fn push_tally(tally: Tally, text: &mut Text)
     text.push(b"\n");
 }
 
-/// A line on frames of an end, on its packets on a channel, on what was told, or that there was nothing to judge.
+/// A line on frames of an end, on its packets on a channel, on what was told, that there was nothing to judge, or that
+/// nothing was judged.
 #[derive(Clone, Copy)]
 pub(crate) enum Line {
     Frames(Role, Count),
     Packets(Role, Count),
     Told(Tally),
     Nothing,
+    Unjudged,
 }
 
 /// Appends it.
@@ -244,6 +261,9 @@ fn push_line(line: Line, text: &mut Text)
         Line::Told(tally) => push_tally(tally, text),
         Line::Nothing => text.push(
             b"# nothing was judged: no line has a frame in hexadecimal digits\n",
+        ),
+        Line::Unjudged => text.push(
+            b"# nothing was judged: the trace shows no set-up of the link\n",
         ),
     }
 }

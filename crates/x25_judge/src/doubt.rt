@@ -64,7 +64,7 @@ impl Lack {
         (self.packets && is_of_packets)
             || match (self.frames, rule) {
                 (Frames::Nothing, _) | (Frames::Any, Rule::NoFrame) => false,
-                (Frames::Any, _) | (Frames::Lost, Rule::Differs) => true,
+                (Frames::Any, _) | (Frames::Lost, Rule::Differs | Rule::UaUnasked) => true,
                 (Frames::Lost, rule) => rule.is_of_manners(),
             }
     }

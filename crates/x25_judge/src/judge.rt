@@ -10,6 +10,7 @@ ghost use Rattle.x25_packet_judge.specs.Book.{IsRead};
 ghost use Rattle.x25_judge.specs.{Doubt.{explains_told}, Links.{passes as passes_by, quiet}};
 ghost use Rattle.x25_judge.specs.Judge.{answer_to, begins_at, behind, book_of, broken_text, counts_by, counts_carried};
 ghost use Rattle.x25_judge.specs.Judge.{counts_frame, counts_text, covers, doubt_text, end_of, forgotten, gap_of};
+ghost use Rattle.x25_judge.specs.{Judge.{has_taken, is_behind_gap}, Rule.{breaks_order as is_broken}};
 ghost use Rattle.x25_judge.specs.Judge.{is_nothing, is_settled, lack_of, last_line, missed_by, next_by, next_missed};
 ghost use Rattle.x25_judge.specs.Judge.{no_frame, noted_text, other_of, own_of, read_of, remark_by, remark_missed};
 ghost use Rattle.x25_judge.specs.Judge.{remark_of, remark_text, seen_by, sign_of, tallies};
@@ -27,7 +28,7 @@ use x25_frame::{Frame, FrameError, N1, Role, decode};
 use x25_io::{Failed, Output, Sink};
 use x25_packet::{Packet, PacketError, channel, decode_within, longest_user};
 use x25_packet_judge::Book;
-use x25_possible_links::LinkSet;
+use x25_possible_links::{LinkSet, Stand};
 use x25_text::{
     MOST_OCTETS, MOST_TEXT, ROOM, Text, push_fault, push_frame, push_other_frame, push_packet,
     push_wide_frame,
@@ -63,8 +64,12 @@ pub(crate) struct Judge {
     pub(crate) dte_packets: Counts,
     pub(crate) dce_packets: Counts,
     pub(crate) told: Tally,
+    /// A frame or a packet was judged, or something was told.
+    pub(crate) has_judged: bool,
     pub(crate) at: At,
-    pub(crate) has_gap: bool,
+    /// Frames that were sent to it are missing, behind a gap.
+    pub(crate) dte_misses: bool,
+    pub(crate) dce_misses: bool,
 }
 
 /// The rule that octets break which spell no frame, where they aren't damaged.
@@ -200,6 +205,16 @@ fn push_noted(note: Option<Note>, text: &mut Text)
     }
 }
 
+/// Whether an end acknowledged eight I frames of its session: of those that were on the way at once it took the last.
+fn has_taken(stand: Stand) -> bool
+    ensures { result ≡ has_taken stand }
+{
+    match stand {
+        Stand::Up(k) => 8 <= k.told,
+        _ => false,
+    }
+}
+
 /// Whether it is known where an end stands, and nothing of before may come to it.
 fn is_settled(end: &End) -> bool
     ensures { result ≡ is_settled end.now }
@@ -248,8 +263,10 @@ impl Judge {
                 manners: 0,
                 doubts: 0,
             },
+            has_judged: false,
             at,
-            has_gap: false,
+            dte_misses: false,
+            dce_misses: false,
         })
     }
 
@@ -257,6 +274,7 @@ impl Judge {
     fn count_frame(&mut self, from: Role, is_judged: bool)
         ensures { self.new ≡ counts_frame from is_judged self.old }
     {
+        self.has_judged = self.has_judged || is_judged;
         match from {
             Role::Dte => self.dte_frames = self.dte_frames.more(0, is_judged),
             Role::Dce => self.dce_frames = self.dce_frames.more(0, is_judged),
@@ -275,6 +293,7 @@ impl Judge {
             return;
         }
         let channel = channel(info).unwrap_or(0);
+        self.has_judged = self.has_judged || is_judged;
         match from {
             Role::Dte => self.dte_packets.add(channel, is_judged),
             Role::Dce => self.dce_packets.add(channel, is_judged),
@@ -297,6 +316,7 @@ impl Judge {
         ensures text { text.new ≡ text.old
             ++ (remark_text from (explains_told lack remark.rule) remark.rule remark.note ++ codes "\n") }
         ensures counts { result ≡ counts_by strictness (explains_told lack remark.rule) remark }
+        ensures order { is_broken remark.rule ≡ true → explains_told lack remark.rule ≡ false → result ≡ true }
     {
         let is_open = strictness.unjudged && !remark.is_judged;
         let Some(rule) = remark.rule else {
@@ -307,10 +327,28 @@ impl Judge {
         let in_doubt = lack.explains(rule);
         let is_manners = rule.is_of_manners();
         self.told = self.told.more(in_doubt, !is_manners, is_manners);
+        self.has_judged = true;
         push_broken(from, in_doubt, rule, text);
         text.push(b"\n");
         let breaks = !is_manners || strictness.manners;
         ((!in_doubt || strictness.unjudged) && breaks) || is_open
+    }
+
+    /// Whether a gap may explain what is told of an end: one of both isn't settled, or it may not have taken what is
+    /// missing.
+    fn is_behind_gap(&self, from: Role) -> bool
+        ensures { result ≡ is_behind_gap from self.now }
+    {
+        if !self.dte_misses && !self.dce_misses {
+            return false;
+        }
+        if !is_settled(&self.dte) || !is_settled(&self.dce) {
+            return true;
+        }
+        match from {
+            Role::Dte => self.dte_misses && !has_taken(self.dte.set.numbers()),
+            Role::Dce => self.dce_misses && !has_taken(self.dce.set.numbers()),
+        }
     }
 
     /// Which frames may be missing that would explain what is told of an end.
@@ -318,7 +356,7 @@ impl Judge {
         ensures { result ≡ lack_of self.now from }
     {
         let frames = match from {
-            _ if self.has_gap && !(is_settled(&self.dte) && is_settled(&self.dce)) => Frames::Any,
+            _ if self.is_behind_gap(from) => Frames::Any,
             Role::Dte => self.at.lack(from, &self.dte.set),
             Role::Dce => self.at.lack(from, &self.dce.set),
         };
@@ -385,9 +423,14 @@ impl Judge {
         ensures remark { result
             ≡ remark_by (plain frame.now) seen (book_of self.old from (plain frame.now) seen).verdict }
     {
-        let verdict = self
-            .book
-            .sees(from, self.reading, frame, packet, breaks_order(seen.rule));
+        let verdict = self.book.sees(
+            from,
+            self.reading,
+            frame,
+            packet,
+            breaks_order(seen.rule),
+            seen.is_open,
+        );
         self.count_frame(from, seen.is_judged);
         self.count_carried(from, frame, seen.is_again, verdict.is_judged);
         Seen {
@@ -459,6 +502,7 @@ impl Judge {
             note,
             is_again: false,
             is_judged: rule.is_some(),
+            is_open: false,
         }
     }
 
@@ -505,30 +549,35 @@ impl Judge {
         push_gap(gap, text);
         match gap {
             None => true,
-            Some(_) => {
+            Some(from) => {
                 forget(&mut self.dte);
                 forget(&mut self.dce);
                 self.book.passes_gap();
-                self.has_gap = true;
+                match from {
+                    Role::Dte => self.dce_misses = true,
+                    Role::Dce => self.dte_misses = true,
+                }
                 self.strictness.unjudged
             }
         }
     }
 
-    /// Whether no line had octets.
+    /// Whether no frame and no packet was judged, and nothing told.
     pub(crate) fn is_nothing(&self) -> bool
         ensures { result ≡ is_nothing self.now }
     {
-        self.dte_frames.seen == 0 && self.dce_frames.seen == 0
+        !self.has_judged
     }
 
     fn last_line(&self) -> Line
         ensures { result ≡ last_line self.now }
     {
-        if self.is_nothing() {
+        if self.has_judged {
+            Line::Told(self.told)
+        } else if self.dte_frames.seen == 0 && self.dce_frames.seen == 0 {
             Line::Nothing
         } else {
-            Line::Told(self.told)
+            Line::Unjudged
         }
     }
 

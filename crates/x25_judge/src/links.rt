@@ -23,14 +23,15 @@ pub(crate) struct End {
     pub(crate) manners: Manners,
 }
 
-/// The rule that a frame breaks, what is noted of it, whether it is an I frame that was sent before, and whether it is
-/// judged.
+/// The rule that a frame breaks, what is noted of it, whether it is an I frame that was sent before, whether it is
+/// judged, and whether it is UA behind which I frames may come in front of a SABM or DISC that waits.
 #[derive(Clone, Copy)]
 pub(crate) struct Seen {
     pub(crate) rule: Option<Rule>,
     pub(crate) note: Option<Note>,
     pub(crate) is_again: bool,
     pub(crate) is_judged: bool,
+    pub(crate) is_open: bool,
 }
 
 /// A frame: what is known of its end before it, and what is told of it.
@@ -76,6 +77,7 @@ impl Seen {
             note: None,
             is_again: false,
             is_judged: true,
+            is_open: false,
         }
     }
 
@@ -107,6 +109,18 @@ fn shown(frame: &Frame, differs: bool) -> Shown
         Frame::Ua { .. } => Shown::Ua,
         Frame::Dm { .. } => Shown::Dm,
         Frame::Frmr { .. } => Shown::Frmr,
+    }
+}
+
+/// Whether it is UA of an end that may stand in these places, and I frames may come in front of a SABM or DISC that
+/// waits for it.
+#[tactic(auto, unfolding(crate::specs::Links::opens))]
+fn opens(set: &LinkSet, frame: &Frame) -> bool
+    ensures { result ≡ definition.opens set.now (plain frame.now) }
+{
+    match frame {
+        Frame::Ua { .. } => set.is_open(),
+        _ => false,
     }
 }
 
@@ -294,9 +308,14 @@ fn minded(
         Told::Nothing => if sent.facts.is_counted {
             manners.sends(window, place_of(k), ns, p, false)
         } else if ns as u64 == k.sent % 8 {
-            says(None, None, false, manners)
+            says(None, None, false, manners.adrift())
         } else {
-            says(None, Some(Note::SentBehindDamage), sent.is_same, manners)
+            says(
+                None,
+                Some(Note::SentBehindDamage),
+                sent.is_same,
+                manners.adrift(),
+            )
         },
     }
 }
@@ -547,6 +566,7 @@ pub(crate) fn sees(own: &mut End, other: &mut End, window: u8, frame: &Frame) ->
         note: blind_note(was_blind, is_blind(own, other)),
         is_again: false,
         is_judged: judges(&sent.facts, other.manners.polls, frame),
+        is_open: opens(&own.set, frame),
     };
     let mut both = Minding {
         own: own.manners,
@@ -567,7 +587,7 @@ pub(crate) fn misses(own: &mut End, other: &mut End) -> Option<Note>
 {
     let was_blind = is_blind(own, other);
     forget_each(&mut own.held, own.set.spots.as_slice());
-    own.manners = own.manners.asks_on(own.manners.is_polling);
+    own.manners = own.manners.asks_on(own.manners.is_polling).adrift();
     other.manners = other.manners.unheard(place(&other.set).pending);
     let _ = own.set.sends(Shown::Unread);
     other.set.shows(Shown::Unread);

@@ -20,6 +20,8 @@ pub(crate) struct Manners {
     pub(crate) farthest: u8,
     /// An N(R) for it may be missing: it isn't known how many of its I frames are acknowledged.
     pub(crate) is_astray: bool,
+    /// It isn't known which number it sends next, as octets that spell no frame may have been one.
+    pub(crate) is_adrift: bool,
     /// It asked by REJ for the number that it awaits.
     pub(crate) is_rejecting: bool,
     /// How many commands with P=1 it sent that no F=1 has answered; 255 where there are more.
@@ -85,6 +87,7 @@ impl Manners {
             reach: 8,
             farthest: 0,
             is_astray: false,
+            is_adrift: false,
             is_rejecting: false,
             polls: 0,
             is_polling: false,
@@ -210,6 +213,18 @@ impl Manners {
         }
     }
 
+    /// It sent some, or an I frame that doesn't show where V(S) stands.
+    pub(crate) fn adrift(self) -> Manners
+        ensures { result ≡ definition.adrift self }
+    {
+        Manners {
+            behind: 0,
+            farthest: 255,
+            is_adrift: true,
+            ..self
+        }
+    }
+
     // ---- N(S)
 
     /// So many numbers more were sent. What sent V(S) back to a number that is eight or more behind counts no more.
@@ -219,6 +234,7 @@ impl Manners {
         let reach = self.reach.saturating_add(count);
         Manners {
             behind: 0,
+            is_adrift: false,
             causes: if 7 < reach { 0 } else { self.causes },
             reach: if 7 < reach { 8 } else { reach },
             farthest: self.farthest.saturating_add(count),
@@ -232,6 +248,7 @@ impl Manners {
     {
         Manners {
             behind: back.saturating_sub(1),
+            is_adrift: false,
             ..self
         }
     }
@@ -263,7 +280,7 @@ impl Manners {
     fn goes_on(self, at: Place, back: u8) -> bool
         ensures { result ≡ definition.goes_on at back self }
     {
-        back == self.behind || (at.pending <= back && back < self.behind)
+        self.is_adrift || back == self.behind || (at.pending <= back && back < self.behind)
     }
 
     /// The next new number. An eighth breaks a rule of order.

@@ -120,11 +120,6 @@ abbrev pub diagnoses : PlainKind → Bool
 diagnoses (form.diagnostic number explanation) = true
 diagnoses kind = false
 
--- in the form that a station writes
-abbrev pub takes_read : Role → ℕ → Result PlainPacket PacketError → Book → Seen
-takes_read from channel (Ok packet) b = takes from channel packet b
-takes_read from channel (Err e) b = misses_on channel b
-
 -- by the general format identifier; packets modulo 128 aren't read
 abbrev pub is_modulo_8 : List ℕ → Bool
 is_modulo_8 [] = false
@@ -146,6 +141,11 @@ abbrev pub reads_any : Role → ℕ → ℕ → List ℕ → Book → Seen
 reads_any from channel most octets b =
     takes_any from channel octets (form_in most octets) (taken_in most octets) b
 
+-- in the form that a station writes, or in any
+abbrev pub takes_read : Role → ℕ → ℕ → List ℕ → Result PlainPacket PacketError → Book → Seen
+takes_read from channel most octets (Ok packet) b = takes from channel packet b
+takes_read from channel most octets (Err e) b = reads_any from channel most octets b
+
 -- what information reads as, in the form that a station writes
 abbrev pub IsPacketOf : Bool → List ℕ → Result Packet PacketError → Type 0
 IsPacketOf long octets packet =
@@ -160,7 +160,7 @@ IsRead reading frame packet = Unit {0}
 unfoldable pub reads : Role → Reading → ℕ → List ℕ → Book → Seen
 reads from reading channel octets b =
     if reading.wide then reads_any from channel (longest_user reading.long) octets b
-    else takes_read from channel (packet_of (longest_user reading.long) octets) b
+    else takes_read from channel (longest_user reading.long) octets (packet_of (longest_user reading.long) octets) b
 
 -- ---- a frame
 
@@ -201,27 +201,29 @@ unfoldable pub asks : Role → Layers → Book → Book
 asks from t b = if layers.is_asked_again t then keeps from (layers.asks t) b else begins from (layers.asks t) b
 
 -- UA, behind which what was sent before may come yet, and what the other end sent between SABMs that it may answer
-unfoldable pub accepts : Role → Layers → Book → Book
-accepts from t b =
-    let is_open = t.other.is_fresh && not t.other.is_quiet in
+unfoldable pub accepts : Role → Bool → Layers → Book → Book
+accepts from is_open t b =
     if layers.is_late t && not is_open then keeps from (layers.accepts t) b
     else if is_open || layers.is_under_way t.own then keeps from (layers.accepts t) (forgets b)
     else begins from (layers.accepts t) b
 
-unfoldable pub accepts_if : Role → Bool → Layers → Book → Book
-accepts_if from is_broken t b = if is_broken && t.own.asked == 0 then b else accepts from t b
+unfoldable pub accepts_if : Role → Bool → Bool → Layers → Book → Book
+accepts_if from is_broken is_open t b =
+    if is_broken && t.own.asked == 0 then b
+    else accepts from (is_open || (t.other.is_fresh && not t.other.is_quiet)) t b
 
--- by whether it breaks a rule of the link layer
-unfoldable pub sees : Role → Reading → PlainFrame → Bool → Book → Seen
-sees from reading (info ns nr p octets) is_broken b = sends_info from reading ns nr octets is_broken b
-sees from reading (rr command nr pf) is_broken b = quiet (hears from nr b)
-sees from reading (rnr command nr pf) is_broken b = quiet (hears from nr b)
-sees from reading (rej command nr pf) is_broken b = quiet (hears from nr b)
-sees from reading (sabm p) is_broken b = quiet (asks from (layers_of from b) b)
-sees from reading (ua f) is_broken b = quiet (accepts_if from is_broken (layers_of from b) b)
-sees from reading (dm f) is_broken b = quiet (keeps from (layers.answers (layers_of from b)) b)
-sees from reading (disc p) is_broken b = quiet (keeps from (layers.asks_more (layers_of from b)) b)
-sees from reading (frmr f why) is_broken b = quiet b
+-- By whether it breaks a rule of the link layer. UA is open where I frames of the other end may come behind it, in
+-- front of a SABM that waits.
+unfoldable pub sees : Role → Reading → PlainFrame → Bool → Bool → Book → Seen
+sees from reading (info ns nr p octets) is_broken is_open b = sends_info from reading ns nr octets is_broken b
+sees from reading (rr command nr pf) is_broken is_open b = quiet (hears from nr b)
+sees from reading (rnr command nr pf) is_broken is_open b = quiet (hears from nr b)
+sees from reading (rej command nr pf) is_broken is_open b = quiet (hears from nr b)
+sees from reading (sabm p) is_broken is_open b = quiet (asks from (layers_of from b) b)
+sees from reading (ua f) is_broken is_open b = quiet (accepts_if from is_broken is_open (layers_of from b) b)
+sees from reading (dm f) is_broken is_open b = quiet (keeps from (layers.answers (layers_of from b)) b)
+sees from reading (disc p) is_broken is_open b = quiet (keeps from (layers.asks_more (layers_of from b)) b)
+sees from reading (frmr f why) is_broken is_open b = quiet b
 
 -- octets that are no frame
 abbrev pub misses : Role → Book → Book

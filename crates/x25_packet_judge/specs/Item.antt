@@ -1,7 +1,7 @@
 -- What the rules of a channel look at of a packet. ITU-T X.25 (10/96), sections 6.12 and 7.2.2; what isn't said of
 -- packet sizes and windows is 128 octets and 2 packets where a call proposes nothing.
 use Rattle.std.specs.Prelude.{ℕ, ◌^◌, ◌&&◌, nat_le, nat_lt, if◌then◌else◌, List, length, Option, Some, None}
-use Rattle.std.specs.Prelude.{unwrap_or, Result, Ok, Err}
+use Rattle.std.specs.Prelude.{not, unwrap_or, Result, Ok, Err}
 use Rattle.x25_packet.specs.Facilities.{facilities_of}
 use Rattle.x25_packet.specs.Packet.{PlainPacket, call, accept, clear, clear_conf, user_data, rr, rnr, interrupt}
 use Rattle.x25_packet.specs.Packet.{interrupt_conf, reset, reset_conf, restart, restart_conf}
@@ -48,12 +48,13 @@ proposed s =
       called_window = windows.called;
     }
 
+-- with D=1 no message goes on, whatever M is (section 4.3.4)
 unfoldable pub item_of : PlainPacket → Item
 item_of (call channel called calling facilities user) = Call (proposed (said facilities))
 item_of (accept channel facilities) = Accept (said facilities)
 item_of (clear channel cause diagnostic) = Clear
 item_of (clear_conf channel) = ClearConf
-item_of (user_data channel marks m ps pr user) = Data marks.q m ps pr (size_of (length user))
+item_of (user_data channel marks m ps pr user) = Data marks.q (m && not marks.d) ps pr (size_of (length user))
 item_of (rr channel pr) = Rr pr
 item_of (rnr channel pr) = Rnr pr
 item_of (interrupt channel user) = Interrupt

@@ -118,18 +118,14 @@ moves number t =
 abbrev pub is_asked_again : Layers → Bool
 is_asked_again t = t.own.is_fresh && (is_dropped t.own.track || is_followed t.other.track)
 
--- What is on its way comes before SABM: until the other end is set up it may send by either. Packets behind a SABM that
--- may still be answered are no more forgotten for that.
+-- What is on its way comes before SABM: until the other end is set up it may send by either. What wasn't seen may stand
+-- between it and a SABM of before.
 abbrev pub asks : Layers → Layers
 asks t =
     if is_asked_again t then asks_more t
     else let next = begins t.own.asked (if is_under_way t.own
     then record t { other = record (asks_more t).other { track = Dropped } } else asks_more t) in
-    record next {
-      own = record next.own {
-        is_quiet = t.own.is_quiet || (t.other.asked == 0 && not (is_unseen t.own.track));
-      };
-    }
+    record next { own = record next.own { is_quiet = t.own.is_quiet || not (is_unseen t.own.track) } }
 
 -- UA again, before which nothing was sent since the first one, or behind frames of the other end
 abbrev pub is_late : Layers → Bool

@@ -229,7 +229,8 @@ impl Book {
         }
     }
 
-    /// The information of an I frame, and the packet that it reads as; what is told of it is answered.
+    /// The information of an I frame, and the packet that it reads as; what is told of it is answered. One in another
+    /// form is judged as the packet that a station takes it for.
     #[tactic(auto, unfolding(crate::specs::Book::reads))]
     fn reads(
         &mut self,
@@ -243,13 +244,9 @@ impl Book {
         ensures book { self.new ≡ (definition.reads from reading channel octets.now self.old).book }
         ensures verdict { result ≡ (definition.reads from reading channel octets.now self.old).verdict }
     {
-        if reading.wide {
-            self.reads_any(from, channel, longest_user(reading.long), octets)
-        } else {
-            match packet {
-                Ok(packet) => self.takes(from, channel, packet),
-                Err(_) => self.misses_on(channel),
-            }
+        match packet {
+            Ok(packet) if !reading.wide => self.takes(from, channel, packet),
+            _ => self.reads_any(from, channel, longest_user(reading.long), octets),
         }
     }
 
@@ -291,17 +288,19 @@ impl Book {
         }
     }
 
-    /// UA, which may come again, and which breaks a rule of the link layer where `is_broken`.
+    /// UA, which may come again, and which breaks a rule of the link layer where `is_broken`. Where it `is_open`, it
+    /// may answer a SABM before the last one, and what the other end sent between these comes behind it.
     #[tactic(auto, unfolding(crate::specs::Book::accepts, crate::specs::Book::accepts_if))]
-    fn accepts_if(&mut self, from: Role, is_broken: bool)
-        ensures { self.new ≡ definition.accepts_if from is_broken (definition.layers_of from self.old) self.old }
+    fn accepts_if(&mut self, from: Role, is_broken: bool, is_open: bool)
+        ensures { self.new
+            ≡ definition.accepts_if from is_broken is_open (definition.layers_of from self.old) self.old }
     {
         let layers = self.layers(from);
         if is_broken && layers.own.asked == 0 {
             return;
         }
-        // It may answer a SABM before the last one, and what the other end sent between these comes behind it.
-        let is_open = layers.other.is_fresh && !layers.other.is_quiet;
+        // What wasn't seen may stand between these too.
+        let is_open = is_open || (layers.other.is_fresh && !layers.other.is_quiet);
         if layers.is_late() && !is_open {
             self.keep(from, layers.accepts());
         } else if is_open || layers.own.is_under_way() {
@@ -352,7 +351,8 @@ impl Book {
     }
 
     /// The end sends a frame, which breaks a rule of the link layer where `is_broken`; what is told of its packet is
-    /// answered. `packet` is what the information of an I frame reads as, where packets aren't read in all forms.
+    /// answered. `packet` is what the information of an I frame reads as, in the form that a station writes. UA
+    /// `is_open` where I frames of the other end may come behind it, in front of a SABM that waits.
     #[tactic(auto, unfolding(crate::specs::Book::sees))]
     #[inline(always)]
     pub fn sees(
@@ -362,10 +362,13 @@ impl Book {
         frame: &Frame,
         packet: &Result<Packet, PacketError>,
         is_broken: bool,
+        is_open: bool,
     ) -> Verdict
         requires { definition.IsRead reading (plain_frame frame.now) packet.now }
-        ensures book { self.new ≡ (definition.sees from reading (plain_frame frame.now) is_broken self.old).book }
-        ensures verdict { result ≡ (definition.sees from reading (plain_frame frame.now) is_broken self.old).verdict }
+        ensures book { self.new
+            ≡ (definition.sees from reading (plain_frame frame.now) is_broken is_open self.old).book }
+        ensures verdict { result
+            ≡ (definition.sees from reading (plain_frame frame.now) is_broken is_open self.old).verdict }
     {
         match frame {
             Frame::I { ns, nr, info, .. } => self.info(
@@ -385,7 +388,7 @@ impl Book {
                 passed(None)
             }
             Frame::Ua { .. } => {
-                self.accepts_if(from, is_broken);
+                self.accepts_if(from, is_broken, is_open);
                 passed(None)
             }
             Frame::Dm { .. } => {

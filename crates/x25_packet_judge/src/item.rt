@@ -105,7 +105,7 @@ pub(crate) fn item_of(packet: &Packet) -> Item
             ..
         } => Item::Data {
             q: marks.q,
-            m: *m,
+            m: *m && !marks.d,
             ps: ps.get(),
             pr: pr.get(),
             size: size_of(user),

@@ -25,8 +25,7 @@ pub(crate) struct Layer {
     pub(crate) acked: u8,
     /// How many SABMs and DISCs of the other end may still be answered.
     pub(crate) asked: u8,
-    /// No packet was sent since the set-up, nor between its SABM and one before it that may still be answered. That one
-    /// may stand in front of the trace, or be missing.
+    /// No packet was sent since the set-up, and its SABM doesn't stand behind what wasn't seen.
     pub(crate) is_quiet: bool,
 }
 
@@ -174,8 +173,7 @@ impl Layers {
             next.other.track = Track::Dropped;
         }
         next = next.begins(self.own.asked);
-        next.own.is_quiet = self.own.is_quiet
-            || (self.other.asked == 0 && !matches!(self.own.track, Track::Unseen));
+        next.own.is_quiet = self.own.is_quiet || !matches!(self.own.track, Track::Unseen);
         next
     }
 

@@ -1,5 +1,5 @@
 //! The places in which an end of a link may be, frame by frame.
-ghost use Rattle.std.specs.Prelude.{◌≡◌, ◌<◌, length, IfSome};
+ghost use Rattle.std.specs.Prelude.{◌≡◌, ◌<◌, drop, length, IfSome};
 ghost use Rattle.x25_possible_links.specs.code.Steps as definition;
 ghost use Rattle.x25_possible_links.specs.code.Steps.{IsInSession, IsSmall, IsStep, IsTaken};
 ghost use Rattle.x25_possible_links.specs.declared.stand.Stand.TheVariants.{Up};
@@ -76,6 +76,18 @@ fn are_known(spots: &[Spot]) -> bool
     true
 }
 
+/// Whether one may be in a session, in front of all on the way.
+fn are_in_session(spots: &[Spot]) -> bool
+    ensures { result ≡ definition.are_in_session spots.now }
+{
+    for spot in spots {
+        if spot.at == 0 && matches!(spot.stand, Stand::Up(_)) {
+            return true;
+        }
+    }
+    false
+}
+
 fn unread(way: &[Frame]) -> usize
     ensures { result ≡ definition.unread way.now }
 {
@@ -103,6 +115,23 @@ fn has_request(way: &[Frame]) -> bool
         }
     }
     false
+}
+
+/// Whether it may carry something.
+fn carries(frame: Frame) -> bool
+    ensures { result ≡ definition.carries frame }
+{
+    matches!(frame, Frame::Info { .. } | Frame::Unread)
+}
+
+/// Whether what carries something may come in front of SABM or DISC, from there on.
+fn hides(at: usize, way: &[Frame]) -> bool
+    ensures { result ≡ definition.hides (drop at way.now) }
+{
+    if at >= way.len() {
+        return false;
+    }
+    (carries(way[at]) && has_request(&way[at + 1..])) || hides(at + 1, way)
 }
 
 /// In place of these.
@@ -203,11 +232,21 @@ impl LinkSet {
         has_all(self.way.as_slice())
     }
 
-    /// Whether it awaits UA, and UA to what was sent before may come to it.
+    /// Whether I frames may come to it in front of a SABM or DISC that waits for it.
+    pub fn is_open(&self) -> bool
+        ensures { result ≡ definition.is_open self.now }
+    {
+        hides(0, self.way.as_slice())
+    }
+
+    /// Whether what was sent before may come to it, and count: UA, which it awaits, or what goes in a session that no
+    /// frame of the trace began.
     pub fn awaits_before(&self) -> bool
         ensures { result ≡ definition.awaits_before self.now }
     {
-        !self.is_followed() && matches!(self.latest(), Stand::Asking)
+        !self.is_followed()
+            && (matches!(self.latest(), Stand::Asking)
+                || (are_in_session(self.spots.as_slice()) && !self.has_request()))
     }
 
     /// Takes what has come to all places off the way.

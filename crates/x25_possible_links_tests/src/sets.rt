@@ -114,16 +114,36 @@ fn may_miss_its_answer(rt: HostRuntime) {
     assert!(rt; set.is_known());
 }
 
-/// UA to what was sent before may come to it as long as it awaits UA, and none that is shown may have come.
+/// UA to what was sent before may come to it as long as it awaits UA, and none that is shown may have come; and I
+/// frames where no frame that is shown began its session.
 #[test]
 fn awaits_an_answer_of_before(rt: HostRuntime) {
-    let waits: [&[u8]; 3] = [b">S", b">S<S", b"<S>U>S<0"];
+    let waits: [&[u8]; 5] = [b">S", b">S<S", b"<S>U>S<0", b">U", b">U<0"];
     for tape in waits {
         assert!(rt; behind(tape).awaits_before(), "{tape:?}");
     }
-    let others: [&[u8]; 5] = [b"", b">D", b">S<U", b">S<U>0S", b">S0"];
+    let others: [&[u8]; 7] = [b"", b">D", b">S<U", b">S<U>0S", b">S0", b"<S>U", b">U<0>b"];
     for tape in others {
         assert!(rt; !behind(tape).awaits_before(), "{tape:?}");
+    }
+}
+
+/// I frames, or octets that may be one, may come in front of a SABM or DISC as long as an older one may wait.
+#[test]
+fn is_open_where_its_answer_may_be_an_older_one(rt: HostRuntime) {
+    let open: [&[u8]; 4] = [b"<S>U<0S>U", b"<0S>U", b"<S>U<XD>U", b"<S>U<S0S>U"];
+    for tape in open {
+        assert!(rt; behind(tape).is_open(), "{tape:?}");
+    }
+    let others: [&[u8]; 5] = [
+        b"",
+        b"<S>U<0",
+        b"<SS>U<0>U",
+        b"<S>U<0>b<S>U",
+        b"<S>U<0>b<0SS>U<0",
+    ];
+    for tape in others {
+        assert!(rt; !behind(tape).is_open(), "{tape:?}");
     }
 }
 

@@ -348,7 +348,7 @@ read_stays j from octets (Err e) h =
 gap_stays : (j : Judge) (gap : Option Role) → AreRoomy j → AreRoomy (gap_of j gap).next
 gap_stays j None h = h
 gap_stays j (Some from) h =
-    by_roles Dte (past_gap j) RoomOf (record { octets = (h Dte).octets; known = refl }) (record { octets = (h Dce).octets; known = refl })
+    by_roles Dte (past_gap from j) RoomOf (record { octets = (h Dte).octets; known = refl }) (record { octets = (h Dce).octets; known = refl })
 
 sent_stays : (j : Judge) (gap : Option Role) (s : Option (Role × List ℕ)) → AreRoomy j → AreRoomy (sent_of j gap s).next
 sent_stays j gap None h = gap_stays j gap h

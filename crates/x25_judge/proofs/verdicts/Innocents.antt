@@ -444,7 +444,7 @@ pub none_of_order : (from : Role) (j : Judge) (frame : PlainFrame) → is_of_ord
     → is_of_order (told_rule j from frame) ≡ false
 none_of_order from j frame e =
     let t = seen_by j from frame in
-    told_of_order t.seen.rule (book.sees from j.reading frame (breaks_order t.seen.rule) j.book).verdict.rule e
+    told_of_order t.seen.rule (book.sees from j.reading frame (breaks_order t.seen.rule) t.seen.is_open j.book).verdict.rule e
 
 -- a set-up begins a session
 comes_to : (way : List Frame) (u : Stand) → is_below fresh (comes way u) ≡ true → Covers u way (At fresh) []

@@ -46,7 +46,7 @@ pub goes : (j : Judge) (line : List ℕ) (from : Role) (octets : List ℕ) (fram
     → Goes (answer_to j line).next from (seen_by j from frame).own (seen_by j from frame).other
 goes j line from octets frame shows =
     let t = seen_by j from frame in
-    let s = book.sees from j.reading frame (breaks_order t.seen.rule) j.book in
+    let s = book.sees from j.reading frame (breaks_order t.seen.rule) t.seen.is_open j.book in
     subst (λ (a : Answer). Goes a.next from t.own t.other) (sym (answered j line from octets frame shows))
     (next_goes from j frame t s _ (all_told t.seen.rule s.verdict.rule))
 
@@ -105,7 +105,7 @@ pub none_told : (j : Judge) (line : List ℕ) (from : Role) (octets : List ℕ) 
     → (answer_to j line).is_faulty ≡ false → (seen_by j from frame).seen.rule ≡ None
 none_told j line from octets frame shows quiet =
     let t = seen_by j from frame in
-    let v = (book.sees from j.reading frame (breaks_order t.seen.rule) j.book).verdict in
+    let v = (book.sees from j.reading frame (breaks_order t.seen.rule) t.seen.is_open j.book).verdict in
     let r = remark_of j from frame t in
     let here = sym (ap (λ (a : Answer). a.is_faulty) (answered j line from octets frame shows)) ∙ quiet in
     told_none t.seen.rule v.rule (or_parts (is_some r.rule) (is_open j.strictness r) here).0

@@ -54,7 +54,8 @@ module _ (window : ℕ) (frame : PlainFrame) (x : Frame) (was : Bool) (own other
   before = record {
     own = own.manners;
     other = other.manners;
-    seen = links.seen_of was (links.is_blind (links.end_sent frame x own) (links.end_shown x other)) other.manners.polls frame x t;
+    seen = links.seen_of was (links.is_blind (links.end_sent frame x own) (links.end_shown x other)) (links.opens (links.end_sent frame x own).set frame)
+        other.manners.polls frame x t;
   }
 
   judged_is : (links.sees_as window frame x was own other).seen.is_judged ≡ links.judges other.manners.polls frame (steps.facts x own.set)
@@ -92,7 +93,8 @@ module _ (m : Manners) (at : Place) where
   goes_first : (back : ℕ) → nat_lt 0 back ≡ false → manners.goes_on at back m ≡ false → (m.behind == 0 || at.pending == 0) ≡ true → ⊥
   goes_first back none out test =
       let zero : back ≡ 0 = grind (arith, nat_tests) in
-      let parts = or_parts (back == m.behind) (nat_le at.pending back && nat_lt back m.behind) out in
+      let parts = or_parts (back == m.behind) (nat_le at.pending back && nat_lt back m.behind)
+      (or_parts m.is_adrift (back == m.behind || (nat_le at.pending back && nat_lt back m.behind)) out).1 in
       elim (or_cases (m.behind == 0) (at.pending == 0) test) [
         | inl now ↦ both_ways (back == m.behind) parts.0 (eq-eqb back m.behind (zero ∙ sym (eqb-true m.behind 0 now)))
         | inr acked ↦ elim (and_cases (nat_le at.pending back) (nat_lt back m.behind) parts.1) [

@@ -305,14 +305,6 @@ has_all way = true
 abbrev pub is_followed : LinkSet → Bool
 is_followed s = has_all s.way.items
 
--- where it awaits UA, UA to what was sent before may come to it
-abbrev pub is_waiting : Stand → Bool
-is_waiting Asking = true
-is_waiting s = false
-
-abbrev pub awaits_before : LinkSet → Bool
-awaits_before s = not (is_followed s) && is_waiting (latest s.spots.items s.way.items)
-
 abbrev pub is_request : Frame → Bool
 is_request Sabm = true
 is_request Disc = true
@@ -321,6 +313,37 @@ is_request x = false
 abbrev pub has_request : List Frame → Bool
 has_request [] = false
 has_request (x ∷ way) = is_request x || has_request way
+
+-- what was sent before may come to it: UA, where it awaits that, or what goes in a session that no frame began
+abbrev pub is_waiting : Stand → Bool
+is_waiting Asking = true
+is_waiting s = false
+
+abbrev pub is_in_session : Stand → Bool
+is_in_session (Up k) = true
+is_in_session s = false
+
+-- one may be in a session, in front of all on the way
+abbrev pub are_in_session : List Spot → Bool
+are_in_session [] = false
+are_in_session (q ∷ qs) = (q.at == 0 && is_in_session q.stand) || are_in_session qs
+
+abbrev pub awaits_before : LinkSet → Bool
+awaits_before s = not (is_followed s) && (is_waiting (latest s.spots.items s.way.items)
+    || (are_in_session s.spots.items && not (has_request s.way.items)))
+
+-- I frames, or octets that may be one, may come in front of a SABM or DISC that waits
+abbrev pub carries : Frame → Bool
+carries (Info ns nr differs) = true
+carries Unread = true
+carries x = false
+
+abbrev pub hides : List Frame → Bool
+hides [] = false
+hides (x ∷ way) = (carries x && has_request way) || hides way
+
+abbrev pub is_open : LinkSet → Bool
+is_open s = hides s.way.items
 
 abbrev pub is_sure : Stand → Bool
 is_sure (Up k) = nat_lt k.taken far
