@@ -85,6 +85,8 @@ typedef struct {
     const uint8_t *user;       /* user data of an acceptance or a clearing, 128 octets at most; x25_call_with takes that of a call */
     size_t user_count;
     bool d;                    /* the D bit of a call or an acceptance */
+    uint64_t later;            /* 0: room for what later versions give, as is `more` */
+    uint64_t more;
 } x25_given;
 
 /* How long each answer may take, in milliseconds; 0 is for ever. For a DCE t20 to t23 are its T10 to T13. */
@@ -95,6 +97,8 @@ typedef struct {
     uint32_t t21; /* a call is accepted */
     uint32_t t22; /* a reset is confirmed */
     uint32_t t23; /* clearing is confirmed */
+    uint32_t later; /* 0: room for times of later versions, as is `more` */
+    uint32_t more;
 } x25_times;
 
 /* An item of an answer: its kind, and what the kinds below have; what one doesn't have is 0. */
@@ -111,6 +115,8 @@ typedef struct {
     x25_stretch_name stretch; /* in which a message or an interrupt was sent or came, or a call */
     size_t count;             /* how many octets of a frame or of user data there are */
     size_t confirmed;         /* how many messages more are confirmed */
+    uint64_t later;           /* 0: room for what later versions tell, as is `more`; and there may be kinds that aren't below */
+    uint64_t more;
 } x25_event;
 
 enum {
@@ -209,6 +215,8 @@ enum {
 
 /* The version of the library, as X25_VERSION. */
 uint32_t x25_version(void);
+/* The size of an x25_event as the library has it, for a program that isn't compiled with this header. */
+size_t x25_event_size(void);
 /* Makes a station whose link is down. end: X25_DTE or X25_DCE. 17, 14, 70. */
 uint32_t x25_new(x25_station *station, uint8_t end, x25_settings settings);
 /* Lets the station go, where there is one. */
@@ -275,13 +283,18 @@ uint32_t x25_standard_times(uint8_t end, x25_times *times);
 /* Gives the station a clock with these times, in place of the one that it has. From then on the time of each answer begins as it
    is awaited, and of those that are awaited already it begins at once. */
 uint32_t x25_set_times(x25_station *station, x25_times times);
-/* The time is now, in milliseconds from any beginning, until it is said again; 0 before it is said. The first of what is due by
-   the clock is asked for, as the program would ask: T1 fires; no answer to a call or to a reset (T21, T22): x25_clear; none to
-   that (T23): x25_restart; none to that (T20): x25_relink; an idle link (T3): x25_probe. Its time begins anew, also where it is
-   refused. Where nothing is due nothing is answered. 34 for a time before the last one, and what the call asked for answers. */
+/* The time is now, in milliseconds from any beginning, until it is said again; 0 before it is said, and as it is said first the
+   time of all that is awaited begins. The first of what is due by the clock is asked for, as the program would ask: T1 fires; no
+   answer to a call or to a reset (T21, T22): x25_clear; none to that (T23): x25_restart; none to that (T20), and in place of
+   these two where 256 packets wait: x25_relink; an idle link (T3): x25_probe. Its time begins anew, also where it is refused.
+   Where nothing is due nothing is answered. 34 for a time before the last one, and what the call asked for answers. */
 uint32_t x25_time(x25_station *station, uint64_t now);
 /* Whether something is due at some moment, where nothing happens before: then that is written to at, which is else as it was. */
 bool x25_next(const x25_station *station, uint64_t *at);
+
+/* How long a program may wait, now, until it says the time: the milliseconds until something is due, where nothing happens before,
+   and no more than most. So `poll(files, count, (int)x25_next_timeout(&station, now, 60000))`. */
+uint64_t x25_next_timeout(const x25_station *station, uint64_t now, uint64_t most);
 
 /* Takes item i of the last answer, from 0 on: its frames, its events, each in order, and then what becomes of timer T1. What it
    is is written to event, and its octets are copied to the front of room where they fit; event->count tells how many they are

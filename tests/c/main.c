@@ -118,6 +118,7 @@ static void try_texts(void)
 {
     char room[8] = {9, 9, 9, 9, 9, 9, 9, 9};
     expect("the version", x25_version(), X25_VERSION);
+    expect("the size of an event", (uint32_t)x25_event_size(), sizeof(x25_event));
     expect("a text into little room", (uint32_t)x25_refusal_text(X25_NO_MEMORY, room, 8), 9);
     expect("what is there then", room[0], 9);
     expect("a text", (uint32_t)x25_refusal_text(X25_NO_MEMORY, dte.told, TEXT), 9);
@@ -530,7 +531,7 @@ static void try_confirmed(bool wide)
 static void try_clock(void)
 {
     x25_station none = {NULL, false};
-    x25_times times = {7, 7, 7, 7, 7, 7};
+    x25_times times = {7, 7, 7, 7, 7, 7, 7, 7};
     x25_event event;
     uint64_t at = 7;
     uint16_t channel = 0;
@@ -539,16 +540,22 @@ static void try_clock(void)
     expect("times of no end", x25_standard_times(2, &times) == X25_BAD_SETTING && times.t1 == 7, true);
     expect("times of a DCE", x25_standard_times(X25_DCE, &times) == 0 && times.t1 == 3000 && times.t20 == 60000, true);
     expect("times of a DTE", x25_standard_times(X25_DTE, &times) == 0 && times.t21 == 200000 && times.t23 == 180000, true);
+    expect("times of later versions", times.later | times.more, 0);
     expect("none has times", x25_set_times(&none, times), X25_NO_STATION);
     expect("none has a time", x25_time(&none, 1), X25_NO_STATION);
+    expect("how long where there is none", x25_next_timeout(&none, 3, 5) == 5, true);
     expect("none is due", x25_next(&none, &at) || x25_awaits(&none, 1) || x25_is_restarting(&none), false);
     expect("new", x25_new(&dte.station, X25_DTE, one_channel), 0);
     expect("new", x25_new(&dce.station, X25_DCE, one_channel), 0);
     expect("without a clock nothing is due", x25_time(&dte.station, 500) == 0 && !x25_next(&dte.station, &at) && at == 7, true);
+    expect("how long without a clock", x25_next_timeout(&dte.station, 3, UINT64_MAX) == UINT64_MAX, true);
     expect("times", x25_set_times(&dte.station, times), 0);
     expect("connect", x25_connect(&dte.station), 0);
     take(&dte);
     expect("T1 is due", x25_next(&dte.station, &at) && at == 3500, true);
+    expect("how long until then", (uint32_t)x25_next_timeout(&dte.station, 600, 60000), 2900);
+    expect("no longer than the most", (uint32_t)x25_next_timeout(&dte.station, 600, 100), 100);
+    expect("where it is past", (uint32_t)x25_next_timeout(&dte.station, 9000, 100), 0);
     expect("before it is due", x25_time(&dte.station, 3499) == 0 && x25_frames(&dte.station) == 0, true);
     expect("an earlier time", x25_time(&dte.station, 3498), X25_BAD_PARAMETER);
     expect("T1", x25_time(&dte.station, 3500) == 0 && x25_frames(&dte.station) == 1, true);
@@ -570,6 +577,14 @@ static void try_clock(void)
     expect("T23 begins", x25_next(&dte.station, &at) && at == 206500, true);
     x25_free(&dte.station);
     x25_free(&dce.station);
+    /* What was begun before a time was said begins as it is said first. */
+    expect("new", x25_new(&dte.station, X25_DTE, one_channel), 0);
+    expect("times", x25_set_times(&dte.station, times), 0);
+    expect("connect", x25_connect(&dte.station), 0);
+    expect("the first time", x25_time(&dte.station, 1000000) == 0 && x25_frames(&dte.station) == 0, true);
+    expect("T1 begins then", x25_next(&dte.station, &at) && at == 1003000, true);
+    expect("T1", x25_time(&dte.station, 1003000) == 0 && x25_frames(&dte.station) == 1, true);
+    x25_free(&dte.station);
 }
 
 int main(void)

@@ -170,6 +170,9 @@ static uint32_t pass(x25_station *station)
     uint64_t at = UINT64_MAX;
     if (x25_next(station, &at) ? at == UINT64_MAX : at != UINT64_MAX)
         fail("when something is due", 0);
+    uint64_t most = draw(2) ? UINT64_MAX : draw(100000), left = at == UINT64_MAX ? most : at > now ? at - now : 0;
+    if (x25_next_timeout(station, now, most) != (left < most ? left : most))
+        fail("how long until then", 0);
     if (draw(64) == 0) {
         uint32_t number = x25_time(station, 0);
         return number == X25_BAD_PARAMETER ? X25_NO_COMMAND : number; /* the last answer stands after both */
@@ -230,7 +233,7 @@ static uint32_t call(end_t *end, end_t *other)
         return hear_all(station, other);
     case 22: {
         static const uint32_t lengths[] = {0, 1, 500, 60000, UINT32_MAX};
-        x25_times times = {lengths[draw(5)], lengths[draw(5)], lengths[draw(5)], lengths[draw(5)], lengths[draw(5)], lengths[draw(5)]};
+        x25_times times = {lengths[draw(5)], lengths[draw(5)], lengths[draw(5)], lengths[draw(5)], lengths[draw(5)], lengths[draw(5)], 0, 0};
         return draw(64) ? pass(station) : x25_set_times(station, times);
     }
     default:

@@ -1,5 +1,7 @@
 """Tests of the library for C from other languages: Python's binding and Rust's, and the examples on a line."""
 
+import copy
+import ctypes
 import doctest
 import os
 import pickle
@@ -28,6 +30,7 @@ BINDING = os.path.join(support.ROOT, "bindings", "python")
 RUST = os.path.join(support.ROOT, "bindings", "rust")
 LIBRARY, ARCHIVE = find_library("so"), find_library("a")
 TIMES = ("t1", "t3", "t20", "t21", "t22", "t23")
+TIMES_OF_NONE = x25.Times(*[0] * len(TIMES))
 needs_library = unittest.skipUnless(LIBRARY and ARCHIVE, "the library for C isn't built")
 
 
@@ -57,17 +60,34 @@ class Declared(unittest.TestCase):
         kinds = [(name, int(number)) for name, number in re.findall(r"^    X25_EVENT_(\w+) = (\d+)", header, re.MULTILINE)]
         awaits = re.findall(r"^    X25_AWAITS_(\w+) = (\d)", header, re.MULTILINE)
         self.assertEqual([(awaited.name, str(awaited.value)) for awaited in x25.Awaits], awaits)
-        self.assertEqual([("FRAME", x25._FRAME), ("TIMER", x25._TIMER), *((kind.name, kind.value) for kind in x25.Kind)], kinds)
+        self.assertEqual([("FRAME", x25._FRAME), ("TIMER", x25._TIMER), *((kind.name, kind.value) for kind in x25.Kind if kind.value)], kinds)
         downs = re.findall(r"^    X25_DOWN_(\w+) = (\d+)", header, re.MULTILINE)
         self.assertEqual([(down.name, str(down.value)) for down in x25.Down], downs)
-        arms = re.findall(r"^            (\d+|_) => Event::(\w+)", rust, re.MULTILINE)
-        self.assertEqual([name for _, name in arms], ["".join(word.capitalize() for word in name.split("_")) for name, number in kinds[2:]])
-        self.assertEqual([number for number, _ in arms], [*(str(number) for _, number in kinds[2:-1]), "_"])
+        arms = re.findall(r"^            (\d+|kind) => Event::(\w+)", rust, re.MULTILINE)
+        named = [(str(number), "".join(word.capitalize() for word in name.split("_"))) for name, number in kinds[2:]]
+        self.assertEqual(arms, [*named, ("kind", "Other")])
 
     @unittest.skipUnless(shutil.which("mypy"), "mypy isn't installed")
     def test_the_binding_of_python_is_typed(self):
         done = subprocess.run(["mypy", "--strict", "--cache-dir=/dev/null", os.path.join(BINDING, "x25")], capture_output=True, text=True)
         self.assertEqual((done.returncode, done.stderr), (0, ""), done.stdout)
+
+
+class Versions(unittest.TestCase):
+    def test_a_library_of_another_version_is_not_taken(self):
+        """It is said before a function of it is looked for, which it may not have, or may have with other parameters."""
+        other, none = mock.Mock(spec=["x25_version"], **{"x25_version.return_value": 200}), mock.Mock(spec=[])
+        sized = mock.Mock(spec=["x25_version", "x25_event_size"], **{"x25_version.return_value": 100, "x25_event_size.return_value": 64})
+        cases = (other, "/it is of version 200, .* 100"), (none, "/it is of version 0"), (sized, "an event of /it has 64 octets, and .* 80$")
+        for library, said in cases:
+            with mock.patch.object(ctypes, "PyDLL", return_value=library), self.assertRaisesRegex(OSError, f"^{said}"):
+                x25.load("/it")
+        self.assertNotIn("/it", x25._loaded)
+
+    def test_each_binding_is_of_the_version_of_the_header(self):
+        version = re.search(r"^#define X25_VERSION (\d+)", support.read("include/x25.h").decode(), re.MULTILINE)[1]
+        self.assertEqual(str(x25.VERSION), version)
+        self.assertIn(f"pub const VERSION: u32 = {version};\n", support.read("bindings/rust/src/raw.rs").decode())
 
 
 class Missing(unittest.TestCase):
@@ -110,12 +130,64 @@ class Answers(unittest.TestCase):
         frames = [bytes([i]) for i in range(200)]
         self.assertEqual(self.station((0, frames, [x25.Kind.LINK_UP], 2)).connect(), x25.Answer(frames, [x25.Event(x25.Kind.LINK_UP)], x25.Timer.GOES_ON))
 
+    def test_an_event_of_a_kind_that_is_not_known(self):
+        self.assertEqual(self.station((0, [], [999], 0)).connect().events, [x25.Event(x25.Kind.OTHER)])
+
     def test_a_refusal_among_frames_has_what_was_answered_before(self):
         station = self.station((0, [b"one"], [x25.Kind.LINK_UP], 1), (70, [], [], 0))
         with self.assertRaises(x25.Refused) as caught:
             station.receive_all([b"", b"", b""])
         self.assertEqual((caught.exception.number, caught.exception.taken), (70, 1))
         self.assertEqual(caught.exception.answer, x25.Answer([b"one"], [x25.Event(x25.Kind.LINK_UP)], x25.Timer.BEGINS))
+
+    def test_what_comes_into_the_midst_of_a_call_is_told_so(self):
+        """As a signal handler, `__del__` and a trace function do: each call of that station then does nothing, and the other one goes on."""
+        made, said = [], []
+
+        class Midst(Library):
+            def x25_take_all(self, *words):
+                if not made and not said:
+                    for call in (station.pull, station.close, station.lines, lambda: station.timer, lambda: station.room(1), station.next,
+                                 lambda: station.receive_all([b""]), lambda: station.set_times(TIMES_OF_NONE)):
+                        try:
+                            made.append(call())
+                        except x25.Busy as error:
+                            said.append(str(error))
+                    other = x25.Station(x25.DTE, library="fake")
+                    made.append(other.timer)
+                return super().x25_take_all(*words)
+
+            def __getattr__(self, name):
+                return lambda *words: 0
+
+        with mock.patch.dict(x25._loaded, fake=Midst([(0, [b"one"], [], 1)])):
+            station = x25.Station(x25.DTE, library="fake")
+            self.assertEqual(station.connect(), x25.Answer([b"one"], [], x25.Timer.BEGINS))
+        self.assertEqual((made, said), ([x25.Timer.OFF], ["a call of this station is under way"] * 8))
+
+    def test_an_error_leaves_no_call_under_way(self):
+        station = self.station((0, [b"one"], [], 1), (0, [b"two"], [], 1))
+        with self.assertRaises(TypeError):
+            station.receive("text")
+        with mock.patch.object(station, "_answer", side_effect=KeyboardInterrupt), self.assertRaises(KeyboardInterrupt):
+            station.connect()
+        self.assertEqual(station.connect().frames, [b"two"])
+
+    def test_a_station_is_not_copied(self):
+        station = self.station()
+        for make in copy.copy, copy.deepcopy, pickle.dumps:
+            with self.assertRaisesRegex(TypeError, "neither copied nor pickled"):
+                make(station)
+
+    def test_octets_of_any_kind(self):
+        station, octets = self.station(), b"\0one"
+        for given in octets, bytearray(octets), memoryview(octets), memoryview(octets).cast("i"), memoryview(b"_".join([octets, b""]))[:-1]:
+            with self.subTest(type(given)):
+                self.assertEqual(station.receive(given).frames, [octets])
+                self.assertEqual(station.receive_all([given, given]).frames, [b"", b""])
+        for given in 4, "text", [1, 2]:
+            with self.assertRaises(TypeError):
+                station.receive(given)
 
     def test_errors_are_pickled_whole(self):
         answer = x25.Answer([b"one"], [x25.Event(x25.Kind.LINK_UP)], x25.Timer.BEGINS)
@@ -137,7 +209,8 @@ class Python(unittest.TestCase):
             answer = dte.restart(200, 5)
             self.assertEqual(answer.events, [x25.Event(x25.Kind.RESTART_ASKED, cause=200, diagnostic=5)])
             self.assertEqual(told(answer, dte, dce)[0], x25.Event(x25.Kind.RESTARTED, cause=200, diagnostic=5))
-            channel, answer = dte.call("1", "2")
+            answer = dte.call("1", "2")
+            channel = answer.channel
             told(answer, dte, dce)
             self.assertEqual(told(dce.clear(channel, cause=9), dce, dte)[0], x25.Event(x25.Kind.CLEARED, channel, cause=9))
             for cause, diagnostic in ((7, 0), (256, 0), (0, 256), (-1, 0)):
@@ -158,7 +231,8 @@ class Python(unittest.TestCase):
                     dte.command(text)
             with self.assertRaisesRegex(x25.Refused, "34: "):
                 dte.call("1", "2", facilities=bytes.fromhex("420707"))
-            channel, answer = dte.call("1", "2", b"A", facilities=charged, d=True)
+            answer = dte.call("1", "2", b"A", facilities=charged, d=True)
+            channel = answer.channel
             call, = answer.frames
             self.assertEqual(given(answer, dte, dce), [(x25.Kind.INCOMING, b"", b"A"), (beside, charged, b"")])
             self.assertEqual(given(dce.accept(channel, user=b"h\0i", d=True), dce, dte)[:2], [(x25.Kind.CONNECTED, b"", b""), (beside, b"", b"h\0i")])
@@ -170,14 +244,15 @@ class Python(unittest.TestCase):
             told(dte.connect(), dte, dce)
             with self.assertRaisesRegex(x25.Refused, "34: "):
                 dte.call("1", "2", facilities=charged)
-            self.assertEqual(dte.call("1", "2")[1].frames[0][2:8].hex(), "10010b111200")
+            self.assertEqual(dte.call("1", "2").frames[0][2:8].hex(), "10010b111200")
 
     def test_confirmation(self):
         """D of the last packet asks for it, the other end's user sees it, and one acknowledgement may confirm several messages."""
 
         with x25.Station(x25.DTE, library=LIBRARY, wide=True) as dte, x25.Station(x25.DCE, library=LIBRARY, wide=True) as dce:
             told(dte.connect(), dte, dce)
-            channel, answer = dte.call("1", "2")
+            answer = dte.call("1", "2")
+            channel = answer.channel
             told(answer, dte, dce)
             told(dce.accept(channel), dce, dte)
             asked, plain = dte.send(channel, b"A" * 129, q=True, confirm=True), dte.send(channel, b"B")
@@ -191,7 +266,8 @@ class Python(unittest.TestCase):
             self.assertEqual((dte.unconfirmed(channel), dte.unconfirmed(-1)), (0, 0))
         with x25.Station(x25.DTE, library=LIBRARY) as dte, x25.Station(x25.DCE, library=LIBRARY) as dce:
             told(dte.connect(), dte, dce)
-            channel, answer = dte.call("1", "2")
+            answer = dte.call("1", "2")
+            channel = answer.channel
             told(answer, dte, dce)
             told(dce.accept(channel), dce, dte)
             with self.assertRaisesRegex(x25.Refused, "34: "):
@@ -204,18 +280,28 @@ class Python(unittest.TestCase):
             near, far, answer = dte, dce, dte.connect()
             while answer.frames:
                 near, far, answer = far, near, far.receive_all(answer.frames)
-            self.assertEqual(dte.call("1", "2")[0], 2)
+            self.assertEqual(dte.call("1", "2").channel, 2)
             with self.assertRaisesRegex(x25.Refused, "41: "):
                 dte.call("1", "2")
-            self.assertEqual(dce.call("1", "2")[0], 1)
+            self.assertEqual(dce.call("1", "2").channel, 1)
+
+    def test_the_first_time_begins_what_was_begun_before(self):
+        with x25.Station(x25.DTE, library=LIBRARY) as dte:
+            dte.set_times()
+            self.assertEqual(len(dte.connect().frames), 1)
+            self.assertEqual(dte.time(1_000_000), x25.Answer([], [], x25.Timer.GOES_ON))
+            self.assertEqual((dte.next(), dte.next_timeout(1_000_000, 60_000)), (1_003_000, 3_000))
+            self.assertEqual(dte.time(1_003_000).events, [x25.Event(x25.Kind.TIMEOUT, timeout=1)])
 
     def test_a_station_that_was_closed(self):
         with x25.Station(x25.DCE, library=LIBRARY) as station:
             self.assertEqual(station.timer, x25.Timer.OFF)
+        with x25.Station(x25.DCE, library=LIBRARY, message=0) as station:
+            self.assertEqual(station.room(1), 0)
         with self.assertRaisesRegex(x25.Refused, "16: no station is held"):
             station.connect()
         one_way = ({"channels": 2, "incoming": 1, "outgoing": 2}, {"incoming": -1}, {"outgoing": 65536})
-        for settings in ({"k": 8}, {"k": 256}, {"channels": -1}, {"channels": 0}, {"channels": 4096}, {"channels": 65537}, {"n2": 0}, *one_way):
+        for settings in ({"k": 8}, {"k": 256}, {"channels": -1}, {"channels": 0}, {"channels": 4096}, {"channels": 65537}, {"n2": 0}, {"message": -1}, {"message": 65536}, *one_way):
             with self.assertRaisesRegex(x25.Refused, "14: "):
                 x25.Station(x25.DTE, library=LIBRARY, **settings)
 
@@ -262,9 +348,33 @@ class Examples(ToolCase):
         words = self.in_rust()
         self.assertEqual(tunnels.run(words, words), 16)
 
+    def assert_told(self, words, end, manner):
+        """At whatever moment the other end resets, clears, restarts, sets the link up anew or begins anew, a hole ends a connection by an
+        error, and SIGTERM ends the tunnel well."""
+        wrong, counts, status = tunnels.moments(words, end, manner, most=12)
+        self.assertEqual((wrong, status), ([], 0))
+        self.assertEqual(counts.pop("nothing"), {False: 2})
+        for name, ends in counts.items():
+            self.assertGreater(ends[True], 4, name)
+
+    @unittest.skipUnless(shutil.which("cc"), "there is no C compiler")
+    def test_no_hole_goes_untold_in_c(self):
+        words = self.in_c()
+        self.assert_told(words, "dte", "listen")
+        self.assert_told(words, "dce", "connect")
+
+    def test_no_hole_goes_untold_in_python(self):
+        self.assert_told(self.in_python(), "dce", "listen")
+
+    @unittest.skipUnless(shutil.which("cargo"), "there is no cargo")
+    def test_no_hole_goes_untold_in_rust(self):
+        words = self.in_rust()
+        self.assert_told(words, "dte", "connect")
+        self.assert_told(words, "dce", "listen")
+
     def test_they_are_short(self):
-        for name in "c/tunnel.c", "python/tunnel.py", "rust/src/main.rs":
-            self.assertLess(support.read(f"examples/{name}").count(b"\n"), 150, name)
+        for name, most in ("c/tunnel.c", 170), ("python/tunnel.py", 170), ("rust/src/main.rs", 200):
+            self.assertLess(support.read(f"examples/{name}").count(b"\n"), most, name)
 
 
 @needs_library

@@ -9,6 +9,7 @@ import re
 import subprocess
 import unittest
 
+import samples
 import support
 
 from x25tools import drawing, simruns
@@ -78,6 +79,13 @@ class Capture(support.ToolCase):
         path = os.path.join(EXAMPLES, "line.pcapng")
         timed = support.run("pcap2x25.py", "--time", path).stdout
         self.assertEqual(support.run("x25pcap.py", given=timed).stdout, support.read(path))
+
+
+class CaptureOfXot(unittest.TestCase):
+    def test_they_are_those_of_the_samples(self):
+        """The second lacks the answer of the called end."""
+        self.assertEqual(support.read("examples", "xot.pcap"), samples.capture_of_xot())
+        self.assertEqual(support.read("examples", "xot-gap.pcap"), samples.capture_of_xot(4))
 
 
 class Traces(unittest.TestCase):

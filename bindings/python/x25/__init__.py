@@ -11,7 +11,8 @@
 ...         events += answer.events
 ...     return events
 >>> _ = talk(answer, dte, dce)
->>> channel, answer = dte.call("123", "4567", b"A")
+>>> answer = dte.call("123", "4567", b"A")
+>>> channel = answer.channel
 >>> talk(answer, dte, dce)[-1]
 Event(kind=<Kind.INCOMING: 10>, channel=1, stretch=(1, 0, 0), sizes=Sizes(7, 7, 2, 2), called='123', calling='4567', user=b'A')
 >>> _ = talk(dce.accept(channel), dce, dte)
@@ -25,8 +26,9 @@ Event(kind=<Kind.MESSAGE: 17>, channel=1, stretch=(1, 0, 0), user=b'hello')
 Traceback (most recent call last):
 x25.Refused: 15: the link is up
 
-A station may be used by any thread: one call, with all of its answer, is done after another. It is let go of by `close`, at the end
-of a `with` block, or with its last name.
+A station may be used by any thread: one call, with all of its answer, is done after another. What runs in the midst of a call of the
+same thread, as a signal handler, a `__del__` or a trace function does, gets `Busy` of this station. It is let go of by `close`, at the
+end of a `with` block, or with its last name.
 """
 
 from __future__ import annotations
@@ -38,9 +40,13 @@ import functools
 import os
 import struct
 import threading
-from typing import Any, Callable, Iterable, NamedTuple
+from typing import Any, Callable, Iterable, NamedTuple, TypeVar, Union
 
 DTE, DCE = 0, 1
+VERSION = 100  # X25_VERSION of the `x25.h` that this package was written by
+
+Octets = Union[bytes, bytearray, memoryview]
+_Result = TypeVar("_Result")
 
 
 class Timer(enum.IntEnum):
@@ -52,8 +58,10 @@ class Timer(enum.IntEnum):
 
 
 class Kind(enum.IntEnum):
-    """What an event tells, as `x25.h` has it; from CONNECT_ASKED to RELINK_ASKED, what this end asked."""
+    """What an event tells, as `x25.h` has it; from CONNECT_ASKED to RELINK_ASKED, what this end asked. OTHER is of a kind that isn't known
+    here."""
 
+    OTHER = 0
     LINK_UP = 3
     LINK_DOWN = 4
     RESTARTED = 5
@@ -165,6 +173,11 @@ class Answer(NamedTuple):
     events: list[Event]
     timer: Timer
 
+    @property
+    def channel(self) -> int:
+        """The channel that `call` chose."""
+        return next(event.channel for event in self.events if event.kind is Kind.CALL_ASKED)
+
 
 class Refused(Exception):
     """A call was refused, and the station is as before; `number` and `text` say why. Of `receive_all`, `taken` counts the frames before,
@@ -177,6 +190,11 @@ class Refused(Exception):
 
     def __str__(self) -> str:
         return f"{self.number}: {self.text}"
+
+
+class Busy(RuntimeError):
+    """A call was made in the midst of another one of the same thread, by a signal handler, a `__del__` or a trace function. It did nothing,
+    and the other one goes on."""
 
 
 class _Slot(ctypes.Structure):
@@ -211,11 +229,13 @@ class _Given(ctypes.Structure):
         ("user", ctypes.c_char_p),
         ("user_count", ctypes.c_size_t),
         ("d", ctypes.c_bool),
+        ("later", ctypes.c_uint64),
+        ("more", ctypes.c_uint64),
     ]
 
 
 class _Times(ctypes.Structure):
-    _fields_ = [(name, ctypes.c_uint32) for name in Times._fields]
+    _fields_ = [(name, ctypes.c_uint32) for name in (*Times._fields, "later", "more")]
 
 
 _STATION, _ROOM, _SIZE = ctypes.c_void_p, ctypes.c_void_p, ctypes.c_size_t
@@ -224,6 +244,7 @@ _AT = [_STATION, _SIZE, _ROOM, _SIZE]
 # The functions of x25.h: parameters and result. Those of None are called for each frame, and are handed what was converted before.
 _FUNCTIONS: dict[str, tuple[Any, Any]] = {
     "version": ([], ctypes.c_uint32),
+    "event_size": ([], _SIZE),
     "new": ([_STATION, ctypes.c_uint8, _Settings], ctypes.c_uint32),
     "free": ([_STATION], None),
     "connect": ([_STATION], ctypes.c_uint32),
@@ -252,6 +273,7 @@ _FUNCTIONS: dict[str, tuple[Any, Any]] = {
     "set_times": ([_STATION, _Times], ctypes.c_uint32),
     "time": ([_STATION, ctypes.c_uint64], ctypes.c_uint32),
     "next": ([_STATION, ctypes.POINTER(ctypes.c_uint64)], ctypes.c_bool),
+    "next_timeout": ([_STATION, ctypes.c_uint64, ctypes.c_uint64], ctypes.c_uint64),
     "take": ([_STATION, _SIZE, ctypes.c_void_p, _ROOM, _SIZE], ctypes.c_bool),
     "take_all": (None, _SIZE),
     "called": (_AT, _SIZE),
@@ -272,8 +294,9 @@ _FUNCTIONS: dict[str, tuple[Any, Any]] = {
 }
 _FRAME, _TIMER = 1, 2
 _ROOM_SIZE, _ITEMS, _PART = 1 << 18, 64, 128
-# An x25_event: kind, channel, q, d, cause, diagnostic, reason, sizes, timer, stretch, count, confirmed; and its kind, timer and count alone.
-_ITEM, _HEAD = struct.Struct("@HH??BBB4BI3QNN"), struct.Struct("@H14xI28xN8x")
+# An x25_event: kind, channel, q, d, cause, diagnostic, reason, sizes, timer, stretch, count, confirmed, room for later ones; and its kind,
+# timer and count alone.
+_ITEM, _HEAD = struct.Struct("@HH??BBB4BI3QNN16x"), struct.Struct("@H14xI28xN24x")
 _ITEM_SIZE = _ITEM.size
 _size = functools.lru_cache(maxsize=1024)(_SIZE.from_param)
 _MOST, _SPACE = _size(_ITEMS), _size(_ROOM_SIZE)
@@ -284,6 +307,7 @@ _WITH_SIZES = {*_WITH_ADDRESSES, Kind.CONNECTED, Kind.ACCEPT_ASKED}
 _WITH_STRETCH = {*_WITH_ADDRESSES, Kind.MESSAGE, Kind.SEND_ASKED, Kind.INTERRUPT, Kind.INTERRUPT_ASKED, Kind.CONFIRMED}
 # Each kind by its number, and which of these it has.
 _KINDS = {kind.value: (kind, kind in _WITH_ADDRESSES, kind in _WITH_SIZES, kind in _WITH_STRETCH) for kind in Kind}
+_OTHER = _KINDS[Kind.OTHER.value]
 
 _loaded: dict[str, ctypes.PyDLL] = {}
 
@@ -306,6 +330,12 @@ def load(path: str | None = None) -> ctypes.PyDLL:
             library = ctypes.PyDLL(path)
         except OSError as error:
             raise OSError(f"{error} (`make lib` leaves libx25.so in build, and the variable X25_LIBRARY names another folder)") from None
+        version = library.x25_version() if hasattr(library, "x25_version") else 0
+        if version != VERSION:
+            raise OSError(f"{path} is of version {version}, and this package of {VERSION}, as x25.h counts")
+        size = library.x25_event_size() if hasattr(library, "x25_event_size") else 0
+        if size != _ITEM_SIZE:
+            raise OSError(f"an event of {path} has {size} octets, and one of this package {_ITEM_SIZE}")
         for name, (parameters, result) in _FUNCTIONS.items():
             function = getattr(library, f"x25_{name}")
             function.argtypes, function.restype = parameters, result
@@ -317,7 +347,8 @@ class Station:
     """A station, DTE or DCE: window k, n2 tries of a command, 1 to 4,095 channels, whether a call may have 128 octets of user data,
     whether calls and acceptances say packet sizes and windows, as X.25 over TCP asks for, and whether packets are read in all the forms
     that X.25 lets equipment send. Of its channels the first `incoming` are one-way incoming, on which a DTE doesn't call, and the last
-    `outgoing` one-way outgoing, on which a DCE doesn't. A message has at most `message` octets, and each call has memory for so many."""
+    `outgoing` one-way outgoing, on which a DCE doesn't. A message has at most `message` octets, of which 0 stands for 65,535, and each
+    call has memory for so many."""
 
     def __init__(
         self,
@@ -333,9 +364,9 @@ class Station:
         outgoing: int = 0,
         message: int = 65535,
     ) -> None:
-        # It is held from a call to the end of its answer.
-        self._lock = threading.RLock()
-        self._acquire, self._release = self._lock.acquire, self._lock.release
+        # It is held from a call to the end of its answer. A plain lock would have a signal handler wait for ever for the call that it is
+        # in, so the same thread may take it again, and is then told by the flag.
+        self._lock, self._is_in_call = threading.RLock(), False
         self._library, self._held, self._taken = load(library), _Slot(), ctypes.c_size_t()
         self._items: Any = ctypes.create_string_buffer(_ITEMS * _ITEM_SIZE)
         self._buffer: Any = ctypes.create_string_buffer(_ROOM_SIZE)
@@ -344,7 +375,7 @@ class Station:
         self._take_first = functools.partial(self._take_all, self._slot, _size(0), self._items_at, _MOST, self._room, _SPACE)
         self._end = end
         fit = all(0 <= setting < 256 for setting in (end, k, n2)) and all(0 <= count < 65536 for count in (channels, incoming, outgoing))
-        self._check(0 if fit and 0 < message < 65536 else 14)
+        self._check(0 if fit and 0 <= message < 65536 else 14)
         settings = _Settings(k, n2, channels, long_data, say_sizes, wide, 0, incoming, outgoing, message)
         self._check(self._library.x25_new(self._slot, end, settings))
 
@@ -358,10 +389,12 @@ class Station:
         if hasattr(self, "_slot"):
             self.close()
 
+    def __reduce__(self) -> str:
+        raise TypeError("a station is neither copied nor pickled")
+
     def close(self) -> None:
         """Lets the station go; each call is refused with 16 from then on."""
-        with self._lock:
-            self._library.x25_free(self._slot)
+        self._alone(self._library.x25_free, self._slot)
 
     def connect(self) -> Answer:
         """Begins to set the link up."""
@@ -388,24 +421,22 @@ class Station:
         self,
         called: str,
         calling: str,
-        user: bytes = b"",
+        user: Octets = b"",
         sizes: Sizes | None = None,
         *,
-        facilities: bytes = b"",
+        facilities: Octets = b"",
         d: bool = False,
-    ) -> tuple[int, Answer]:
-        """Calls the other end, from one address to another, each of at most 15 digits; answers the channel of the call too. One that is
-        wide may give facilities, and the D bit."""
-        channel, texts = ctypes.c_uint16(), (called.encode(), calling.encode(), user)
-        words = [word for text in texts for word in (text, len(text))]
-        answer = self._call(self._library.x25_call_with, *words, _sizes(sizes), _given(facilities, b"", d), channel)
-        return channel.value, answer
+    ) -> Answer:
+        """Calls the other end, from one address to another, each of at most 15 digits; `channel` of the answer is that of the call. One
+        that is wide may give facilities, and the D bit."""
+        words = [word for text in (called.encode(), calling.encode(), user) for word in _counted(text)]
+        return self._call(self._library.x25_call_with, *words, _sizes(sizes), _given(facilities, b"", d), ctypes.c_uint16())
 
-    def accept(self, channel: int, sizes: Sizes | None = None, *, facilities: bytes = b"", user: bytes = b"", d: bool = False) -> Answer:
+    def accept(self, channel: int, sizes: Sizes | None = None, *, facilities: Octets = b"", user: Octets = b"", d: bool = False) -> Answer:
         """Accepts the call that came on a channel. One that is wide may give facilities, user data and the D bit."""
         return self._on(self._library.x25_accept_with, channel, _sizes(sizes), _given(facilities, user, d))
 
-    def clear(self, channel: int, cause: int = 0, diagnostic: int = 0, *, facilities: bytes = b"", user: bytes = b"") -> Answer:
+    def clear(self, channel: int, cause: int = 0, diagnostic: int = 0, *, facilities: Octets = b"", user: Octets = b"") -> Answer:
         """Clears a call, whatever its state, with a cause and a diagnostic, as `restart`. One that is wide may give facilities and user
         data."""
         return self._on(self._library.x25_clear_with, channel, *self._reason(cause, diagnostic), _given(facilities, user, False))
@@ -414,9 +445,9 @@ class Station:
         """Resets a call, as `clear` clears it: messages on the way are lost."""
         return self._on(self._library.x25_reset, channel, *self._reason(cause, diagnostic))
 
-    def interrupt(self, channel: int, user: bytes) -> Answer:
+    def interrupt(self, channel: int, user: Octets) -> Answer:
         """Sends an interrupt of 1 to 32 octets."""
-        return self._on(self._library.x25_interrupt, channel, user, len(user))
+        return self._on(self._library.x25_interrupt, channel, *_counted(user))
 
     def ready(self, channel: int) -> Answer:
         """Tells the other end that this one takes data packets."""
@@ -434,34 +465,31 @@ class Station:
         """Timer T1 fired."""
         return self._call(self._library.x25_t1)
 
-    def receive(self, octets: bytes) -> Answer:
+    def receive(self, octets: Octets) -> Answer:
         """The octets of a frame came, frame check sequence included."""
-        return self._call(self._library.x25_receive, octets, len(octets))
+        return self._call(self._library.x25_receive, *_counted(octets))
 
-    def receive_all(self, frames: Iterable[bytes]) -> Answer:
+    def receive_all(self, frames: Iterable[Octets]) -> Answer:
         """Several frames came, one after another; what is answered to all of them. It ends at one that is refused, and the error has
         what was answered up to there."""
-        frames = list(frames)
-        octets, counts = b"".join(frames), _packer(len(frames))(*map(len, frames))
-        self._acquire()  # takes half as long as `with`
-        try:
-            number = self._receive_all(self._slot, octets, _size(len(octets)), counts, _size(len(frames)), self._taken_at)
-            if number:
-                raise Refused(number, self._text(number), self._taken.value, self._answer())
-            return self._answer()
-        finally:
-            self._release()
+        return self._alone(self._take_frames, [frame if type(frame) is bytes else _octets(frame) for frame in frames])
 
-    def send(self, channel: int, user: bytes, q: bool = False, confirm: bool = False) -> Answer:
+    def _take_frames(self, frames: list[bytes]) -> Answer:
+        octets, counts = b"".join(frames), _packer(len(frames))(*map(len, frames))
+        number = self._receive_all(self._slot, octets, _size(len(octets)), counts, _size(len(frames)), self._taken_at)
+        if number:
+            raise Refused(number, self._text(number), self._taken.value, self._answer())
+        return self._answer()
+
+    def send(self, channel: int, user: Octets, q: bool = False, confirm: bool = False) -> Answer:
         """Sends a message that isn't too long, with or without the qualifier. One that is wide may ask that its delivery be confirmed:
         CONFIRMED tells that the other end has taken it."""
         send = self._library.x25_send_asking if confirm else self._library.x25_send
-        return self._on(send, channel, q, user, len(user))
+        return self._on(send, channel, q, *_counted(user))
 
     def command(self, text: str) -> Answer:
         """Does what a text asks, as a line of a script without the name of its end: `call 123 4567 41`, `accept 1`."""
-        octets = text.encode()
-        return self._call(self._library.x25_command, octets, len(octets))
+        return self._call(self._library.x25_command, *_counted(text.encode()))
 
     def standard_times(self) -> Times:
         """The times of Annex D for the end of this station, and 3 and 60 seconds for T1 and T3."""
@@ -473,8 +501,7 @@ class Station:
         """Gives the station a clock with these times, or with the standard ones, in place of the one that it has."""
         times = times or self.standard_times()
         self._check(0 if all(0 <= time < 1 << 32 for time in times) else 14)
-        with self._lock:
-            self._check(self._library.x25_set_times(self._slot, _Times(*times)))
+        self._check(self._alone(self._library.x25_set_times, self._slot, _Times(*times)))
 
     def time(self, now: int) -> Answer:
         """The time is now, in milliseconds; the first of what is due by the clock is asked for. 34 for a time before the last one."""
@@ -484,70 +511,77 @@ class Station:
     def next(self) -> int | None:
         """When something is due, where nothing happens before; None for never."""
         at = ctypes.c_uint64()
-        with self._lock:
-            return at.value if self._library.x25_next(self._slot, at) else None
+        return at.value if self._alone(self._library.x25_next, self._slot, at) else None
+
+    def next_timeout(self, now: int, most: int) -> int:
+        """How long a program may wait until it says the time: the milliseconds until something is due, and no more than `most`."""
+        bounds = (max(0, min(number, (1 << 64) - 1)) for number in (now, most))
+        return int(self._alone(self._library.x25_next_timeout, self._slot, *bounds))
 
     def lines(self) -> list[str]:
         """The events of the last answer as lines of the transcript, each with its line feed. Refused with 70 where memory is refused, and
         may be asked again."""
+        return self._alone(self._lines)
+
+    def _lines(self) -> list[str]:
         count, lines = ctypes.c_size_t(), []
-        with self._lock:
-            for i in range(self._library.x25_entries(self._slot)):
-                self._check(self._library.x25_entry(self._slot, i, self._room, _ROOM_SIZE, count))
-                lines.append(self._octets(count.value).decode())
+        for i in range(self._library.x25_entries(self._slot)):
+            self._check(self._library.x25_entry(self._slot, i, self._room, _ROOM_SIZE, count))
+            lines.append(bytes(self._buffer[: count.value]).decode())
         return lines
 
     @property
     def timer(self) -> Timer:
         """What became of timer T1 at the last call."""
-        with self._lock:
-            return Timer(self._library.x25_timer(self._slot))
+        return Timer(self._alone(self._library.x25_timer, self._slot))
 
     @property
     def is_idle(self) -> bool:
         """Whether the link is up, and all that was asked was sent and acknowledged."""
-        with self._lock:
-            return bool(self._library.x25_idle(self._slot))
+        return bool(self._alone(self._library.x25_idle, self._slot))
 
     def room(self, channel: int) -> int:
         """How many messages more `send` takes on a channel: 8 less those that wait, and 0 where it is refused."""
-        with self._lock:
-            return int(self._library.x25_room(self._slot, channel)) if 0 <= channel < 65536 else 0
+        return int(self._alone(self._library.x25_room, self._slot, _channel(channel)))
 
     def unconfirmed(self, channel: int) -> int:
         """How many messages that asked for it aren't confirmed yet on a channel."""
-        with self._lock:
-            return int(self._library.x25_unconfirmed(self._slot, channel)) if 0 <= channel < 65536 else 0
+        return int(self._alone(self._library.x25_unconfirmed, self._slot, _channel(channel)))
 
     def awaits(self, channel: int) -> Awaits:
         """What this end awaits on a channel."""
-        with self._lock:
-            return Awaits(self._library.x25_awaits(self._slot, channel) if 0 <= channel < 65536 else 0)
+        return Awaits(self._alone(self._library.x25_awaits, self._slot, _channel(channel)))
 
     @property
     def is_restarting(self) -> bool:
         """Whether this end awaits that a restart be confirmed."""
-        with self._lock:
-            return bool(self._library.x25_is_restarting(self._slot))
+        return bool(self._alone(self._library.x25_is_restarting, self._slot))
 
     def stretch(self, channel: int) -> tuple[int, int, int] | None:
         """The stretch that is open on a channel, as `Event.stretch` has it; None where none is."""
         name = _StretchName()
-        with self._lock:
-            if not (0 <= channel < 65536 and self._library.x25_stretch(self._slot, channel, name)):
-                return None
-        return name.restarts, name.clears, name.resets
+        is_open = self._alone(self._library.x25_stretch, self._slot, _channel(channel), name)
+        return (name.restarts, name.clears, name.resets) if is_open else None
 
-    def _octets(self, count: int) -> bytes:
-        return bytes(self._buffer[:count])
+    def _alone(self, make: Callable[..., _Result], *words: Any) -> _Result:
+        """Does something with the station while nothing else does, neither another thread nor what comes into the midst of it."""
+        with self._lock:
+            if self._is_in_call:
+                raise Busy("a call of this station is under way")
+            self._is_in_call = True
+            try:
+                return make(*words)
+            finally:
+                self._is_in_call = False
 
     def _text(self, number: int) -> str:
-        return self._octets(self._library.x25_refusal_text(number, self._room, _ROOM_SIZE)).decode()
+        text = ctypes.create_string_buffer(_PART)
+        count = self._library.x25_refusal_text(number, text, _PART)
+        return text.raw[:count].decode()
 
     def _check(self, number: int) -> None:
         if number:
-            with self._lock:
-                raise Refused(number, self._text(number))
+            raise Refused(number, self._text(number))
 
     def _reason(self, cause: int, diagnostic: int) -> tuple[int, int]:
         """A cause and a diagnostic, which have to be octets."""
@@ -560,12 +594,12 @@ class Station:
         return self._call(function, channel, *words)
 
     def _call(self, function: Callable[..., int], *words: Any) -> Answer:
-        """Makes a call and takes its answer, while no other thread is in one."""
-        with self._lock:
-            number = function(self._slot, *words)
-            if number:
-                self._check(number)
-            return self._answer()
+        """Makes a call and takes its answer."""
+        return self._alone(self._ask, function, *words)
+
+    def _ask(self, function: Callable[..., int], *words: Any) -> Answer:
+        self._check(function(self._slot, *words))
+        return self._answer()
 
     def _answer(self) -> Answer:
         """Takes the last answer, of which the timer is the last item."""
@@ -589,7 +623,7 @@ class Station:
 
     def _event(self, i: int, item: tuple[Any, ...], user: bytes) -> Event:
         """The event that stands in a place of the answer."""
-        kind, has_addresses, has_sizes, has_stretch = _KINDS[item[0]]
+        kind, has_addresses, has_sizes, has_stretch = _KINDS.get(item[0], _OTHER)
         event = object.__new__(Event)  # its own __init__, frozen, would take longer than the call
         event.__dict__.update(
             kind=kind,
@@ -622,9 +656,25 @@ def _packer(count: int) -> Callable[..., bytes]:
     return struct.Struct(f"@{count}N").pack
 
 
-def _given(facilities: bytes, user: bytes, d: bool) -> _Given:
+def _octets(given: Octets) -> bytes:
+    """What is given, by any object that holds octets, as C is handed it."""
+    return given if type(given) is bytes else bytes(memoryview(given))
+
+
+def _counted(given: Octets) -> tuple[bytes, int]:
+    """The octets, and how many they are."""
+    octets = _octets(given)
+    return octets, len(octets)
+
+
+def _channel(number: int) -> int:
+    """A channel, as far as a number of 16 bits names it, and else 0, which is never one."""
+    return number if 0 <= number < 65536 else 0
+
+
+def _given(facilities: Octets, user: Octets, d: bool) -> _Given:
     """What is given as C has it; without any of it the call is as the one without."""
-    return _Given(facilities, len(facilities), user, len(user), d)
+    return _Given(*_counted(facilities), *_counted(user), d)
 
 
 def _sizes(sizes: Sizes | None) -> _Sizes:

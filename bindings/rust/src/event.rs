@@ -33,7 +33,6 @@ pub struct Stretch {
 }
 
 /// How long each answer may take, in milliseconds, 0 for ever, as `x25.h` has it; of a DCE `t20` to `t23` are its T10 to T13.
-#[repr(C)]
 #[derive(Clone, Copy, Debug, Default, PartialEq, Eq)]
 pub struct Times {
     pub t1: u32,
@@ -239,6 +238,11 @@ pub enum Event {
         stretch: Stretch,
         confirmed: usize,
     },
+    /// One of a kind that this crate doesn't know.
+    Other {
+        kind: u16,
+        channel: u16,
+    },
 }
 
 impl Event {
@@ -353,11 +357,12 @@ impl Event {
                 timer: item.reason,
                 channel,
             },
-            _ => Event::Confirmed {
+            33 => Event::Confirmed {
                 channel,
                 stretch,
                 confirmed,
             },
+            kind => Event::Other { kind, channel },
         }
     }
 }

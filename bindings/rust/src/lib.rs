@@ -14,7 +14,7 @@
 mod event;
 mod raw;
 
-use std::{cell::UnsafeCell, error, fmt, ptr};
+use std::{cell::UnsafeCell, error, fmt, mem, ptr};
 
 pub use event::{Awaits, Down, Event, Sizes, Stretch, Times};
 
@@ -89,9 +89,9 @@ pub enum Timer {
 impl Times {
     /// The times of Annex D for an end, and 3 and 60 seconds for T1 and T3.
     pub fn standard(end: End) -> Times {
-        let mut times = Times::default();
+        let mut times = raw::Times::default();
         unsafe { raw::x25_standard_times(end as u8, &mut times) };
-        times
+        times.told()
     }
 }
 
@@ -152,7 +152,9 @@ fn checked(number: u32) -> Result<(), Refused> {
 
 /// A station: its link and its packet layer. It has no clock, no socket and no thread.
 ///
-/// It may go to another thread, and isn't shared between threads:
+/// A call has the station to itself: those that let something happen take it by `&mut`, so nothing comes into the midst of one.
+/// The others only read, and call nothing of the program. It may go to another thread, and isn't shared between threads, nor by
+/// a signal handler, which needs a static that is `Sync`:
 ///
 /// ```
 /// fn goes<T: Send>() {}
@@ -174,7 +176,14 @@ unsafe impl Send for Station {}
 
 impl Station {
     /// A station whose link is down; 14 where a setting is out of its range, and 70 where memory is refused.
+    ///
+    /// # Panics
+    ///
+    /// Where the library that is linked is of another version than this crate.
     pub fn new(end: End, settings: Settings) -> Result<Station, Refused> {
+        assert_eq!(version(), raw::VERSION, "the version of libx25.a, and that of this crate");
+        let size = unsafe { raw::x25_event_size() };
+        assert_eq!(size, mem::size_of::<raw::Event>(), "the size of an event of libx25.a, and that of this crate");
         let station = Station {
             slot: UnsafeCell::new(raw::Slot {
                 at: ptr::null_mut(),
@@ -401,7 +410,7 @@ impl Station {
 
     /// Gives the station a clock with these times, in place of the one that it has.
     pub fn set_times(&mut self, times: Times) -> Result<(), Refused> {
-        checked(unsafe { raw::x25_set_times(self.slot.get(), times) })
+        checked(unsafe { raw::x25_set_times(self.slot.get(), raw::Times::of(times)) })
     }
 
     /// The time is now, in milliseconds; the first of what is due by the clock is asked for. 34 for a time before the last one.
@@ -414,6 +423,11 @@ impl Station {
     pub fn next(&self) -> Option<u64> {
         let mut at = 0;
         unsafe { raw::x25_next(self.slot.get(), &mut at) }.then_some(at)
+    }
+
+    /// How long a program may wait until it says the time: the milliseconds until something is due, and no more than `most`.
+    pub fn next_timeout(&self, now: u64, most: u64) -> u64 {
+        unsafe { raw::x25_next_timeout(self.slot.get(), now, most) }
     }
 
     /// The events of the last answer as lines of the transcript, each with its line feed; 70 where memory is refused, and it may be
@@ -631,7 +645,20 @@ mod tests {
         let answer = dte.disconnect().unwrap();
         let reason = Down::Disc;
         assert!(talk(answer, &mut dte, &mut dce).contains(&Event::LinkDown { reason }));
-        assert_eq!(version(), 100);
+        assert_eq!(version(), raw::VERSION);
+    }
+
+    #[test]
+    fn an_event_of_a_kind_that_is_not_known() {
+        let (kind, channel) = (999, 5);
+        let item = raw::Event {
+            kind,
+            channel,
+            ..raw::Event::default()
+        };
+        let nothing = String::new();
+        let event = Event::of(item, nothing.clone(), nothing, vec![], vec![]);
+        assert_eq!(event, Event::Other { kind, channel });
     }
 
     #[test]
@@ -643,6 +670,8 @@ mod tests {
         dte.time(1_000).unwrap();
         let answer = dte.connect().unwrap();
         assert_eq!(dte.next(), Some(4_000));
+        let waits = [(1_500, 9_000), (1_500, 100), (9_000, 100)];
+        assert_eq!(waits.map(|(now, most)| dte.next_timeout(now, most)), [2_500, 100, 0]);
         talk(answer, &mut dte, &mut dce);
         let (channel, answer) = dte.call("1", "2", b"", None).unwrap();
         talk(answer, &mut dte, &mut dce);

@@ -1,7 +1,10 @@
 //! What `x25.h` declares.
 
-use crate::event::{Sizes, Stretch, Times};
+use crate::event::{Sizes, Stretch};
 use std::ffi::c_void;
+
+/// X25_VERSION of the header that this was written by.
+pub const VERSION: u32 = 100;
 
 pub const FRAME: u16 = 1;
 pub const TIMER: u16 = 2;
@@ -54,6 +57,8 @@ pub struct Given {
     user: *const u8,
     user_count: usize,
     d: bool,
+    later: u64,
+    more: u64,
 }
 
 impl Given {
@@ -65,6 +70,55 @@ impl Given {
             user: given.user.as_ptr(),
             user_count: given.user.len(),
             d: given.d,
+            later: 0,
+            more: 0,
+        }
+    }
+}
+
+#[repr(C)]
+#[derive(Clone, Copy, Default)]
+pub struct Times {
+    t1: u32,
+    t3: u32,
+    t20: u32,
+    t21: u32,
+    t22: u32,
+    t23: u32,
+    later: u32,
+    more: u32,
+}
+
+impl Times {
+    pub fn of(times: crate::Times) -> Times {
+        let crate::Times {
+            t1,
+            t3,
+            t20,
+            t21,
+            t22,
+            t23,
+        } = times;
+        Times {
+            t1,
+            t3,
+            t20,
+            t21,
+            t22,
+            t23,
+            later: 0,
+            more: 0,
+        }
+    }
+
+    pub fn told(self) -> crate::Times {
+        crate::Times {
+            t1: self.t1,
+            t3: self.t3,
+            t20: self.t20,
+            t21: self.t21,
+            t22: self.t22,
+            t23: self.t23,
         }
     }
 }
@@ -84,10 +138,13 @@ pub struct Event {
     pub stretch: Stretch,
     pub count: usize,
     pub confirmed: usize,
+    pub later: u64,
+    pub more: u64,
 }
 
 extern "C" {
     pub fn x25_version() -> u32;
+    pub fn x25_event_size() -> usize;
     pub fn x25_new(slot: *mut Slot, end: u8, settings: Settings) -> u32;
     pub fn x25_free(slot: *mut Slot);
     pub fn x25_connect(slot: *mut Slot) -> u32;
@@ -156,6 +213,7 @@ extern "C" {
     pub fn x25_set_times(slot: *mut Slot, times: Times) -> u32;
     pub fn x25_time(slot: *mut Slot, now: u64) -> u32;
     pub fn x25_next(slot: *const Slot, at: *mut u64) -> bool;
+    pub fn x25_next_timeout(slot: *const Slot, now: u64, most: u64) -> u64;
     pub fn x25_take_all(
         slot: *const Slot,
         first: usize,

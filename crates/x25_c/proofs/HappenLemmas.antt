@@ -1,6 +1,6 @@
 -- An event of a station that is held, and a pull behind it.
 use Rattle.std.{proofs.lemmas.List.{map-append}, specs.Prelude.{Ok, Err, OnErr, OnOk, false}}
-use Rattle.x25_c.{proofs.Names.{◌≡◌, ◌∙◌, ◌≤◌, ◌++◌, length, map, ap, sym, refl, subst, Result, Held}, specs.Clocked.{Heeds}}
+use Rattle.x25_c.{proofs.Names.{◌≡◌, ◌∙◌, ◌≤◌, ◌++◌, length, map, ap, sym, refl, subst, Result, Held}, specs.Clocked.{Heeds, moment_of}}
 use Rattle.x25_c.specs.{Happening.{and_pull, may_lack_at}, code.Happens.{HappensTo, IsTimer, event_of}}
 use Rattle.x25_clock.specs.{Clock.{seen}, laws.ClockLaw.{comes}}
 use Rattle.x25_frame.specs.Spelling.{spelling_of}
@@ -45,7 +45,7 @@ pub is_both : (old new : Held) (at : code_station.Station) (step : code_step.Ste
     → (length step.frames ≤ 9 → (c : Settings) (s : Station) → FitsStation c at s → new.step.timer ≡ timer_pulled step.timer s (pulled c s).near)
     → new.step.entries ≡ step.entries → (may_lack_at event ≡ false → (c : Settings) (s : Station) → FitsStation c old.station s
     → RefusesOnly accepted (outcome c s event)) → new.end ≡ old.end → new.time ≡ old.time
-    → ((c : Settings) (s : Station) → FitsStation c new.station s → Heeds old.time (seen c s new.step (comes event)) old.clock new.clock)
+    → ((c : Settings) (s : Station) → FitsStation c new.station s → Heeds (moment_of old.time) (seen c s new.step (comes event)) old.clock new.clock)
     → HappensTo old new accepted event
 is_both old new at step event does timer pulls times entries only end now heeds = record {
   end = end;
@@ -111,10 +111,10 @@ is_refused old new e event end refused only stays empty timer now unheeded = rec
 -- an event of a station that stands for what another stood for
 module _ (old mid new : Held) (event : StationEvent) (now : mid.time ≡ old.time) (clock : mid.clock ≡ old.clock) where
   heeded_from : (r : Result Unit StationError)
-      → OnOk r ((c : Settings) (s : Station) → FitsStation c new.station s → Heeds mid.time (seen c s new.step (comes event)) mid.clock new.clock)
-      → OnOk r ((c : Settings) (s : Station) → FitsStation c new.station s → Heeds old.time (seen c s new.step (comes event)) old.clock new.clock)
-  heeded_from (Ok u) heeds = λ c s fits. subst (λ n. Heeds n (seen c s new.step (comes event)) old.clock new.clock) now
-      (subst (λ v. Heeds mid.time (seen c s new.step (comes event)) v new.clock) clock (heeds c s fits))
+      → OnOk r ((c : Settings) (s : Station) → FitsStation c new.station s → Heeds (moment_of mid.time) (seen c s new.step (comes event)) mid.clock new.clock)
+      → OnOk r ((c : Settings) (s : Station) → FitsStation c new.station s → Heeds (moment_of old.time) (seen c s new.step (comes event)) old.clock new.clock)
+  heeded_from (Ok u) heeds = λ c s fits. subst (λ t. Heeds (moment_of t) (seen c s new.step (comes event)) old.clock new.clock) now
+      (subst (λ v. Heeds (moment_of mid.time) (seen c s new.step (comes event)) v new.clock) clock (heeds c s fits))
   heeded_from (Err e) none = tt
 
   unheeded_from : (r : Result Unit StationError) → OnErr r (new.clock ≡ mid.clock) → OnErr r (new.clock ≡ old.clock)

@@ -31,6 +31,8 @@ kind_alone kind = record {
   stretch = no_name;
   count = 0;
   confirmed = 0;
+  later = 0;
+  more = 0;
 }
 
 -- a kind on a channel

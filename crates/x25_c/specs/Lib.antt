@@ -13,4 +13,5 @@ pub mod Settings
 pub mod Sizes
 pub mod Slot
 pub mod StretchName
+pub mod Timing
 pub mod code

@@ -1,5 +1,5 @@
 -- What a call leaves in the place where C holds a station, and the number that it answers (profile).
-use Rattle.std.specs.Prelude.{◌≡◌, ◌⊎◌, ℕ, ◌<◌, ◌≤◌, List, Option, Some, None, IsSomeAnd, Result, Ok, Err}
+use Rattle.std.specs.Prelude.{true, false, ◌≡◌, ◌⊎◌, ℕ, List, Option, Some, None, IsSomeAnd, Result, Ok, Err}
 use Rattle.x25_bits.specs.declared.role.Role.{Role}
 use Rattle.x25_clock.specs.declared.times.Times.{Times}
 use Rattle.x25_clock.specs.Times.{standard}
@@ -13,7 +13,7 @@ use Rattle.x25_station.specs.Error.{number_of}
 use Rattle.x25_station.specs.laws.TimerLaw.{StationEvent}
 use Rattle.x25_c.specs.declared.held.Held.{Held}
 use Rattle.x25_c.specs.declared.times.Times as c
-use Rattle.x25_c.specs.Clocked.{times_told}
+use Rattle.x25_c.specs.Clocked.{is_before, times_told}
 use Rattle.x25_c.specs.Held.{IsAlone}
 use Rattle.x25_c.specs.Making.{role_of, making_refusal}
 use Rattle.x25_c.specs.code.Happens.{DoesCommand, HappensTo, IsNew}
@@ -91,8 +91,9 @@ AnswersSet (Some old) (Some new) number times = ((number ≡ 70) × (new ≡ old
 
 -- a time before the one that was said last is refused, and all is as before
 abbrev pub TimesOne : Held → Held → ℕ → ℕ → Type 0
-TimesOne old new number now = ((now < old.time) × (number ≡ 34) × (new ≡ old))
-    ⊎ ((old.time ≤ now) × ((r : Result Unit StationError) × (number ≡ number_in r) × Passes old new r now))
+TimesOne old new number now = ((is_before now old.time ≡ true) × (number ≡ 34) × (new ≡ old))
+    ⊎ ((is_before now old.time ≡ false)
+    × ((r : Result Unit StationError) × (number ≡ number_in r) × Passes old new r now))
 
 abbrev pub AnswersTime : Option Held → Option Held → ℕ → ℕ → Type 0
 AnswersTime None None number now = number ≡ 16

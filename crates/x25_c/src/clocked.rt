@@ -5,24 +5,50 @@ ghost use Rattle.x25_station.specs.Config.{Settings, layer_settings};
 ghost use Rattle.x25_station.specs.Station.{Station as State};
 ghost use Rattle.x25_station.specs.code.FitsStation.{FitsStation};
 ghost use Rattle.x25_clock.specs.Clock.{seen};
-ghost use Rattle.x25_c.specs.Clocked.{Heeds, Tells, TellsNext, due_in, next_in};
+ghost use Rattle.x25_c.specs.Clocked.{Begins, Heeds, Tells, TellsNext, due_in, is_before, moment_of, next_in};
 
 use x25_clock::{Clock, Due};
 use x25_station::{Awaits, Station, Step};
 
-/// The clock heeds a step.
+/// The clock heeds a step, at the time that was said last.
 pub(crate) fn heed(
     clock: &mut Option<Clock>,
-    now: u64,
+    time: Option<u64>,
     station: &Station,
     step: &Step,
     has_come: bool,
 )
     ensures { (c : Settings) (s : State) → FitsStation c station.now s
-        → Heeds now (seen c s step.now has_come) clock.old clock.new }
+        → Heeds (moment_of time) (seen c s step.now has_come) clock.old clock.new }
 {
     if let Some(clock) = clock {
-        clock.heed(now, station, step, has_come);
+        clock.heed(moment(time), station, step, has_come);
+    }
+}
+
+/// The clock begins beside a station.
+pub(crate) fn begin(clock: &mut Option<Clock>, now: u64, station: &Station)
+    ensures { Begins now station.now clock.old clock.new }
+{
+    if let Some(clock) = clock {
+        clock.begin(now, station);
+    }
+}
+
+/// The moment at which something happens: 0 before a time is said.
+pub(crate) fn moment(time: Option<u64>) -> u64
+    ensures { result ≡ moment_of time }
+{
+    time.unwrap_or(0)
+}
+
+/// Whether a time is before the one that was said last.
+pub(crate) fn is_before(now: u64, time: Option<u64>) -> bool
+    ensures { result ≡ is_before now time }
+{
+    match time {
+        Some(last) => now < last,
+        None => false,
     }
 }
 

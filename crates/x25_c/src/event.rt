@@ -77,7 +77,8 @@ pub(crate) const TIMEOUT: u16 = 32;
 
 const CONFIRMED: u16 = 33;
 
-/// An event: its kind, and what that has; `count` is how many octets of a frame or of user data there are.
+/// An event: its kind, and what that has; `count` is how many octets of a frame or of user data there are. `later` and
+/// `more` are room for what later versions tell.
 #[repr(C)]
 #[derive(Clone, Copy)]
 pub struct Event {
@@ -93,6 +94,8 @@ pub struct Event {
     pub stretch: StretchName,
     pub count: usize,
     pub confirmed: usize,
+    pub later: u64,
+    pub more: u64,
 }
 
 impl Event {
@@ -113,6 +116,8 @@ impl Event {
             stretch: StretchName::none(),
             count: 0,
             confirmed: 0,
+            later: 0,
+            more: 0,
         }
     }
 

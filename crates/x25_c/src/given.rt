@@ -6,12 +6,15 @@ ghost use Rattle.x25_c.specs.Given.{given_by, gives_nothing};
 use x25_station::Given as StationGiven;
 
 /// Facilities, user data and the D bit beside a call, an acceptance or a clearing; all zeros where nothing is given.
+/// `later` and `more` are room for what later versions give.
 #[repr(C)]
 #[derive(Clone, Copy)]
 pub struct Given<'a> {
     pub facilities: &'a [u8],
     pub user: &'a [u8],
     pub d: bool,
+    pub later: u64,
+    pub more: u64,
 }
 
 impl<'a> Given<'a> {
@@ -32,6 +35,7 @@ impl<'a> Given<'a> {
             facilities,
             user,
             d,
+            ..
         } = self;
         Some(StationGiven {
             facilities,

@@ -13,29 +13,28 @@ ghost use Rattle.x25_c.specs.code.EarlierEntries.{plain_pair};
 ghost use Rattle.x25_c.specs.Held.{channel_of, entries_of, frames_of, in_place, lines_of, no_answer, part_of};
 ghost use Rattle.x25_c.specs.Held.{timer_of, whole_of, IsAlone};
 ghost use Rattle.x25_c.specs.Item.{items_of, last_items, later_items, plain_item};
-ghost use Rattle.x25_c.specs.code.Clocks.{Insists, Passes, Rests, Sets};
+ghost use Rattle.x25_c.specs.code.Clocks.{Insists, IsSaid, Passes, Rests, Sets};
 ghost use Rattle.x25_c.specs.code.Happens.{DoesCommand, GivesAnswer, HappensTo, IsNew, Lacks, event_of};
 ghost use Rattle.x25_c.specs.code.Receives.{ReceivesAll};
 
 use crate::answers::then;
-use crate::clocked::{Passed, awaited, heed, take_due};
+use crate::clocked::{Passed, awaited, begin, heed, moment, take_due};
 use crate::earlier::{Earlier, append_copies};
 use crate::earlier_entries::entry_at;
 use crate::happening::{Happening, happen};
 use crate::item::Item;
 use crate::numbers::{BAD_PARAMETER, NO_MEMORY};
 use std::alloc::{AllocError, Global};
-use std::mem::replace;
 use x25_clock::{Clock, Due, Times};
 use x25_console::{given_beside, read_user, station_command};
 use x25_script::{Command, HexDigits, ScriptTaker, read_command};
-use x25_station::{Entries, Entry, Lent, Role, Station, StationError, Step, Timer};
+use x25_station::{Entry, Lent, Role, Station, StationError, Step, Timer};
 use x25_text::Text;
 use x25_transcript::entry_line;
 
 /// A station, which end it is, and what it answered to its last call, nothing where that was refused. Of frames that
 /// came in one call, `earlier` is what all but the last were answered. Its clock, where it has one, the time that was
-/// said last, and the timer that the last answer tells of.
+/// said last, none before, and the timer that the last answer tells of.
 #[derive(Drop)]
 pub struct Held {
     pub end: Role,
@@ -43,7 +42,7 @@ pub struct Held {
     pub earlier: Earlier,
     pub step: Step,
     pub clock: Option<Clock>,
-    pub time: u64,
+    pub time: Option<u64>,
     pub passed: Option<Passed>,
 }
 
@@ -60,7 +59,7 @@ impl Held {
             earlier: Earlier::new(alloc),
             step,
             clock: None,
-            time: 0,
+            time: None,
             passed: None,
         }
     }
@@ -213,17 +212,7 @@ impl Held {
         ensures refused { OnErr result (self.new ≡ self.old) }
     {
         let mut clock = Clock::new(alloc, times, self.station.channels())?;
-        // It heeds the step of the last answer, as if that had no entries and T1 began there where it runs.
-        let none = Entries::new(alloc)?;
-        let entries = replace(&mut self.step.entries, none);
-        let timer = self.step.timer;
-        self.step.timer = Timer::Off;
-        if self.station.status().timer_runs {
-            self.step.timer = Timer::Begins;
-        }
-        clock.heed(self.time, &self.station, &self.step, false);
-        self.step.entries = entries;
-        self.step.timer = timer;
+        clock.begin(moment(self.time), &self.station);
         self.clock = Some(clock);
         Ok(())
     }
@@ -243,21 +232,33 @@ impl Held {
     {
         let channel = due.channel();
         let timer = due.timer(self.end, awaited(&self.station, channel));
-        let answer = match due.command() {
-            Some(command) => self.happen(Happening::Asks(command)),
-            None => self.happen(Happening::Fires),
-        };
-        if answer.is_ok() {
-            self.passed = Some(Passed { timer, channel });
+        self.begin();
+        match due.ask(&mut self.station, &mut self.step) {
+            Ok(()) => {
+                self.station.pull(&mut self.step);
+                heed(&mut self.clock, self.time, &self.station, &self.step, false);
+                self.passed = Some(Passed { timer, channel });
+                Ok(())
+            }
+            Err(error) => Err(error),
         }
-        answer
+    }
+
+    // The time is this.
+    fn say(&mut self, now: u64)
+        ensures { IsSaid now self.old self.new }
+    {
+        if self.time.is_none() {
+            begin(&mut self.clock, now, &self.station);
+        }
+        self.time = Some(now);
     }
 
     /// The time is this: the first of what is due is asked for. Nothing happens where nothing is due.
     pub(crate) fn pass(&mut self, now: u64) -> Result<(), StationError>
         ensures { Passes self.old self.new result now }
     {
-        self.time = now;
+        self.say(now);
         match take_due(&mut self.clock, now) {
             Some(due) => self.insist(due),
             None => {

@@ -43,12 +43,23 @@ use std::alloc::Global;
 /// 10,000 times the first number of the version, 100 times the second, and the third.
 const VERSION: u32 = 100;
 
+/// How many octets an `Event` has, as a C program on a machine of 64 bits has it.
+const EVENT_SIZE: usize = 80;
+
 /// The version of the library, as X25_VERSION of the header is that of a program.
 #[unsafe(no_mangle)]
 pub extern "C" fn x25_version() -> u32
     ensures { result ≡ 100 }
 {
     VERSION
+}
+
+/// How many octets an event has that is taken: a program that is compiled otherwise doesn't read them right.
+#[unsafe(no_mangle)]
+pub extern "C" fn x25_event_size() -> usize
+    ensures { result ≡ 80 }
+{
+    EVENT_SIZE
 }
 
 /// Makes a station whose link is down: `end` is 0 for a DTE and 1 for a DCE.

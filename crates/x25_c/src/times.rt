@@ -4,7 +4,8 @@ ghost use Rattle.x25_c.specs.Clocked.{times_in, times_told};
 
 use x25_clock::Times as ClockTimes;
 
-/// How long each answer may take, in milliseconds, each as the clock has it; 0 is for ever.
+/// How long each answer may take, in milliseconds, each as the clock has it; 0 is for ever. `later` and `more` are room
+/// for times of later versions.
 #[repr(C)]
 #[derive(Clone, Copy)]
 pub struct Times {
@@ -14,6 +15,8 @@ pub struct Times {
     pub t21: u32,
     pub t22: u32,
     pub t23: u32,
+    pub later: u32,
+    pub more: u32,
 }
 
 impl Times {
@@ -27,6 +30,8 @@ impl Times {
             t21: times.t21,
             t22: times.t22,
             t23: times.t23,
+            later: 0,
+            more: 0,
         }
     }
 

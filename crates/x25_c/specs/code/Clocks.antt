@@ -1,41 +1,26 @@
 -- What is made of the clock of a station that is held, and of what is due by it (profile).
-use Rattle.std.specs.Prelude.{◌≡◌, ℕ, false, if◌then◌else◌, Option, Some, None, IsSomeAnd, Result, Ok, MatchResult}
-use Rattle.x25_circuit.specs.declared.awaits.Awaits.{Awaits}
+use Rattle.std.specs.Prelude.{◌≡◌, ℕ, Option, Some, None, IsSomeAnd, Result, Ok, MatchResult}
 use Rattle.x25_clock.specs.declared.due.Due.{Due}
 use Rattle.x25_clock.specs.declared.times.Times.{Times}
-use Rattle.x25_clock.specs.Clock.{Seen, heeded, nothing_awaited, plain}
-use Rattle.x25_clock.specs.Due.{channel_for, timer_number}
+use Rattle.x25_clock.specs.Clock.{begun, plain}
+use Rattle.x25_clock.specs.Due.{asked_of, channel_for, event_for, timer_number}
 use Rattle.x25_layer.specs.code.FitsLayer.{awaited_at}
 use Rattle.x25_station.specs.declared.error.StationError.{StationError}
-use Rattle.x25_station.specs.declared.timer.Timer.TheVariants.{Off, Begins, GoesOn}
+use Rattle.x25_station.specs.declared.timer.Timer.TheVariants.{GoesOn}
 use Rattle.x25_station.specs.Config.{Settings, layer_settings}
 use Rattle.x25_station.specs.Station.{Station}
-use Rattle.x25_station.specs.Station.Told.{is_at_rest}
 use Rattle.x25_station.specs.code.FitsStation.{FitsStation, FitsStill, IsEmpty}
-use Rattle.x25_link.specs.Link.{timer_runs}
 use Rattle.x25_c.specs.declared.clocked.Passed.{Passed}
 use Rattle.x25_c.specs.declared.held.Held.{Held}
-use Rattle.x25_c.specs.Clocked.{Tells, due_in, event_for}
+use Rattle.x25_c.specs.Clocked.{BeginsFirst, Tells, due_in, moment_of}
 use Rattle.x25_c.specs.Held.{IsAlone}
 use Rattle.x25_c.specs.code.Happens.{HappensTo}
 
--- what a clock sees of the station that it is given to: T1 begins where it runs
-abbrev pub seen_first : Settings → Station → Seen
-seen_first c s = record {
-  timer = if timer_runs s.link.phase s.link then Begins else Off;
-  at_rest = is_at_rest s;
-  restarting = s.layer.restarting;
-  noted = false;
-  come = false;
-  awaited = λ h. awaited_at (layer_settings c) s.layer h;
-}
-
--- a station is given a clock, and nothing else changes
+-- a station is given a clock, which begins beside it, and nothing else changes
 pub record Sets (old new : Held) (times : Times) : Type 0 where
   pub is : new ≡ record old { clock = new.clock }
   pub clock : IsSomeAnd new.clock (λ clock. (clock.times ≡ times) × ((c : Settings) (s : Station) →
-      FitsStation c old.station s
-      → plain clock ≡ heeded times old.time (seen_first c s) (nothing_awaited c.channels.count)))
+      FitsStation c old.station s → plain clock ≡ begun times (moment_of old.time) c.channels.count c s))
 
 -- nothing happens, and nothing is answered
 pub record Rests (old new : Held) : Type 0 where
@@ -54,16 +39,24 @@ passed_at h c s due = record {
   channel = channel_for due;
 }
 
--- what is due is asked for, and where it isn't refused the answer tells which timer passed
+-- what is due is asked for, or that for which there is room, and where it isn't refused the answer tells which timer
+-- passed
 pub record Insists (old new : Held) (result : Result Unit StationError) (due : Due) : Type 0 where
-  pub happens : HappensTo old new result (event_for due)
+  pub asked : Due
+  pub is : (c : Settings) (s : Station) → FitsStation c old.station s → asked ≡ asked_of c s due
+  pub happens : HappensTo old new result (event_for asked)
   pub alone : IsAlone new
   pub passed : (c : Settings) (s : Station) → FitsStation c old.station s →
       MatchResult result (λ u. new.passed ≡ Some (passed_at old c s due)) (λ e. new.passed ≡ None)
 
--- the time is this, and what is due has its time anew
+-- the time is this
+pub record IsSaid (now : ℕ) (old new : Held) : Type 0 where
+  pub is : new ≡ record old { clock = new.clock; time = Some now }
+  pub clock : BeginsFirst now old.time old.station old.clock new.clock
+
+-- what is due has its time anew
 pub record IsTold (now : ℕ) (old new : Held) : Type 0 where
-  pub is : new ≡ record old { clock = new.clock; time = now }
+  pub is : new ≡ record old { clock = new.clock }
   pub clock : Tells now old.clock new.clock
 
 abbrev pub PassesAt : Option Due → Held → Held → Result Unit StationError → Type 0
@@ -72,4 +65,5 @@ PassesAt (Some due) old new result = Insists old new result due
 
 -- the time is said, and the first of what is due is asked for
 unfoldable pub Passes : Held → Held → Result Unit StationError → ℕ → Type 0
-Passes old new result now = (mid : Held) × IsTold now old mid × PassesAt (due_in now old.clock) mid new result
+Passes old new result now = (first : Held) × IsSaid now old first × (mid : Held) × IsTold now first mid
+    × PassesAt (due_in now first.clock) mid new result

@@ -15,10 +15,10 @@ use Rattle.x25_station.specs.Step.{Outcome}
 use Rattle.x25_station.specs.Timer.{standing}
 use Rattle.x25_station.specs.code.FitsStation.{FitsStation, FitsStill, IsEmpty, Leaves, Sends, Enters, Refuses}
 use Rattle.x25_station.specs.code.FitsStation.{RefusesOnly}
-use Rattle.x25_station.specs.laws.TimerLaw.{StationEvent, Comes, Asks, Fires, outcome}
+use Rattle.x25_station.specs.laws.TimerLaw.{StationEvent, Asks, Fires, outcome}
 use Rattle.x25_clock.specs.Clock.{seen}
 use Rattle.x25_clock.specs.laws.ClockLaw.{comes}
-use Rattle.x25_c.specs.Clocked.{Heeds}
+use Rattle.x25_c.specs.Clocked.{Heeds, moment_of}
 use Rattle.x25_c.specs.declared.happening.Happening as code
 use Rattle.x25_c.specs.declared.happening.Happening.TheVariants as variant
 use Rattle.x25_c.specs.declared.held.Held.{Held}
@@ -54,7 +54,7 @@ pub record HappensTo (old new : Held) (result : Result Unit StationError) (event
   pub empty : OnErr result (IsEmpty new.step)
   pub time : new.time ≡ old.time
   pub heeded : OnOk result ((c : Settings) (s : Station) → FitsStation c new.station s →
-      Heeds old.time (seen c s new.step (comes event)) old.clock new.clock)
+      Heeds (moment_of old.time) (seen c s new.step (comes event)) old.clock new.clock)
   pub unheeded : OnErr result (new.clock ≡ old.clock)
 
 -- memory is refused for what a text spells: nothing happens, and nothing is answered
@@ -93,4 +93,4 @@ pub record IsNew (at : Role) (cfg : Cfg) (h : Held) : Type 0 where
   pub alone : IsAlone h
   pub passed : h.passed ≡ None
   pub clock : h.clock ≡ None
-  pub time : h.time ≡ 0
+  pub time : h.time ≡ None

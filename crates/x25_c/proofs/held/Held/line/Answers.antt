@@ -1,4 +1,4 @@
-use Rattle.std.proofs.{Common.{◌∙◌, arith, sym}, lemmas.List.{get_or_past, length-map}}
+use Rattle.std.proofs.{Common.{arith, sym}, lemmas.List.{get_or_past, length-map}}
 use Rattle.x25_c.{proofs.ItemLemmas.{past_from}, specs.Held.{entries_of, lines_of}}
 use Rattle.x25_transcript.specs.EntryText.{entry_line}
 use Rattle.x25_c.proofs.held.Held.line.Goals as goal
