@@ -7,7 +7,7 @@
 # make test          an hour          rt, cc              the gate: all proofs, the must-fail edits, all tests
 # make golden        a second         build/x25           runs the stored cases of tests/golden
 # make check-tools   a minute                             runs the tests of tools/; those for which something isn't there are left out
-# make judge-runs    8 minutes        build/x25           judges random runs: of two stations, as captures have them too, of one end beside an odd one, with one frame changed, and short tapes
+# make judge-runs    8 minutes        build/x25           judges random runs, from new seeds on: of two stations, as captures have them too, of one end beside an odd one, with one frame changed, and short tapes
 # make with-runs     20 seconds       build/x25           gives facilities, user data and D by 100,000 random lines, and reads them again
 # make refused       30 minutes       rt, cc, build/x25   refuses each allocation of stored cases and of scripts in turn
 # make wrong-bodies  minutes a crate  rt                  tries wrong bodies that the gate leaves out; CRATE="NAME .." of these crates
@@ -136,7 +136,7 @@ PACKAGE = $(INSTALLED)/lib/x25/x25
 CRATE_OF_RUST = $(INSTALLED)/share/x25/rust
 SET_PC = s|@PREFIX@|$(PREFIX)|; s|@LIBDIR@|$(LIBDIR)|; s|@VERSION@|$(VERSION)|
 # The scripts by their names in bin, of which each is a link to its script in lib/x25.
-SCRIPTS = x25dump:x25dump pcap2x25:pcap2x25 x25pcap:x25pcap x25bridge:bridge x25chart:chart x25pad:x25pad x25tools:x25tools
+SCRIPTS = x25dump:x25dump x25report:x25report pcap2x25:pcap2x25 x25pcap:x25pcap x25bridge:bridge x25chart:chart x25pad:x25pad x25tools:x25tools
 
 # No dependency has the program proved: `sudo make install` is to install what is there.
 install:
@@ -158,7 +158,7 @@ install:
 	chmod 644 $(INSTALLED)/share/man/man1/x25.1
 	install -m 644 share/x25.bash $(INSTALLED)/share/bash-completion/completions/x25
 	install -m 644 CHANGELOG.md docs/*.md docs/*.svg $(DOCUMENTS)
-	for document in README.md docs/MANUAL.md docs/FORMATS.md; do \
+	for document in README.md docs/MANUAL.md docs/BRIDGE.md docs/CAPTURES.md docs/FORMATS.md; do \
 	    python3 tools/manpage.py --text --prefix $(PREFIX) $$document > $(DOCUMENTS)/$${document#docs/} && chmod 644 $(DOCUMENTS)/$${document#docs/} || exit $$?; \
 	done
 	install -m 644 $(wildcard examples/*.*) $(DOCUMENTS)/examples
@@ -197,12 +197,14 @@ dist:
 # For people without the kit. share/CHECK.txt says how to see what is in it.
 BINARY = x25-$(VERSION)-linux-$(shell uname -m)
 ARCHIVES = build
+PROGRAM_IS = $(shell $(PROGRAM) --version 2> /dev/null | grep -q unproved && echo 'a program of make look: nothing of it is proved' || \
+    echo 'the program that `make x25` left: each of its functions is proved')
 
 dist-binary:
 	rm -rf $(ARCHIVES)/stage
 	@$(MAKE) -s install DESTDIR=$(ARCHIVES)/stage PREFIX=/usr/local
 	mv $(ARCHIVES)/stage/usr/local $(ARCHIVES)/stage/$(BINARY)
-	sed 's|@VERSION@|$(VERSION)|' share/CHECK.txt > $(ARCHIVES)/stage/$(BINARY)/CHECK.txt
+	sed 's|@VERSION@|$(VERSION)|; s|@PROGRAM@|$(PROGRAM_IS)|' share/CHECK.txt > $(ARCHIVES)/stage/$(BINARY)/CHECK.txt
 	cd $(ARCHIVES)/stage/$(BINARY) && find . -type f ! -name SHA256SUMS -print0 | sort -z | xargs -0 sha256sum > SHA256SUMS
 	tar -C $(ARCHIVES)/stage --owner=0 --group=0 --sort=name -czf $(ARCHIVES)/$(BINARY).tar.gz $(BINARY)
 	rm -rf $(ARCHIVES)/stage

@@ -5,19 +5,23 @@ _x25() {
     local word=${COMP_WORDS[COMP_CWORD]} before=${COMP_WORDS[COMP_CWORD - 1]} words=
     COMPREPLY=()
     if ((COMP_CWORD == 1)); then
-        words="decode vectors sim station judge deframe frame help --help --version dump convert pcap chart losses bridge pad"
+        words="decode vectors sim station judge deframe frame help --help --version"
+        _x25_has_scripts && words+=" dump report convert pcap chart losses bridge pad"
     else
         case ${COMP_WORDS[1]}:$before in
-            dump:* | convert:* | pcap:* | chart:* | losses:* | bridge:* | pad:*) words=$(_x25_options "${COMP_WORDS[@]:0:2}") ;;
+            dump:* | report:* | convert:* | pcap:* | chart:* | losses:* | bridge:* | pad:*) words=$(_x25_options "${COMP_WORDS[@]:0:2}") ;;
             sim:--k | station:--k | judge:--k) words="1 2 3 4 5 6 7" ;;
             sim:--n2 | station:--n2) words="1 10 255" ;;
             sim:--channels) words="1 2 4 16" ;;
             station:--channels) words="1 16 255 4095" ;;
-            station:--incoming | station:--outgoing) words="0 1 16" ;;
+            station:--incoming | station:--outgoing) words="0 1" ;;
             sim:--message | station:--message) words="4096 65535" ;;
             sim:*) words="--tap --events --down --loose --long --say-sizes --wide --k --n2 --channels --message --help" ;;
             station:station) words="dte dce --help" ;;
-            station:*) words="--long --say-sizes --wide --k --n2 --channels --incoming --outgoing --message --clock --t1 --t3 --t20 --t21 --t22 --t23 --help" ;;
+            station:*)
+                words="--long --say-sizes --wide --k --n2 --channels --incoming --outgoing --message --clock --help"
+                [[ " ${COMP_WORDS[*]} " != *" --clock "* ]] || words+=" --t1 --t3 --t20 --t21 --t22 --t23"
+                ;;
             judge:--at) words="line dte dce either" ;;
             judge:*) words="--k --at --long --loose --wide --manners --strict --help" ;;
             deframe:deframe) words="dte dce --help" ;;
@@ -28,7 +32,18 @@ _x25() {
             help:*) ((COMP_CWORD == 2)) && words="decode vectors sim station judge deframe frame help" ;;
         esac
     fi
-    mapfile -t COMPREPLY < <(compgen -W "$words" -- "$word")
+    # No word is taken twice.
+    local -a given=("${COMP_WORDS[@]:2:COMP_CWORD-2}")
+    local one left=
+    for one in $words; do [[ $one == --* && " ${given[*]} " == *" $one "* ]] || left+=" $one"; done
+    mapfile -t COMPREPLY < <(compgen -W "$left" -- "$word")
+}
+
+# Whether `x25` is what is installed, which knows the scripts, or isn't there yet; the program by itself doesn't know them.
+_x25_has_scripts() {
+    local path
+    path=$(type -P "${COMP_WORDS[0]}") || return 0
+    [[ $(head -c 2 "$path" | tr -d '\0') == "#!" ]]
 }
 
 # The options that a command itself says it has, where one is begun; else files.
@@ -41,4 +56,4 @@ _x25_script() {
 }
 
 complete -F _x25 -o default x25
-complete -F _x25_script -o default x25dump pcap2x25 x25pcap x25bridge x25chart x25pad x25tools
+complete -F _x25_script -o default x25dump x25report pcap2x25 x25pcap x25bridge x25chart x25pad x25tools

@@ -37,9 +37,6 @@ SYNOPSIS = {
 }
 SEE_ALSO = [".SH SEE ALSO", "\\fBdocs/FORMATS.md\\fR, \\fBdocs/PROOFS.md\\fR, \\fBtshark\\fR(1), \\fBtcpdump\\fR(1)"]
 RULE = re.compile(r"\|[-| :]+\|")
-# The scripts that have names of their own where they are installed.
-NAMES = {"bridge": "x25bridge", "chart": "x25chart", "pcap2x25": "pcap2x25", "x25dump": "x25dump", "x25pad": "x25pad", "x25pcap": "x25pcap", "x25tools": "x25tools"}
-SCRIPT = re.compile(rf"(?:(?:python3 )?tools/|\b)({'|'.join(NAMES)})\.py\b")
 # What stands for the program in the repository.
 PROGRAM = re.compile(r"\bbuild/x25(?:-unproved)?(?![\w.])")
 # Paragraphs that tell of the repository alone, and lists that are made of the manual.
@@ -111,7 +108,7 @@ def installed(lines: Iterable[str], prefix: str) -> Iterator[str]:
     documents = f"{prefix}/share/doc/x25"
     for paragraph in "\n".join(lines).split("\n\n"):
         if paragraph.startswith("    ") or not OF_THE_REPOSITORY.search(paragraph):
-            text = SCRIPT.sub(lambda found: NAMES[found[1]], paragraph)
+            text = x25lines.SCRIPT.sub(lambda found: x25lines.NAMES[found[1]], paragraph)
             text = text.replace("docs/", f"{documents}/").replace("at the root of the repository", f"in `{documents}`").replace("tools/", f"{prefix}/lib/x25/")
             yield from [*text.split("\n"), ""]
 
@@ -124,10 +121,10 @@ def installed_text(lines: Iterable[str], prefix: str) -> str:
 
 def script_page(name: str) -> Iterator[str]:
     """The lines of the page of a script, by the name that it has where it is installed."""
-    script, = (script for script, known in NAMES.items() if known == name)
+    script, = (script for script, known in x25lines.NAMES.items() if known == name)
     command = [sys.executable, os.path.join(os.path.dirname(os.path.abspath(__file__)), f"{script}.py"), "--help"]
     said = subprocess.run(command, env={**os.environ, "COLUMNS": "100"}, capture_output=True, text=True, check=True).stdout
-    said = SCRIPT.sub(lambda found: NAMES[found[1]], said)
+    said = x25lines.SCRIPT.sub(lambda found: x25lines.NAMES[found[1]], said)
     usage, what, rest = re.sub("^usage: ", "", said).split("\n\n", 2)
     yield f".TH {name.upper()} 1\n.SH NAME\n{name} \\- {escaped(' '.join(what.split()))}"
     for heading, text in ("SYNOPSIS", usage), ("DESCRIPTION", rest):
@@ -141,7 +138,9 @@ def main() -> int:
     parser = argparse.ArgumentParser(description=__doc__, formatter_class=argparse.RawDescriptionHelpFormatter)
     parser.add_argument("file", nargs="?", default=MANUAL, metavar="FILE", help="the manual; docs/MANUAL.md where it is missing")
     parser.add_argument("--prefix", metavar="FOLDER", help="the folder in which the program is installed")
-    parser.add_argument("--script", choices=sorted(NAMES.values()), help="make the page of this script")
+    parser.add_argument(
+        "--script", choices=sorted(x25lines.NAMES.values()), help="make the page of this script"
+    )
     parser.add_argument("--text", action="store_true", help="write the document as it is installed, and no page")
     options = parser.parse_args()
     if options.script:

@@ -57,11 +57,10 @@ def sim(lines):
 
 
 def main():
-    if sys.argv[1:] == ["decode", "--loose", "--wide"]:
+    if sys.argv[1:] == ["decode", "--wide"]:
         sys.stdin.reconfigure(encoding="latin-1")
         for line in sys.stdin:
-            before, tab, frame = line.rstrip("\n").rpartition("\t")
-            print(f"{before}{tab}{TEXTS.get(frame, '? 60')}", flush=True)
+            print(TEXTS.get(line.rstrip("\n"), "? 60"), flush=True)
         return
     lines = sys.stdin.read().splitlines()
     if sys.argv[1:5] == ["sim", "--loose", "--tap", "--events"]:

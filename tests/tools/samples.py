@@ -110,3 +110,53 @@ def llc(source, target, control, octets=b""):
     body = b"\x7e\x7e" + control + octets
     frame = station(target) + station(source) + struct.pack(">H", len(body)) + body
     return frame + bytes(max(0, 60 - len(frame)))
+
+
+# A call over XOT: a question and its answer, and a packet over the size that was agreed. Each packet
+# has its time in seconds and its direction.
+PACKETS_OF_XOT = [
+    (0.010, ">", "10010b43" "12345670" "06" "420707" "430202" "c0000000"),
+    (0.051, "<", "10010f00" "06" "420707" "430202"),
+    (0.130, ">", "100100" + b"0200 AUTH 4712 25.00".hex()),
+    (0.181, "<", "100121"),
+    (0.312, "<", "100120" + b"0210 OK 83151".hex()),
+    (0.314, ">", "100121"),
+    (0.920, ">", "100122" + (b"0220 BATCH " + b"4711;" * 36).hex()),
+    (0.965, "<", "10011b0527"),
+    (0.967, ">", "10011f"),
+    (2.510, ">", "1001130000"),
+    (2.551, "<", "100117"),
+]
+BEGIN_OF_XOT = 1772446502
+PORTS_OF_XOT = {">": 40001, "<": 1998}
+HOSTS_OF_XOT = {">": bytes([192, 0, 2, 10]), "<": bytes([192, 0, 2, 20])}
+
+
+def segment_of_xot(mark, flags, octets, sequence):
+    """A frame of Ethernet with a segment of TCP of the end whose packets have this mark."""
+    other = "<" if mark == ">" else ">"
+    ports = PORTS_OF_XOT[mark], PORTS_OF_XOT[other]
+    head = struct.pack(">HHIIBBHHH", *ports, sequence[mark], sequence[other], 5 << 4, flags, 65535, 0, 0)
+    sequence[mark] += len(octets) + bool(flags & 3)
+    length = 20 + len(head) + len(octets)
+    packet = struct.pack(">BBHHHBBH", 0x45, 0, length, 0, 0x4000, 64, 6, 0) + HOSTS_OF_XOT[mark] + HOSTS_OF_XOT[other]
+    stations = (station(2), station(1)) if mark == ">" else (station(1), station(2))
+    return b"".join(stations) + b"\x08\x00" + packet + head + octets
+
+
+def capture_of_xot(left_out=None):
+    """A capture of that call, or one that lacks the packet of this place."""
+    sequence, records = {">": 1000, "<": 5000}, []
+
+    def add(time, mark, flags, octets=b"", is_there=True):
+        made = segment_of_xot(mark, flags, octets, sequence)
+        if is_there:
+            records.append((BEGIN_OF_XOT + int(time), round(time % 1 * 1_000_000), made))
+
+    for time, mark, flags in ((0.001, ">", 0x02), (0.002, "<", 0x12), (0.003, ">", 0x10)):
+        add(time, mark, flags)
+    for place, (time, mark, digits) in enumerate(PACKETS_OF_XOT):
+        add(time, mark, 0x18, xot(bytes.fromhex(digits)), place != left_out)
+    for mark, flags in ((">", 0x11), ("<", 0x11), (">", 0x10)):
+        add(2.6, mark, flags)
+    return pcap(records, link_type=1)

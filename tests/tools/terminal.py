@@ -139,6 +139,8 @@ class Terminal:
         while time.monotonic() < last and self._read(last):
             pass
         if self.status is None:
+            if time.monotonic() >= last:
+                os.kill(self.child, 9)
             self.status = os.waitstatus_to_exitcode(os.waitpid(self.child, 0)[1])
         return self.status, self.display.text()
 

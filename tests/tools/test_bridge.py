@@ -116,6 +116,7 @@ class Forms(unittest.TestCase):
         self.assert_says("name one line", "dte", "--stdio", "--xot", "there")
         self.assert_says("XOT loses and damages nothing", "dte", "--xot", "there", "--lose", "0.1")
         self.assert_says("in brackets", "dte", "--connect", "::1:7000")
+        self.assert_says("neither HOST:PORT nor a port", "dte", "--connect", "nohost")
         self.assert_says("--retry is for --connect", "dte", "--listen", "0", "--retry")
 
     def assert_says(self, text, *words):

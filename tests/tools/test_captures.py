@@ -14,7 +14,7 @@ import support
 from support import ToolCase
 
 import golden
-from x25tools import ahead, captures, ip, pcap2x25, x25lines, xot
+from x25tools import ahead, captures, early, ip, pcap2x25, x25lines, xot
 
 SABM, UA = bytes.fromhex("013f"), bytes.fromhex("0173")
 SET_UP = b"> 013febdf\n< 01738357\n"
@@ -248,13 +248,65 @@ class XotStreams(unittest.TestCase):
         self.assertEqual([line[:4] for line in text.splitlines()], ["< 03", "> ..", "> 01"])
         self.assertEqual(notes, {"gap in a connection, octets that weren't captured": 1})
 
-    def test_a_segment_after_its_acknowledgement_is_told(self):
-        """A capture of two taps may have it so, and one that is missing comes no more."""
-        answer = False, 1, self.accept, 16, 1998, 1 + len(self.call)
+    def test_a_segment_after_its_acknowledgement(self):
+        """A capture of two taps may have it so: what acknowledges it waits for it, with its own
+        time, but not for one that doesn't come."""
+        syn, answer = (True, 0, b"", 2), (False, 1, self.accept, 16, 1998, 1 + len(self.call))
+        self.assertEqual(self.read([syn, answer, (True, 1, self.call)]), (self.expected, {}))
+        rest = [
+            (False, 1 + number * len(self.accept), self.accept, 16, 1998, 1 + len(self.call))
+            for number in range(early.MOST_EARLY)
+        ]
+        text, notes = self.read([syn, *rest, (True, 1, self.call)])
+        self.assertEqual([text.splitlines()[0], notes], [self.expected.splitlines()[0], {}])
         for late in [], [(True, 1, self.call)]:
-            text, notes = self.read([(True, 0, b"", 2), answer, *late])
-            self.assertEqual([line[:4] for line in text.splitlines()], ["< 03"])
+            rest = [
+                (False, 1 + number * len(self.accept), self.accept, 16, 1998, 1 + len(self.call))
+                for number in range(early.MOST_EARLY + 1)
+            ]
+            text, notes = self.read([syn, *rest, *late])
+            self.assertEqual(
+                [line[:4] for line in text.splitlines()], ["> ..", *["< 03"] * len(rest)]
+            )
             self.assertEqual(notes, {"gap in a connection, octets that weren't captured": 1, **({xot.TOO_LATE: 1} if late else {})})
+
+    def test_segments_that_wait_keep_their_times(self):
+        ways = (False, self.accept, 1 + len(self.call)), (True, self.call, 0)
+        records = [
+            (
+                at,
+                0,
+                samples.ethernet(samples.ipv4(way, samples.tcp(way, 1, octets, wanted=wanted))),
+            )
+            for at, (way, octets, wanted) in enumerate(ways, 5)
+        ]
+        syn = 4, 0, samples.ethernet(samples.ipv4(True, samples.tcp(True, 0, b"", 2)))
+        done = support.run(
+            "pcap2x25.py", "--time", given=samples.pcap([syn, *records], link_type=1)
+        )
+        self.assertEqual(
+            [row[:15] for row in done.stdout.decode().splitlines()],
+            ["6.000000000\t> 0", "5.000000000\t< 0"],
+        )
+
+    def test_where_the_capture_begins_within_a_connection(self):
+        """One end's segments are late; or aren't there at all, as where one way was captured
+        alone."""
+        ends, call, answer = (
+            (1 + len(self.call), 1 + len(self.accept)),
+            (True, 1, self.call, 16, 1998, 1),
+            (False, 1, self.accept, 16, 1998, 1 + len(self.call)),
+        )
+        data = (True, ends[0], samples.xot(bytes.fromhex("10010041")), 16, 1998, ends[1])
+        self.assertEqual(self.read([call, data, answer]), self.read([call, answer, data]))
+        text, notes = self.read(
+            [call]
+            + [
+                (True, 1 + (number + 1) * len(self.call), self.call, 16, 1998, 100 * number + 1)
+                for number in range(40)
+            ]
+        )
+        self.assertEqual((text.count("\n"), notes), (41, {}))
 
     def test_behind_a_gap_the_next_packet_is_looked_for(self):
         """Of the second packet the beginning is missing; what is left of it may look like a header, but for its length or its format."""
@@ -367,6 +419,39 @@ class LocalNetworks(ToolCase):
         _, notes = self.ethernet(*set_up, samples.llc(1, 2, b"\x00\x00", CALL), samples.llc(1, 2, b"\x04\x00", CALL))
         self.assertEqual(notes, {"gap in a connection of LLC": 1})
 
+    def test_a_gap_of_llc_is_where_the_other_station_has_taken_more(self):
+        """By N(R) of an I frame or of RR; a gap before the first packet stands before it, and the
+        frame that is missing may come a little later."""
+        set_up, lacks = (samples.llc(1, 2, b"\x7f"), samples.llc(2, 1, b"\x73")), {
+            "gap in a connection of LLC": 1
+        }
+        call, late = samples.llc(1, 2, b"\x00\x00", CALL), samples.llc(2, 1, b"\x00\x02", ACCEPT)
+        data, more = samples.llc(1, 2, b"\x02\x02", b"\x10\x01\x00A"), samples.llc(
+            2, 1, b"\x02\x04", b"\x10\x01\x21"
+        )
+        for frames, ways, notes in (
+            ([*set_up, call, data, more], "> <.. > <", lacks),
+            (
+                [*set_up, call, samples.llc(1, 2, b"\x01\x02"), more],
+                "> <.. >.. <",
+                {"gap in a connection of LLC": 2},
+            ),
+            ([*set_up, late, data], ">.. < >", lacks),
+            ([*set_up, late, call, data], "> < >", {}),
+            ([*set_up, call, data, late, more], "> < > <", {}),
+        ):
+            text, noted = self.ethernet(*frames)
+            self.assertEqual(
+                (
+                    " ".join(
+                        line[0] + line[2:].replace(line[2:], ".." if line[2:] == ".." else "")
+                        for line in text.splitlines()
+                    ),
+                    noted,
+                ),
+                (ways, notes),
+            )
+
     def test_the_dte_of_llc_may_be_named(self):
         frame = samples.llc(1, 2, b"\x00\x00", CALL)
         self.assertEqual([self.ethernet(frame, dte=dte)[0][:1] for dte in (None, samples.station(2))], [">", "<"])
@@ -414,6 +499,14 @@ class Connections(ToolCase):
             self.assertEqual((done.returncode, done.stdout), (1, b""))
             self.assertIn(b"nothing was found", done.stderr)
             self.assertIn(said, done.stderr)
+
+    def test_a_handshake_alone_says_that_nothing_was_brought(self):
+        flags = (True, 0, b"", 2), (False, 0, b"", 18), (True, 1, b"", 16)
+        packets = [samples.ipv4(it[0], samples.tcp(*it)) for it in flags]
+        capture = samples.pcap([(0, 0, samples.ethernet(it)) for it in packets], link_type=1)
+        done = support.run("pcap2x25.py", given=capture)
+        self.assertEqual(done.returncode, 1)
+        self.assertIn(b"passed over: segment of TCP that brings no octets (3)", done.stderr)
 
     def test_a_record_of_another_link_type_is_passed_over(self):
         file = samples.section() + samples.interface(207) + samples.interface(105)
@@ -600,7 +693,17 @@ class Hostile(ToolCase):
         self.assert_refused(support.run("x25pcap.py", "-o", "/nowhere/file", given=SET_UP), "/nowhere/file: No such file")
 
     def test_lines_that_are_none(self):
-        for line in (b"x", b"> 0", b"> 013febdf\r\r", b" ", b">013febdf", b"> " + b"00" * 4104, b"1.5 > 013febdf", b"99999999999\t> 013febdf", b"\xff\xfe\x00"):
+        for line in (
+            b"x",
+            b"> 0",
+            b"> 013febdf\r\r",
+            b" ",
+            b">013febdf",
+            b"> " + b"00" * 4104,
+            b"10:11 > 013febdf",
+            b"99999999999\t> 013febdf",
+            b"\xff\xfe\x00",
+        ):
             with self.subTest(line[:20]):
                 self.assert_refused(support.run("x25pcap.py", given=SET_UP + line + b"\n"), "line 3 is no line of a trace")
 

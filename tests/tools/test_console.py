@@ -15,7 +15,7 @@ from terminal import Terminal, script
 from tunnels import free_ports
 
 from test_bridge import FAKE, SABM, UA
-from x25tools import console
+from x25tools import circuits, console
 
 MESSAGE = "dte message ch=1 at 1.0.0 q=0 data="
 
@@ -68,13 +68,25 @@ class Typed(unittest.TestCase):
             ("clear 1 5", "it is `clear CHANNEL [cause=N] [diag=N]`"),
             ("clear 1 diag=5 cause=200", "it is `clear "),
             ("wait", "it is `wait TEXT`"),
+            ("wait conected", "that `wait` would hold for good: no notice tells of 'conected'"),
+            (
+                "wait dce incoming",
+                "that `wait` would hold for good: notices of this end begin with `dte `",
+            ),
+            ("call 12x 45", "'12x' is no address, digits or - for none: it is `call CALLED"),
+            ("call 12 4-5", "'4-5' is no address"),
+            ("accept one", "'one' is no channel, a number: it is `accept CHANNEL"),
+            ("send 1 2 41", "'2' is no Q, 0 or 1: it is `send CHANNEL Q"),
             ("with", "it is `with FAC DATA [d] COMMAND`"),
             ("with 0101 call 1 2", "it is `with FAC DATA [d] COMMAND`"),
             ("with 0101 - d send 1 0 41", "it is `with FAC DATA [d] COMMAND`"),
             ("with 0101 - accept", "it is `accept CHANNEL [S S W W]`"),
             ("with 010 - accept 1", "'010' is no octets"),
             ('send 1 0 "hello', "a quote isn't closed"),
-            ("send 1 0 hello", """'hello' is no octets: these are hexadecimal digits in pairs, or "text\""""),
+            (
+                "send 1 0 hello",
+                """'hello' is no octets: these are hexadecimal digits in pairs, or "text\"""",
+            ),
             ("call 1 2 4", "'4' is no octets"),
             ("int 1 x", "'x' is no octets"),
         ):
@@ -82,10 +94,24 @@ class Typed(unittest.TestCase):
                 console.spelled(typed, "dte")
             self.assertIn(words, str(raised.exception))
 
+    def test_what_a_wait_can_wait_for(self):
+        """Each entry that FORMATS has, whole or its beginning, and what isn't an entry."""
+        text = support.read("docs/FORMATS.md").decode().split("## What `sim` writes")[1]
+        entries = set(re.findall(r"^\| `?END|`([a-z]+)(?: [a-z]+=[^`]*| NAME| REASON)?`", text))
+        entries &= set(circuits.EVENTS)
+        self.assertGreater(len(entries), 20)
+        for event in circuits.EVENTS:
+            for waited in (f"dte {event}", f"dte {event} ch=1", f"dte {event[:2]}"):
+                self.assertEqual(circuits.never_comes(waited, "dte"), "")
+        for waited in ("d", "dte", "dte ", "# the line", "! 3", "?"):
+            self.assertEqual(circuits.never_comes(waited, "dte"), "", waited)
+        for waited in ("incoming", "dce message", "dte messages", "dte foo ch=1", "x"):
+            self.assertTrue(circuits.never_comes(waited, "dte"), waited)
+
     def test_help_has_each_command(self):
         script = set(re.findall(r"^\| `END (\w+)|, `END (\w+)", support.read("docs/FORMATS.md").decode().split("## Lines of a script")[1].split("## ")[0], re.MULTILINE))
         commands = {name for pair in script for name in pair if name}
-        self.assertEqual(set(console.COMMANDS), commands | {"wait", "help", "quit"})
+        self.assertEqual(set(console.COMMANDS), commands | {"wait", "status", "help", "quit"})
         for name in console.COMMANDS:
             self.assertIn(f"\n  {name} ", "\n" + console.helped())
             self.assertEqual(console.helped(name).count("\n"), 2)
@@ -214,6 +240,19 @@ class Live(ToolCase):
         self.terminal.types("dance\r")
         self.terminal.shows("no command 'dance'")
 
+    def test_status(self):
+        entry = "dte incoming ch=1 at 1.0.0 called=1 calling=- data=-"
+        self.begin(f". off idle\n= {UA}\ndte linkup\n. off idle\n= {UA}\n{entry}\n. off idle\n")
+        self.terminal.types("status\r")
+        self.terminal.shows("dte> status\nthe line isn't there\nthe link is down\ndte>")
+        self.join()
+        self.sends(UA)
+        self.terminal.shows("linkup")
+        self.sends(UA)
+        self.terminal.shows("refuses it)")
+        self.terminal.types("status\r")
+        self.terminal.shows("dte> status\nthe link is up\nchannel 1: called\ndte>")
+
     def test_other_ends(self):
         """The terminal is left as it was, after CTRL-D, CTRL-C, and the end of the line."""
         for typed, status in (("\x04", 0), ("\x03", 130), (None, 0)):
@@ -294,18 +333,18 @@ class Live(ToolCase):
 
 @support.needs_station
 class Manual(ToolCase):
-    """The session of docs/MANUAL.md, against the other end that stands above it."""
+    """The session of docs/BRIDGE.md, against the other end that stands above it."""
 
     def test_it_goes_as_it_stands_there(self):
-        text = re.sub("^    ", "", support.read("docs/MANUAL.md").decode(), flags=re.MULTILINE)
+        text = re.sub("^    ", "", support.read("docs/BRIDGE.md").decode(), flags=re.MULTILINE)
         port = str(*free_ports(1, socket.SOCK_STREAM))
-        other = re.search(r"^printf .*\\\n.* \| bridge.py dce --listen 7000 .*$", text, re.MULTILINE)[0]
-        session = re.search(r"^bridge.py dte --connect localhost:7000\nThis is(?:.+\n)*", text, re.MULTILINE)[0].replace("7000", port)
+        other = re.search(r"^printf .*\\\n.* \| x25 bridge dce --listen 7000 .*$", text, re.MULTILINE)[0]
+        session = re.search(r"^x25 bridge dte --connect localhost:7000\nThis is(?:.+\n)*", text, re.MULTILINE)[0].replace("7000", port)
         command, *lines = session.splitlines()
-        other = other.replace("7000", port).replace("bridge.py", f'"{sys.executable}" "{support.TOOLS}/bridge.py" --x25 "{support.PROGRAM}"')
+        other = other.replace("7000", port).replace("x25 bridge", f'"{sys.executable}" "{support.TOOLS}/bridge.py" --x25 "{support.PROGRAM}"')
         with subprocess.Popen(["bash", "-c", other], cwd=self.folder, stdout=subprocess.DEVNULL, stderr=subprocess.PIPE) as far:
             far.stderr.readline()
-            terminal = Terminal(script(*command.split(), "--x25", support.PROGRAM))
+            terminal = Terminal(script("bridge.py", *command.split()[2:], "--x25", support.PROGRAM))
             self.addCleanup(terminal.close)
             shown = ""
             for line in lines:

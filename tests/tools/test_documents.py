@@ -1,4 +1,5 @@
-"""The documents: how wide and how long they are, that what they name is there, and that the claims of a crate are carried by what they name.
+"""The documents: how wide their lines and how long their sentences are, that what they name is
+there, and that the claims of a crate are carried by what they name.
 
 A name is a word of code in the text, between backticks, that has a line below or two humps, or is a path. Of a claim each word of code counts.
 """
@@ -19,7 +20,15 @@ import english
 from x25tools.command import COMMANDS
 
 WIDTH = 100
-LENGTHS = {"README.md": 100, "docs/ARCHITECTURE.md": 110, "docs/PROOFS.md": 181, "docs/DECISIONS.md": 200, "docs/PERFORMANCE.md": 98, "CONTRIBUTING.md": 149, "docs/READING.md": 80}
+# How many words a sentence has at most, and in the pages that aren't rewritten yet.
+WORDS, WORDS_BEFORE = 25, 45
+NOT_REWRITTEN = (
+    "crates/*/README.md", "interop/README.md", "examples/embed/README.md", "CHANGELOG.md",
+    "docs/ARCHITECTURE.md", "docs/BUGS.md", "docs/CIRCUIT.md",
+    "docs/DECISIONS.md", "docs/EMBEDDING.md", "docs/FORMATS.md", "docs/INTEROP.md",
+    "docs/LINK.md", "docs/MANUAL.md", "docs/PEER.md", "docs/PERFORMANCE.md",
+    "docs/PROVING.md", "docs/READING.md", "docs/THEORY.md", "docs/WALK.md",
+)
 CRATES = os.path.join(support.ROOT, "crates")
 # What is named and stands elsewhere: what commands leave behind, the sources of Linux, what whoever races decoders has.
 ELSEWHERE = ("build/*", "out/*", "/*", "../x25_*", "net/*", "AnswersOffered.antt")
@@ -37,7 +46,7 @@ def text_of(*path):
 @functools.cache
 def documents():
     """The paths of all documents, from the root on."""
-    patterns = ("*.md", "docs/*.md", "crates/*/README.md", "interop/*.md", "examples/*/*.md")
+    patterns = ("*.md", "docs/*.md", "crates/*/README.md", "interop/*.md", "examples/*/*.md", "tests/*.md")
     return sorted(os.path.relpath(path, support.ROOT) for pattern in patterns for path in glob(os.path.join(support.ROOT, pattern)))
 
 
@@ -64,20 +73,16 @@ def is_path(code):
 
 class Form(unittest.TestCase):
     def test_no_line_is_wider(self):
+        """But for examples, which are as the program writes them, and rows of tables."""
         for document in documents():
-            wide = [str(number) for number, line in enumerate(text_of(document).splitlines(), 1) if len(line) > WIDTH]
+            lines = enumerate(text_of(document).splitlines(), 1)
+            wide = [str(number) for number, line in lines if len(line) > WIDTH and not line.startswith(("    ", "|"))]
             with self.subTest(document):
                 self.assertEqual(" ".join(wide), "")
 
-    def test_those_that_are_read_whole_are_short(self):
-        for document, most in LENGTHS.items():
-            with self.subTest(document):
-                self.assertLessEqual(text_of(document).count("\n"), most)
-
-    def test_a_decision_has_five_lines(self):
-        decisions = re.findall(r"^\d+\. .*\n(?: .*\n)*", text_of("docs/DECISIONS.md"), re.MULTILINE)
-        self.assertEqual([int(decision.partition(".")[0]) for decision in decisions], [*range(1, len(decisions) + 1)])
-        self.assertEqual([decision for decision in decisions if decision.count("\n") > 5], [])
+    def test_decisions_are_numbered(self):
+        numbers = [int(number) for number in re.findall(r"^(\d+)\. ", text_of("docs/DECISIONS.md"), re.MULTILINE)]
+        self.assertEqual(numbers, [*range(1, len(numbers) + 1)])
 
     def test_each_link_leads_to_a_file(self):
         for document in documents():
@@ -99,17 +104,19 @@ class English(unittest.TestCase):
 
     def test_sentences_have_few_words(self):
         for document, text in self.texts():
-            _, mean, (most, line, worst) = english.measure(text)
+            _, _, (most, line, worst) = english.measure(text)
+            is_rewritten = not any(fnmatch.fnmatch(document, pattern) for pattern in NOT_REWRITTEN)
             with self.subTest(document):
-                self.assertLessEqual(mean, 25)
-                self.assertLessEqual(most, 45, f"line {line}: {worst}")
+                self.assertLessEqual(most, WORDS if is_rewritten else WORDS_BEFORE, f"line {line}: {worst}")
 
     # What is behind something else as a man is in a queue.
     IN_PLACE = re.compile(r"\b(?:fell|far|stations|commands?(?:\{.*?\})?|leave) behind\b|\bbehind (?:a pipe|the other|the next one|`0`)|is behind it")
 
     def test_what_comes_later_comes_after(self):
-        """In documents, in the header for C, and in what Python says in comments and in texts."""
-        texts = dict(self.texts(*self.WITH_NUMBERS)) | {"include/x25.h": text_of("include/x25.h")}
+        """In documents, but what the program tells there, in the header for C, and in comments and texts of Python."""
+        told = re.compile(r"^    [<>] .*$", re.MULTILINE)
+        texts = {path: told.sub("", text) for path, text in self.texts(*self.WITH_NUMBERS)}
+        texts |= {"include/x25.h": text_of("include/x25.h")}
         for path in (path for path in files() if path.endswith(".py") and os.path.basename(path) != os.path.basename(__file__)):
             tokens = tokenize.generate_tokens(io.StringIO(text_of(path)).readline)
             texts[path] = "\n".join(token.string for token in tokens if token.type in (tokenize.COMMENT, tokenize.STRING))
@@ -121,7 +128,7 @@ class English(unittest.TestCase):
 class Names(unittest.TestCase):
     @classmethod
     def setUpClass(cls):
-        sources = [path for path in files() if path.rpartition(".")[2] in ("rt", "antt", "py", "c", "txt", "bash") or path == "Makefile"]
+        sources = [path for path in files() if path.rpartition(".")[2] in ("rt", "antt", "py", "c", "h", "txt", "bash") or path == "Makefile"]
         cls.words = {word for path in sources for word in re.findall(r"\w+", text_of(path))}
         cls.words |= {os.path.splitext(os.path.basename(path))[0] for path in files()}
         cls.words |= support.names_of_edits()
@@ -325,6 +332,14 @@ class Theorem(unittest.TestCase):
         shown = re.search(r"^```\n(.*?)^```$", text_of("docs", "PROOFS.md"), re.MULTILINE | re.DOTALL)[1]
         for definition in (part for part in shown.split("\n\n") if ":" in part):
             self.assertIn(" ".join(definition.split()), claims)
+
+    def test_how_many_lines_its_files_have(self):
+        text = text_of("docs/PROOFS.md")
+        files = re.findall(r"^\d\. `(\w+)` of `(\w+)`: ", text, re.MULTILINE)
+        found = [path for name, crate in files for path in glob(f"{CRATES}/{crate}/specs/**/{name}.antt", recursive=True)]
+        self.assertEqual((len(files), len(found)), (4, 4))
+        lines = sum(text_of(path).count("\n") for path in found)
+        self.assertIn(f"They are {lines} lines", " ".join(text.split()))
 
 
 if __name__ == "__main__":

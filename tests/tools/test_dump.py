@@ -2,6 +2,7 @@
 
 import functools
 import gzip
+import json
 import os
 import pty
 import re
@@ -72,12 +73,22 @@ def shown(judged):
 
 class Names(unittest.TestCase):
     def test_causes_and_diagnostics_are_those_of_the_document(self):
-        table = support.read("docs/FORMATS.md").decode().split("| Diagnostic | Name |")[1].split("\n\n")[0]
+        text = (
+            support.read("docs/FORMATS.md")
+            .decode()
+            .split("### Names of causes and diagnostics")[1]
+        )
+        table = text.split("\n## ")[0]
         causes = {(sort, int(number)): name for sort, number, name in re.findall(r"\| (CLEAR|RESET|RESTART) (\d+) \| ([^|]+) \|", table)}
         self.assertEqual({it: x25names.CAUSES[it[0]][it[1]] for it in causes}, causes)
         diagnostics = {int(number): name for number, name in re.findall(r"^\| (\d+) \| ([^|]+) \|", table, re.MULTILINE)}
-        self.assertGreater(len(diagnostics), 6)
-        self.assertEqual({number: x25names.DIAGNOSTICS[number] for number in diagnostics}, diagnostics)
+        self.assertEqual(diagnostics, x25names.DIAGNOSTICS)
+        known = {
+            (sort, number)
+            for sort in ("CLEAR", "RESET", "RESTART")
+            for number in x25names.CAUSES[sort]
+        }
+        self.assertEqual(set(causes), known)
 
     def test_numbers_without_a_name_are_told(self):
         self.assertEqual(x25names.words("I cmd P=0 S=0 R=0 | RESET ch=1 cause=99 diag=250"), "cause 99; diagnostic 250")
@@ -333,7 +344,10 @@ class Dump(ToolCase):
         frames = [b"\x01\x01\x3f", b"\x00\x01\x73", b"\x01\x01\x00\x10\x01\x01", b"\x01\x01\x00\x10\x01\x01"]
         rows = self.dump(samples.pcap([(at, 0, frame) for at, frame in enumerate(frames)]), "--judge", "--at", "line", "--manners", "--x25", support.PROGRAM, status=1).splitlines()
         self.assertEqual([" ~ manners: " in row for row in rows], [False] * 4 + [True] + [False] * 4)
-        judged, note = self.dump(self.capture(), "--judge", "--x25", support.PROGRAM), " ~ note: not judged before a RESTART, a CLEAR or a CALL is answered (4.1): channel 1"
+        judged = self.dump(self.capture(), "--judge", "--x25", support.PROGRAM, status=1)
+        note = (
+            " ~ note: not judged before a RESTART, a CLEAR or a CALL is answered (4.1): channel 1"
+        )
         self.assertEqual(judged.count(note), 2)
         self.assertEqual(shown(judged.replace(note, "")), self.dump(self.capture(), "--x25", support.PROGRAM))
 
@@ -354,6 +368,43 @@ class Dump(ToolCase):
         self.assertEqual([row for row in rows if " ! " in row], [rows[-4]])
         self.assertIn("P(S) isn't the next one (4.4.1.1): it should be 2", rows[-4])
         self.assertEqual([row.partition(": ")[0] for row in rows[-3:]], ["# dte channel 1", "# dce channel 1", "# told"])
+
+    @support.needs_program
+    def test_what_is_told_alone(self):
+        case, = golden.cases(["judge/repeats_with_other_octets"])
+        whole = self.dump(case.input, "--judge", "--x25", support.PROGRAM, status=1).splitlines()
+        told = self.dump(case.input, "--told", "--x25", support.PROGRAM, status=1).splitlines()
+        self.assertEqual(told, [row for row in whole if " ! " in row or row[0] == "#"])
+        self.assertEqual(len([row for row in told if row[0] != "#"]), 1)
+
+    @support.needs_program
+    def test_objects_for_other_programs(self):
+        """Each line is one, whatever the line was; numbers are numbers, and digits are text."""
+        given = b"1.25\t> 012210010b431234567000417605\n< ..\ndte linkup\n? 60\n# \"\xc3\xa4\n"
+        done = support.run("x25dump.py", "--json", "--x25", support.PROGRAM, given=given)
+        call, gap, entry, refusal, comment = map(json.loads, done.stdout.decode().splitlines())
+        self.assertEqual((call["time"], call["from"], call["connection"]), (1.25, "dte", 1))
+        self.assertEqual(call["frame"], {"kind": "I", "is": "cmd", "P": 0, "S": 1, "R": 1})
+        packet = {
+            "kind": "CALL",
+            "ch": 1,
+            "called": "123",
+            "calling": "4567",
+            "fac": "",
+            "data": "41",
+        }
+        self.assertEqual(call["packet"], packet)
+        self.assertEqual((gap["gap"], gap["from"], gap["time"]), (True, "dce", None))
+        self.assertEqual((entry["from"], entry["entry"]), ("dte", "linkup"))
+        self.assertEqual((refusal["line"], comment["line"]), ("? 60", '# "ä'))
+        case, = golden.cases(["judge/repeats_with_other_octets"])
+        rows = self.dump(case.input, "--json", "--told", "--x25", support.PROGRAM, status=1)
+        told, *counts = map(json.loads, rows.splitlines())
+        self.assertEqual(told["told"]["end"], "dte")
+        self.assertEqual((told["told"]["kind"], told["told"]["is_in_doubt"]), ("rule", False))
+        self.assertEqual(counts[-1]["count"], "told: 1 rules, 0 manners")
+        for words in ["--json", "--messages"], ["--json", "--stats"], ["--told", "--judge"]:
+            self.assertEqual(support.run("x25dump.py", *words).returncode, 2)
 
     @support.needs_program
     def test_a_capture_without_x25(self):

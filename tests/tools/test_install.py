@@ -1,5 +1,6 @@
 """Tests of `make install`: into an empty folder, run from there by another user, and taken away again."""
 
+import gzip
 import importlib.util
 import os
 import pwd
@@ -19,7 +20,16 @@ from program import find_library
 from x25tools.command import COMMANDS
 
 PREFIX = "/usr/local"
-SCRIPTS = ("x25dump", "pcap2x25", "x25pcap", "x25bridge", "x25chart", "x25pad", "x25tools")
+SCRIPTS = (
+    "x25dump",
+    "x25report",
+    "pcap2x25",
+    "x25pcap",
+    "x25bridge",
+    "x25chart",
+    "x25pad",
+    "x25tools",
+)
 # Who runs what was installed, where the tests run as root and so may be another user.
 OTHER = {"user": pwd.getpwnam("nobody").pw_uid, "group": pwd.getpwnam("nobody").pw_gid, "extra_groups": []} if os.geteuid() == 0 else {}
 
@@ -58,12 +68,39 @@ class Installed(ToolCase):
         self.assertIn("x25tools COMMAND", self.run_there("x25 help"))
         self.assertNotIn("x25tools", self.run_there("x25 help decode; x25 decode --help; x25; x25 dance"))
         for name in SCRIPTS:
-            self.assertIn(f"usage: {name} ", self.run_there(f"{name} --help"))
+            said = self.run_there(f"{name} --help")
+            self.assertIn(f"usage: {name} ", said)
+            self.assertNotRegex(
+                said, r"\b(x25dump|x25report|pcap2x25|x25pcap|x25pad|bridge|chart)\.py"
+            )
         with open(f"{self.documents}/examples/setup.trace", "rb") as file:
             decoded = "".join(f"{line}\n" for line in support.decode(file.read()))
         self.assertEqual(self.run_there("x25dump examples/setup.trace"), decoded)
         # The program that was installed with a script is found without the PATH.
         self.assertEqual(self.run_there(f"{self.there}/bin/x25dump examples/setup.trace", has_path=False), decoded)
+
+    def test_a_capture_given_to_the_program_is_told(self):
+        """As a file and as standard input; a pipe is left as it is."""
+        self.file("packed.gz", gzip.compress(b"> 013febdf\n"))
+        os.chmod(f"{self.folder}/packed.gz", 0o644)
+        for words, said in (
+            ("decode examples/line.pcapng", "this is a capture: `x25 dump` shows it"),
+            ("judge --wide < examples/line.pcapng", "this is a capture: `x25 dump` shows it"),
+            (f"decode {self.folder}/packed.gz", "this is packed by gzip: `x25 dump` reads it"),
+        ):
+            done = self.run_there(f"x25 {words}")
+            self.assertIn(f"x25: {said}", done)
+            self.assertIn("? 60\n", done)
+        for words in (
+            "decode examples/setup.trace",
+            "decode < examples/setup.trace",
+            "decode --long --wide < examples/setup.trace",
+        ):
+            self.assertEqual(self.run_there(f"x25 {words}"), "> SABM cmd P=1\n< UA rsp F=1\n")
+        self.assertEqual(
+            self.run_there("cat examples/setup.trace | x25 decode; x25 decode < /dev/null"),
+            "> SABM cmd P=1\n< UA rsp F=1\n",
+        )
 
     def test_each_example_of_the_page_writes_what_stands_below_it(self):
         manual = support.read("docs/MANUAL.md").decode().splitlines()
@@ -97,10 +134,10 @@ class Installed(ToolCase):
     def test_the_first_page_has_the_commands_that_were_installed(self):
         with open(f"{self.documents}/README.md") as file:
             text = file.read()
-        for name in ("README", "MANUAL", "FORMATS", "INTEROP", "BUGS", "JUDGE"):
+        for name in ("README", "MANUAL", "BRIDGE", "CAPTURES", "FORMATS", "INTEROP", "BUGS", "JUDGE"):
             self.assertNotRegex(support.read(f"{self.documents}/{name}.md").decode(), r"\btools/\w+\.py|`bridge\.py|build/x25|make look")
         commands = EXAMPLE.findall(text)
-        self.assertGreaterEqual(len(commands), 4)
+        self.assertGreaterEqual(len(commands), 3)
         for command, output in commands:
             with self.subTest(command):
                 self.assertEqual(self.run_there(command), re.sub("^    ", "", output, flags=re.MULTILINE))
@@ -141,6 +178,15 @@ class Installed(ToolCase):
         self.assertEqual((whole.stdout, whole.stderr), ("whole\n", ""))
         self.assertEqual(len(re.findall(r" ok$", vectors.stdout, re.MULTILINE)), 17)
         self.assertIn("17 lines", check)
+        said = subprocess.run(
+            [support.PROGRAM, "--version"], capture_output=True, text=True, timeout=60
+        )
+        what = (
+            "nothing of it is proved"
+            if "unproved" in said.stdout
+            else "each of its functions is proved"
+        )
+        self.assertIn(what, check)
         shown = subprocess.run([f"{there}/bin/x25dump", f"{there}/share/doc/x25/examples/line.pcapng"], env={"PATH": os.environ["PATH"]}, capture_output=True, text=True, timeout=60)
         self.assertIn("RESET ch=1 cause=5 diag=1", shown.stdout)
         with open(f"{there}/libexec/x25", "ab") as program:

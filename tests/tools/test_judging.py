@@ -136,7 +136,8 @@ class Lacking(ToolCase):
         numbered = [(direction, bytes([1 if direction == ">" else 3, at << 1, at << 1]) + b"\x10\x01\x01") for at in (5, 6) for direction in "><"]
         acknowledged = [("<", bytes([1, 1, 12])), (">", bytes([3, 1, 12]))]
         for set_up, at in ([], []), ([], ["--at", "line"]), ([command("<", SABME)], ["--at", "dce"]), ([*SET_UP, command("<", SABME)], ["--at", "dce"]):
-            told, last = self.judged(capture([*set_up, *acknowledged, *numbered, *acknowledged]), *at)
+            given = capture([*set_up, *acknowledged, *numbered, *acknowledged])
+            told, last = self.judged(given, *at, status=int(set_up[:2] != SET_UP))
             self.assertEqual((told, last), ([], "# told: 0 rules, 0 manners"))
             self.assertEqual(self.counts[0].partition(" judged")[0], f"# dte: {4 + (set_up[:2] == SET_UP)} frames, {int(set_up[:2] == SET_UP)}")
         of_five = [("<", bytes([1, 0x21, 0]))]
@@ -202,6 +203,39 @@ class Lacking(ToolCase):
         of_dte = ("<", bytes([1, SABM]))
         self.assertEqual(self.judged(trace([of_dte]), status=1), ([f" !? {told}, or the frame is misread"], "# told: 0 rules, 0 manners, 1 in doubt"))
         self.assertEqual(self.judged(trace([command(">", SABM), of_dte]), status=1)[0], [f" ! {told}"])
+
+    def test_a_tap_that_marks_all_frames_as_of_one_end(self):
+        hint = (
+            "x25dump.py: all frames are marked as the {}'s, and their addresses are of both ends\n"
+        )
+        for direction, end in (">", "DTE"), ("<", "DCE"):
+            told, _ = self.judged(
+                capture([(direction, octets) for _, octets in MISSING]), status=1
+            )
+            self.assertEqual(self.said, hint.format(end))
+            self.assertEqual([it for it in told if it.startswith(" ! ")], [])
+            self.assertIn(", or the frame is misread", "".join(told))
+
+    def test_flags_and_bits_are_told(self):
+        """Neither needs a word about frame check sequences beside it."""
+        turned = bytes(int(f"{octet:08b}"[::-1], 2) for octet in range(256))
+        for change, said in (
+            (
+                lambda octets: b"\x7e" + octets + fcs(octets) + b"\x7e",
+                "each frame stands between flags (7e)",
+            ),
+            (lambda octets: octets.translate(turned), "each frame begins with 80 or c0"),
+        ):
+            given = [(direction, change(octets)) for direction, octets in MISSING]
+            for words in [], ["--fcs"]:
+                self.judged(capture(given), *words, status=1)
+                self.assertIn(said, self.said)
+                self.assertNotIn("check sequence", self.said)
+
+    def test_where_nothing_is_judged_the_status_says_it(self):
+        """As of a link whose set-up isn't there."""
+        self.judged(capture([data(">", 3, 2), ready("<", 4)]), status=1)
+        self.assertEqual(self.said, "x25dump.py: no frame and no packet was judged\n")
 
     def test_a_capture_that_breaks_off_is_counted_too(self):
         done = support.run("x25dump.py", "--judge", "--x25", PROGRAM, given=capture(MISSING)[:-1])
@@ -273,6 +307,27 @@ class Circuits(ToolCase):
         self.assertIn("lacks", lines[2])
         shown = support.run("pcap2x25.py", given=self.captured).stdout.decode()
         self.assertEqual([line[:4] + line[4:6] for line in shown.splitlines()], ["> 0100", "< 0320", "> ..", "> 0122", "< 0342"])
+
+    def test_what_sets_up_a_permanent_circuit_is_named_and_passed_over(self):
+        """Nothing is known of its channel after it, and nothing is told of either end."""
+        packets = bytes.fromhex("1001f500090202080707"), bytes.fromhex("1001f5")
+        ways = [
+            (True, packets[0]),
+            (False, packets[1]),
+            (True, self.DATA),
+            (False, bytes.fromhex("100121")),
+        ]
+        for is_opened in False, True:
+            lines = self.judged(ways, 1, is_opened=is_opened)
+            words = "  (sets up a permanent circuit of XOT; what it says isn't read)"
+            shown = [line.partition(" ")[2] for line in lines[:2]]
+            self.assertEqual(
+                shown, [f"> PVC ch=1 data=00090202080707{words}", f"< PVC ch=1 data=-{words}"]
+            )
+            self.assertEqual([line for line in lines if " ! " in line or " !? " in line], [])
+        done = support.run("x25dump.py", "--x25", PROGRAM, given=self.captured)
+        self.assertIn(b"> PVC ch=1 data=00090202080707  (sets up", done.stdout)
+        self.assertEqual(done.returncode, 0)
 
     def test_behind_a_gap_the_channel_is_not_known(self):
         ways = [(True, self.CALL), (False, self.ACCEPTED), *[(True, bytes([0x10, 1, number << 1, 0x41])) for number in (0, 1, 2)], (False, bytes([0x10, 1, 0x61]))]

@@ -4,6 +4,7 @@ import os
 import re
 import shutil
 import subprocess
+import tempfile
 import unittest
 
 import support
@@ -15,10 +16,14 @@ from x25tools import command
 COMPLETION = os.path.join(support.ROOT, "share", "x25.bash")
 
 
-def complete(*words):
+def complete(*words, path=None):
     """What bash offers for the last of some words after `x25`."""
     script = 'source "$1"; shift; COMP_WORDS=(x25 "$@"); COMP_CWORD=$#; _x25; echo "${COMPREPLY[*]}"'
-    done = subprocess.run(["bash", "-c", script, "bash", COMPLETION, *words], capture_output=True, text=True, timeout=60, check=True)
+    command = ["bash", "-c", script, "bash", COMPLETION, *words]
+    environment = {**os.environ, "PATH": path or os.environ["PATH"]}
+    done = subprocess.run(
+        command, env=environment, capture_output=True, text=True, timeout=60, check=True
+    )
     return done.stdout.split()
 
 
@@ -42,7 +47,8 @@ class Page(ToolCase):
         self.assertEqual([*manpage.SYNOPSIS, *command.COMMANDS], [word for word in complete("") if word != "help" and word[0] != "-"])
         for name, words in manpage.SYNOPSIS.items():
             ends = re.findall(r"^(dte)\|dce", words)
-            self.assertEqual({*re.findall(r"--[\w-]+", words), "--help"}, set(complete(name, *ends, "--")), name)
+            offered = {*complete(name, *ends, "--"), *complete(name, *ends, "--clock", "--")}
+            self.assertEqual({*re.findall(r"--[\w-]+", words), "--help"}, offered, name)
 
     @unittest.skipUnless(shutil.which("groff"), "groff isn't installed")
     def test_groff_takes_it_without_a_warning(self):
@@ -65,6 +71,21 @@ class Completion(unittest.TestCase):
         self.assertEqual(complete("judge", "--k", ""), list("1234567"))
         self.assertEqual(complete("vectors", "x"), [])
 
+    def test_what_is_refused_is_not_offered(self):
+        """A word that is there, a timer without a clock, a channel that isn't there, and the
+        scripts where `x25` is the program by itself."""
+        self.assertEqual(complete("decode", "--long", "--"), ["--loose", "--wide", "--help"])
+        self.assertNotIn("--t1", complete("station", "dte", "--"))
+        self.assertIn("--t1", complete("station", "dte", "--clock", "--"))
+        self.assertEqual(complete("station", "dte", "--incoming", ""), ["0", "1"])
+        with tempfile.TemporaryDirectory() as folder:
+            for octets, has_scripts in (b"\x7fELF\0\0", False), (b"#!/bin/sh\n", True):
+                with open(f"{folder}/x25", "wb") as out:
+                    out.write(octets)
+                os.chmod(f"{folder}/x25", 0o755)
+                offered = complete("", path=f"{folder}:{os.environ['PATH']}")
+                self.assertEqual(["dump" in offered, "decode" in offered], [has_scripts, True])
+
     @support.needs_program
     def test_all_words_of_the_program_are_offered(self):
         for words in ([], ["decode"], ["sim"], ["station", "dte"], ["judge"], ["vectors"], ["frame"]):
@@ -73,7 +94,9 @@ class Completion(unittest.TestCase):
             said = set(re.findall(r"^  (?:    |-[hV], )?(--[\w-]+)", usage, re.MULTILINE)) | set(re.findall(r"^  (\w+)  ", usage, re.MULTILINE) if not words else [])
             said |= set() if words else set(command.COMMANDS)
             self.assertTrue(said)
-            self.assertEqual(set(complete(*words, "")) | set(complete(*words, "--")), said, words)
+            offered = [*complete(*words, ""), *complete(*words, "--")]
+            offered += complete(*words, "--clock", "--") if words else []
+            self.assertEqual(set(offered), said, words)
 
 
 if __name__ == "__main__":

@@ -1,7 +1,4 @@
-"""Runs the examples of the documents: indented lines that begin with `$`, with what they have to write below them.
-
-A command goes on after a line that ends with a bar or a backslash.
-"""
+"""Runs the examples of the documents, by tests/pages.py, and those of README.md as they stand there."""
 
 import os
 import re
@@ -11,11 +8,13 @@ import subprocess
 import sys
 import unittest
 
+import pages
 import support
 from support import ToolCase
 from tunnels import free_ports
 
-DOCUMENTS = ["README.md", "docs/MANUAL.md"]
+# Pages for users of what is installed: `x25` is on the PATH, with the scripts as its words.
+PAGES = ["docs/MANUAL.md", "docs/CAPTURES.md", "docs/JUDGE.md"]
 EXAMPLE = re.compile(r"^    \$ ((?:.*[|\\]\n    )*.*)\n((?:    (?!\$ ).*\n)*)", re.MULTILINE)
 
 
@@ -28,51 +27,53 @@ def examples(document):
 @support.needs_program
 class Examples(ToolCase):
     def setUp(self):
-        """Makes a folder that looks like the root of the repository, and one with the program for the PATH."""
+        """Makes a folder that looks like the root of the repository, with what is installed on the PATH."""
         super().setUp()
-        for name in ("examples", "tools"):
-            os.symlink(os.path.join(support.ROOT, name), os.path.join(self.folder, name))
-        programs = os.path.join(self.folder, "build")
-        os.mkdir(programs)
-        os.symlink(support.PROGRAM, os.path.join(programs, "x25"))
-        self.environment = {**os.environ, "PATH": f"{programs}:{os.environ['PATH']}", "LC_ALL": "C", "TZ": "UTC", "PYTHONDONTWRITEBYTECODE": "1"}
+        self.environment = pages.lay_out(self.folder, support.PROGRAM)
 
     def test_each_example_writes_what_stands_below_it(self):
-        for command, output in examples("docs/MANUAL.md"):
-            with self.subTest(command):
-                done = subprocess.run(["bash", "-c", command], cwd=self.folder, env=self.environment, capture_output=True, text=True, timeout=60)
-                self.assertEqual((done.stdout, done.stderr), (output, ""))
-        self.assertEqual(sorted(os.listdir(self.folder)), ["build", "examples", "tools"])
+        before = sorted(os.listdir(self.folder))
+        for page in PAGES:
+            found = list(pages.examples(support.read(page).decode(), self.folder, self.environment))
+            self.assertGreater(len(found), 5)
+            for stood, answered in found:
+                with self.subTest(f"{page}: {stood.splitlines()[0].strip()}"):
+                    self.assertEqual(answered, stood)
+        self.assertEqual(sorted(os.listdir(self.folder)), before)
 
     def test_the_commands_of_the_first_page_run_behind_make_look(self):
         """With nothing but what that leaves: no x25 on the PATH, and scripts that say that theirs is unproved."""
         os.unlink(f"{self.folder}/tools")
         shutil.copytree(support.TOOLS, f"{self.folder}/tools", ignore=shutil.ignore_patterns("__pycache__"))
-        os.rename(f"{self.folder}/build/x25", f"{self.folder}/build/x25-unproved")
+        os.mkdir(f"{self.folder}/build")
+        os.symlink(os.path.realpath(support.PROGRAM), f"{self.folder}/build/x25-unproved")
         environment = {**self.environment, "PATH": os.environ["PATH"], "X25": ""}
         commands = examples("README.md")
-        self.assertGreaterEqual(len(commands), 4)
+        self.assertGreaterEqual(len(commands), 3)
         for command, output in commands:
             with self.subTest(command):
                 done = subprocess.run(["bash", "-c", command], cwd=self.folder, env=environment, capture_output=True, text=True, timeout=60)
                 self.assertEqual(done.stdout, output)
                 self.assertRegex(done.stderr, r"^(\w+\.py: \S+/build/x25-unproved is unproved .*\n)?$")
 
-    def test_two_stations_of_the_first_page_talk_to_each_other(self):
-        """The two commands for two shells, at another port."""
-        text = support.read("README.md").decode()
-        lines = re.search(r"^    printf 'wait dce incoming(?:.*\n    )*.*localhost:7000\n", text, re.MULTILINE)[0]
+    def test_two_stations_in_two_shells_talk_to_each_other(self):
+        """The two commands of docs/BRIDGE.md, at another port."""
+        text = re.sub("^    ", "", support.read("docs/BRIDGE.md").decode(), flags=re.MULTILINE)
         port, = free_ports(1, socket.SOCK_STREAM)
-        listens, calls = re.sub("^    ", "", lines, flags=re.MULTILINE).replace("7000", str(port)).split("\n", 1)
-        environment = {**self.environment, "X25": support.PROGRAM}
-        how = {"cwd": self.folder, "env": environment, "stdout": subprocess.PIPE, "stderr": subprocess.STDOUT, "text": True}
+        bridge = f'"{sys.executable}" "{support.TOOLS}/bridge.py" --x25 "{support.PROGRAM}"'
+        shells = r"^(printf .*\\\n.* \| x25 bridge dce --listen 7000 .*)\n(printf .*\\\n(?:.*\n)*?.*localhost:7000 .*)$"
+        listens, calls = (
+            command.replace("7000", str(port)).replace("x25 bridge", bridge)
+            for command in re.search(shells, text, re.MULTILINE).groups()
+        )
+        how = {"cwd": self.folder, "env": self.environment, "stdout": subprocess.PIPE, "stderr": subprocess.STDOUT, "text": True}
         with subprocess.Popen(["bash", "-c", listens], **how) as called:
             self.assertIn("listening", called.stdout.readline())
             calling = subprocess.run(["bash", "-c", calls], timeout=60, **how)
             told = called.communicate(timeout=60)[0]
         self.assertEqual((called.returncode, calling.returncode), (0, 0))
         self.assertIn("dce accept ch=1", told)
-        self.assertIn("dte connected ch=1", calling.stdout)
+        self.assertIn("dte message ch=1 at 1.0.0 q=0 data=776f726c64", calling.stdout)
 
     def test_the_program_in_python(self):
         text = support.read("docs/MANUAL.md").decode()
@@ -107,8 +108,16 @@ class Examples(ToolCase):
 
 class Documents(unittest.TestCase):
     def test_they_have_examples(self):
-        for document in DOCUMENTS:
+        for document in ["README.md", "docs/MANUAL.md", "docs/CAPTURES.md"]:
             self.assertTrue(examples(document), document)
+
+    def test_each_text_of_judge_has_an_example(self):
+        page = support.read("docs/JUDGE.md").decode()
+        texts = re.findall(r"^\*\*`([^`]*)`\.\*\*(.*?)(?=^\*\*`|^## )", page, re.MULTILINE | re.DOTALL)
+        self.assertGreater(len(texts), 35)
+        for text, below in texts:
+            shown = [line for line in below.splitlines() if line.startswith("    ")]
+            self.assertTrue([line for line in shown if text in line], text)
 
     def test_what_excludes_a_bug_is_proved(self):
         """Each function and clause that docs/BUGS.md names as excluding a bug stands among the claims, or is a wrong body."""

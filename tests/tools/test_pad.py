@@ -83,7 +83,15 @@ class Half(unittest.TestCase):
         self.assertEqual((self.pad.stage, self.pad.status), ("free", 0))
 
     def test_user_data_of_a_call(self):
-        for typed, data in (("123", ""), ("123Dhi", "6869"), ("123pHi", "4869"), ("123D", ""), ("123D ü", "20c3bc")):
+        spaced = ("123 D hi", "6869"), ("123  d  hi", "6869"), ("123 D", "")
+        for typed, data in (
+            *spaced,
+            ("123", ""),
+            ("123Dhi", "6869"),
+            ("123pHi", "4869"),
+            ("123D", ""),
+            ("123D ü", "20c3bc"),
+        ):
             with self.subTest(typed):
                 self.begin()
                 self.types(f"{typed}\r")
@@ -93,6 +101,7 @@ class Half(unittest.TestCase):
         for typed, asked in (
             ("R-123", "with 0101 - call 123 - 01000000"),
             ("f-123D hi", "with 0180 - call 123 - 01000000206869"),
+            ("f-123 D hi", "with 0180 - call 123 - 010000006869"),
             ("G07-123", "with 0307 - call 123 - 01000000"),
             ("r,F,g1234-123", "with 0181471234 - call 123 - 01000000"),
             ("123D" + 12 * "x", "call 123 - 01000000" + 12 * "78"),
@@ -141,18 +150,55 @@ class Half(unittest.TestCase):
 
     def test_calls_that_come(self):
         for data, calling, said, asked in (
-            ("01000000", "4567", "4567 COM", "accept 2"),
-            ("-", "-", "COM", "accept 2"),
-            ("cc", "4567", "# a call of 4567 with the user data cc is refused", "clear 2"),
+            ("01000000", "4567", "4567 COM", ["accept 2", "send 2 1 020d04"]),
+            ("-", "-", "COM", ["accept 2"]),
+            ("cc", "4567", "# a call of 4567 with the user data cc is refused", ["clear 2"]),
         ):
             with self.subTest(data):
                 self.begin()
                 self.seen()
                 self.comes(f"dte incoming ch=2 at 1.0.0 called=1 calling={calling} data={data}", "dte accept ch=2")
-                self.assertEqual((self.seen().split("\r\n")[1], self.asked()), (said, [f"dte {asked}"]))
+                asked = [f"dte {it}" for it in asked]
+                self.assertEqual((self.seen().split("\r\n")[1], self.asked()), (said, asked))
         self.connect()
         self.comes("dte incoming ch=2 at 1.0.0 called=1 calling=2 data=01", "dte clear ch=2", "dte cleardone ch=2")
         self.assertEqual((self.asked(), self.pad.stage), (["dte clear 2"], "open"))
+
+    def test_the_user_data_of_a_call_that_comes_is_shown(self):
+        self.begin()
+        self.seen()
+        self.comes("dte incoming ch=2 at 1.0.0 called=1 calling=4567 data=010000006869c3bc")
+        self.assertEqual(self.seen(), "\r\n4567 COM\r\n# user data: 'hiü'\r\n")
+
+    def test_lines_of_two_pads_stand_below_each_other(self):
+        """The one that is called has parameter 13 so, and asks it of the other; not where its user
+        has said what it is. After the call it is as before."""
+        incoming = "dte incoming ch=2 at 1.0.0 called=1 calling=- data=01000000"
+        self.begin(incoming)
+        self.assertEqual(self.pad.parameters[13], 7)
+        self.seen()
+        self.comes("dte message ch=2 at 1.0.0 q=0 data=61620d")
+        self.types("cd\r")
+        self.assertEqual((self.seen(), self.asked()), ("ab\r\ncd\r\n", ["dte send 2 0 63640d0a"]))
+        self.comes("dte cleared ch=2 cause=0 diag=0")
+        self.assertEqual(self.pad.parameters[13], 0)
+        self.face = Seen()
+        self.pad = x25pad.Pad("dte", "-", {6: 5, 13: 2}, self.face)
+        self.comes("dte restarted cause=0 diag=0", incoming)
+        self.assertEqual((self.pad.parameters[13], self.asked()), (2, ["dte accept 2"]))
+
+    def test_what_people_type_at_other_terminals(self):
+        self.begin()
+        for typed, said in (
+            ("exit", "ERR  'exit' is no command: QUIT ends"),
+            ("call 4567", "ERR  'call 4567' is no command: an address alone calls, as 4567"),
+            ("disconnect", "ERR  'disconnect' is no command: CLR clears the call"),
+            ("?", x25pad.HELP.replace("\n", "\r\n")),
+        ):
+            with self.subTest(typed):
+                self.seen()
+                self.types(f"{typed}\r")
+                self.assertEqual(self.seen(), f"{typed}\r\n{said}\r\n*")
 
     def test_what_is_no_command(self):
         self.begin()
@@ -378,7 +424,85 @@ class Two(ToolCase):
                 self.assertEqual((caller.stdout.read(), caller.wait(60)), ("Welcome\nto all\n", 0))
                 self.assertEqual((host.stdout.read(), host.wait(60)), ("hello\nhost", 0))
                 self.assertEqual(re.findall("^[A-Z0-9].*", caller.stderr.read(), re.MULTILINE), ["COM", "CLR CONF"])
-                self.assertIn(f"4567 COM\n# {sizes}reverse charging and fast select without restriction, closed user group selection 07\nCLR DTE C:0 D:0\n", host.stderr.read())
+                asked = "reverse charging and fast select without restriction"
+                asked += ", closed user group selection 07"
+                told = f"4567 COM\n# user data: {124 * 'h'!r}\n# {sizes}{asked}\nCLR DTE C:0 D:0\n"
+                self.assertIn(told, host.stderr.read())
+
+    def test_a_command_for_each_call(self):
+        """Two at once: each has its own, who calls and the user data; lines end as a PAD has
+        them."""
+        command = (
+            'echo "$X25_CALLING to $X25_CALLED: $X25_DATA"; while read a; do echo "<$a>"; done'
+        )
+        words = "--channels", "2", "--stay", "--serve", command
+        host, port = self.host(*words, line="--xot-listen")
+        callers = [
+            self.begin("dte", "--xot", f"127.0.0.1:{port}", "--address", it, "--quiet", "9")
+            for it in "45"
+        ]
+        for caller in callers:
+            caller.stdin.write("123 D hi\none\n")
+            caller.stdin.flush()
+        for caller, who in zip(callers, "45"):
+            self.assertEqual(caller.stdout.readline(), f"{who} to 123: 6869\n")
+            self.assertEqual(caller.stdout.readline(), "<one>\n")
+        for caller in callers:
+            caller.stdin.write("two\n")
+            caller.stdin.close()
+            self.assertEqual((caller.stdout.read(), caller.wait(60)), ("<two>\n", 0))
+        host.terminate()
+        self.assertEqual(host.wait(60), 143)
+
+    def test_the_end_of_a_command_clears_its_call(self):
+        """All that it has written comes before."""
+        words = "--stay", "--serve", "head -c 20000 /dev/zero | tr '\\0' x; exit 3"
+        host, port = self.host(*words, line="--xot-listen")
+        for _ in range(2):
+            caller = self.begin("dte", "--xot", f"127.0.0.1:{port}", "--quiet", "60")
+            caller.stdin.write("123\n")
+            caller.stdin.close()
+            self.assertEqual((len(caller.stdout.read()), caller.wait(60)), (20_000, 0))
+            self.assertIn("CLR PAD\n", caller.stderr.read())
+
+    def test_the_end_of_a_call_ends_its_command(self):
+        mark = os.path.join(self.folder, "hung")
+        command = f"trap 'echo up > {mark}; exit' HUP; echo there; while :; do sleep 0.1; done"
+        host, port = self.host("--stay", "--serve", command, line="--xot-listen")
+        caller = self.begin("dte", "--xot", f"127.0.0.1:{port}", "--quiet", "0")
+        caller.stdin.write("123\n")
+        caller.stdin.flush()
+        self.assertEqual(caller.stdout.readline(), "there\n")
+        caller.stdin.close()
+        self.assertEqual(caller.wait(60), 0)
+        last = time.monotonic() + 20
+        while not os.path.exists(mark) and time.monotonic() < last:
+            time.sleep(0.05)
+        self.assertEqual(support.read(mark), b"up\n")
+
+    def test_what_is_typed_last_has_its_answer(self):
+        """Though nothing has come for longer than --quiet says."""
+        host, port = self.host("--stay", "--serve", "cat", line="--xot-listen")
+        caller = self.begin("dte", "--xot", f"127.0.0.1:{port}", "--quiet", "3")
+        caller.stdin.write("123\none\n")
+        caller.stdin.flush()
+        self.assertEqual(caller.stdout.readline(), "one\n")
+        time.sleep(3.5)
+        caller.stdin.write("two\n")
+        caller.stdin.close()
+        self.assertEqual((caller.stdout.read(), caller.wait(60)), ("two\n", 0))
+
+    def test_a_bridge_that_dies_is_told(self):
+        host, _ = self.host("--quiet", "60")
+        (bridge,) = [
+            int(it)
+            for it in subprocess.run(
+                ["pgrep", "-P", str(host.pid)], capture_output=True
+            ).stdout.split()
+        ]
+        os.kill(bridge, signal.SIGKILL)
+        self.assertEqual(host.wait(60), 1)
+        self.assertIn("# the bridge was ended: Killed", host.stderr.read())
 
     def test_long_text_is_whole(self):
         host, port = self.host("--quiet", "60")
@@ -457,14 +581,14 @@ class Two(ToolCase):
         self.assertEqual(re.findall("^[A-Z].*", "".join([*told, host.stderr.read()]), re.MULTILINE), ["COM", "INT", "BREAK", "RESET DTE C:0 D:0", "CLR PAD"])
 
     def test_the_session_of_the_manual(self):
-        """What stands in docs/MANUAL.md, against the other end that stands above it."""
-        text = re.sub("^    ", "", support.read("docs/MANUAL.md").decode(), flags=re.MULTILINE)
-        says, words = re.search(r"^printf '(.*)' \| x25pad.py dce --xot-listen 7000 (.*)$", text, re.MULTILINE).groups()
+        """What stands in docs/BRIDGE.md, against the other end that stands above it."""
+        text = re.sub("^    ", "", support.read("docs/BRIDGE.md").decode(), flags=re.MULTILINE)
+        says, words = re.search(r"^printf '(.*)' \| x25 pad dce --xot-listen 7000 (.*)$", text, re.MULTILINE).groups()
         host, port = self.host(*words.split()[1:], line="--xot-listen")
         host.stdin.write(says.replace("\\n", "\n"))
         host.stdin.close()
-        command, *lines = re.search(r"^x25pad.py dte --xot localhost:7000\n(?:.+\n)*", text, re.MULTILINE)[0].replace("7000", port).splitlines()
-        terminal = Terminal([*script(*command.split()), "--x25", support.PROGRAM])
+        command, *lines = re.search(r"^x25 pad dte --xot localhost:7000\n(?:.+\n)*", text, re.MULTILINE)[0].replace("7000", port).splitlines()
+        terminal = Terminal([*script("x25pad.py", *command.split()[2:]), "--x25", support.PROGRAM])
         self.addCleanup(terminal.close)
         shown = ""
         for line in lines:

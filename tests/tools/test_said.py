@@ -1,7 +1,8 @@
 """What README.md, docs/PROOFS.md and docs/PEER.md say: each sentence has a pair in tests/said.txt, and what carries it is there.
 
-A sentence is carried by clauses of a function's contract, by a file of the repository, or lines of it, or `means` what a word does or what comes below, or it
-says what is left `open`. tests/said.py lists them.
+A sentence is carried by clauses of a function's contract, by a file of the repository, or lines of it,
+or `means` what a word does or what comes below, or it says what is left `open`. What a clause of a law
+asks before it holds stands in the second part of said.txt. tests/said.py lists them.
 """
 
 import os
@@ -48,6 +49,11 @@ class Said(unittest.TestCase):
                         self.assertTrue(os.path.isfile(os.path.join(support.ROOT, path)), "no such file")
                         self.assertEqual({*filter(None, names.split(", "))} - {*said.text_of(path).splitlines()}, set())
         self.assertGreater(count, 120)
+
+    def test_the_premises_are_those_of_the_definitions(self):
+        """Where a law asks for more or for less, the sentences that it carries have to be read again."""
+        _, _, stored = said.text_of("tests/said.txt").partition("\n# Premises\n")
+        self.assertEqual(stored, said.table(), "python3 tests/said.py --premises writes them")
 
     def test_each_rule_of_a_peer_names_its_definitions(self):
         """Each stands in a file that carries the rule, and beside these is a wrong definition that drops it."""

@@ -81,9 +81,14 @@ class Judged(ToolCase):
         it = soak.Round.__new__(soak.Round)
         it.channels, it.lose, it.stats, it.counts, it._ways, it._guest = 4, 0, "", soak.Counter(calls=1), soak.Ways(), "the kernel"
         it.unasked = [(1100.0, "dce fault ch=2 diag=27"), (1100.0, "dce fault ch=3 diag=27"), (1100.0, "dce linkdown frmr-sent"), (1200.0, "dce fault ch=2 diag=27")]
-        it.judged = lambda: ([(1095.0, "2", "dte: one"), (1096.0, "4", "dte: other")], soak.Counter({("dte", "frames", "all"): 1234}))
+        it._ways.messages = 1
+        covered = soak.Counter({("dte", "frames", "all"): 1234, ("dte", "frames", "judged"): 9})
+        it.judged = lambda: ([(1095.0, "2", "dte: one"), (1096.0, "4", "dte: other")], covered)
         row, (coverage, *lines), is_right = it.row(None)
-        self.assertEqual(coverage, "  judged: of the near end 0 of 0 frames and 0 of 0 packets; of the far end 0 of 1,234 frames and 0 of 0 packets")
+        self.assertEqual(
+            coverage,
+            "  judged: of the near end 0 of 0 frames and 0 of 0 packets; of the far end 9 of 1,234 frames and 0 of 0 packets",
+        )
         self.assertRegex(lines[0], "fault ch=2 .*by judge dte: one$")
         self.assertRegex(lines[1], "fault ch=3 .*no rule is broken there before it$")
         self.assertRegex(lines[2], "linkdown .*by judge dte: other$")
@@ -93,8 +98,12 @@ class Judged(ToolCase):
         self.assertEqual(([coverage, *lines], is_right), it.row(None)[1:])
         row, lines, is_right = it.row("Wrong: lost")
         self.assertEqual((dict(zip(soak.COLUMNS, row))["wrong"], lines[0], is_right), (1, "  wrong: Wrong: lost", False))
+        it.judged = lambda: ([], soak.Counter({("dte", "frames", "all"): 1234}))
+        self.assertEqual(it.row(None)[1][0], "  wrong: x25 judge judged nothing")
         it.judged = lambda: ([], soak.Counter())
         self.assertEqual(it.row(None)[1][0], "  wrong: x25 judge doesn't say how much it judged")
+        it._ways.messages = 0
+        self.assertEqual(it.row(None)[1][0], "  wrong: no message came back")
         it.counts = soak.Counter()
         row, lines, is_right = it.row(None)
         self.assertEqual((dict(zip(soak.COLUMNS, row))["wrong"], lines[0], is_right), (1, "  wrong: no call was made", False))

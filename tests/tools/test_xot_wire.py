@@ -1,9 +1,11 @@
 """Tests of XOT in bridge.py: what a wire makes of packets without the program, and circuits of bridges with it."""
 
 import contextlib
+import functools
 import io
 import os
 import re
+import resource
 import select
 import shutil
 import socket
@@ -12,18 +14,21 @@ import sys
 import threading
 import time
 import unittest
+from unittest import mock
 
 import samples
 import support
 from support import ToolCase
 from program import find_library
 
-from x25tools import wires, x25lines, xot_wire
+from x25tools import waiting, wires, x25lines, xot_wire
 
 CALL = bytes.fromhex("10010b431234567000c0ffee")
 IN_FULL = bytes.fromhex("10010b431234567006420707430202c0ffee")
 ACCEPT = bytes.fromhex("10010f0006420707430202")
 SECONDS = 120
+# More than `select` can wait for; 4,095 are as many as there may be.
+CIRCUITS = int(os.environ.get("X25_CIRCUITS", "1100"))
 LIBRARY = find_library("so")
 
 
@@ -92,6 +97,37 @@ class Wire(unittest.TestCase):
             f"a connection from {places[1]} is closed: it isn't X.25 over TCP",
         ])
         self.assertEqual(line.recv(100).decode(), f"# {wires.XOT_ALONE}\n")
+
+    def test_more_circuits_than_select_waits_for(self):
+        """Over 1,024 at once, each with its channel, as far as the system allows."""
+        soft, hard = resource.getrlimit(resource.RLIMIT_NOFILE)
+        if hard != resource.RLIM_INFINITY and hard < 2 * CIRCUITS + 100:
+            self.skipTest(f"the system allows {hard} files")
+        resource.setrlimit(resource.RLIMIT_NOFILE, (2 * CIRCUITS + 100, hard))
+        self.addCleanup(resource.setrlimit, resource.RLIMIT_NOFILE, (soft, hard))
+        with contextlib.redirect_stderr(io.StringIO()) as said:
+            channels = range(1, CIRCUITS + 1)
+            wire = xot_wire.Xot("dce", self.notes.append, None, ("127.0.0.1", 0), channels, 0)
+        self.addCleanup(wire.close)
+        ua = bytes.fromhex("0373")
+        list(wire.frames(()))
+        wire.send(ua + x25lines.fcs(ua))
+        port, lines, calls = int(said.getvalue().rpartition(":")[2]), [], 0
+        for number in range(CIRCUITS):
+            line = socket.create_connection(("127.0.0.1", port), timeout=10)
+            self.addCleanup(line.close)
+            line.sendall(samples.xot(CALL))
+            lines.append(line)
+            while calls == number:
+                frames = list(wire.frames(waiting.ready(wire.readers(), wire.writers(), 5)))
+                calls += sum(frame[4:5] == b"\x0b" for frame in frames)
+        self.assertGreater(max(wire.readers()), 1024)
+        self.assertEqual(len(self.notes), CIRCUITS + 1)
+        self.assertIn(f"with a call on channel {CIRCUITS}", self.notes[-1])
+        lines[-1].sendall(samples.xot(bytes.fromhex("1001006869")))
+        frames = list(wire.frames(waiting.ready(wire.readers(), wire.writers(), 5)))
+        channel = bytes([0x10 | CIRCUITS >> 8, CIRCUITS & 0xFF])
+        self.assertEqual([frame[2:-2] for frame in frames], [channel + b"\x00hi"])
 
     def test_a_connection_closes_behind_its_own_confirmation(self):
         self.line.sendall(samples.xot(bytes.fromhex("1001130000")))
@@ -193,6 +229,24 @@ class Circuits(ToolCase):
         self.assertEqual(self.takes(lines[1]), bytes.fromhex("1002130000"))
         lines[1].close()
         self.hears(child, "dce cleardone ch=2")
+
+    def test_files_whose_numbers_are_over_1024(self):
+        """As those of a bridge with so many circuits are."""
+        taken = [os.open(os.devnull, os.O_RDONLY) for _ in range(1030)]
+        try:
+            for number in taken:
+                os.set_inheritable(number, True)
+            with mock.patch(
+                "subprocess.Popen", functools.partial(subprocess.Popen, pass_fds=taken)
+            ):
+                dce, port = self.listening()
+        finally:
+            for number in taken:
+                os.close(number)
+        dce.stdin.write("wait dce incoming\ndce accept 1\n")
+        with socket.create_connection(("127.0.0.1", port), timeout=60) as line:
+            line.sendall(samples.xot(CALL))
+            self.assertEqual(self.takes(line)[2], 0x0F)
 
     def test_more_calls_than_channels(self):
         child, port = self.listening("--channels", "1")
@@ -340,9 +394,10 @@ class Circuits(ToolCase):
         self.assertEqual((listed.returncode, listed.stdout.count(b"\n")), (0, 4))
         for number in range(1, 5):
             trace = support.run("pcap2x25.py", "--connection", str(number), capture).stdout
-            told = subprocess.run([support.PROGRAM, "judge", "--at", "line"], input=trace, capture_output=True, timeout=60)
-            self.assertEqual((told.returncode, re.findall(b".*(?: ! |fault).*", told.stdout)), (0, []))
             self.assertGreater(trace.count(b"\n"), 800)
+            told = support.run("x25dump.py", "--x25", support.PROGRAM, "--judge", "--connection", str(number), capture)
+            self.assertEqual((told.returncode, re.findall(b".*(?: ! |fault).*", told.stdout)), (0, []))
+            self.assertNotIn(b" 0 judged", told.stdout)
 
 
 class Between:

@@ -64,15 +64,14 @@ import argparse
 import contextlib
 import os
 import re
-import select
 import sys
 import time
 from collections import Counter
 from math import ceil
 from typing import IO, TYPE_CHECKING, Union
 
-from x25tools import decoding, piped, wires, x25lines, x25names, xot_wire
-from x25tools.circuits import Circuits
+from x25tools import decoding, piped, waiting, wires, x25lines, x25names, xot_wire
+from x25tools.circuits import Circuits, never_comes
 from x25tools.mishaps import Mishaps
 from x25tools.places import host_and_port, ports, within, xot_host
 from x25tools.users import SLOW, Outlet, Signals, User, Written, kind
@@ -98,7 +97,6 @@ MOST_CHANNELS = 4095
 # The words of the station that are numbers and not times.
 NUMBERS = ("k", "n2", "channels", "incoming", "outgoing", "message")
 OTHER = {">": "<", "<": ">"}
-OTHER_END = {"dte": "dce ", "dce": "dte "}
 CALL, UA, DM = 0x0B, 0x63, 0x0F
 SABME, DISC, P_OR_F = 0x6F, 0x43, 0x10
 # A call, and an acceptance, with the two packet sizes that they may say.
@@ -201,8 +199,7 @@ class Bridge:
         patience = self._patience()
         readers = [*self._signals.readers(), *wire.readers(), *self._user.readers()]
         writers = [*wire.writers(), *(outlet.number for outlet in self._outlets if outlet)]
-        came, room, _ = select.select(readers, writers, [], patience)
-        return {*came, *room}
+        return waiting.ready(readers, writers, patience)
 
     def _patience(self) -> float | None:
         """How long nothing may happen before the bridge itself has to act, in seconds; None where it has nothing to do."""
@@ -233,6 +230,14 @@ class Bridge:
         elif (silence := self._user.silence()) is not None and now >= silence:
             self._user.tell_silence()
 
+    def said(self) -> list[str]:
+        """What is known here of the line, the link and its circuits, a line each."""
+        waiting, awaited = len(self._user.commands), self._user.awaits()
+        said = [] if self._wire.is_there else ["the line isn't there"]
+        said += self._circuits.said()
+        said += [f"commands that wait: {waiting}"] if waiting else []
+        return [*said, f"`wait` waits for {awaited[0]!r}"] if awaited else said
+
     def _command(self) -> str | None:
         """The command that may be asked now."""
         return None if self._is_held_up() else self._user.command()
@@ -247,8 +252,8 @@ class Bridge:
         text, since = self._user.awaits() or ("", 0)
         if not text:
             return ""
-        if text.startswith(OTHER_END[self._end]):
-            return f"notices of this end begin with `{self._end} `"
+        if why := never_comes(text, self._end):
+            return why
         is_over = self._options.wait is not None and time.monotonic() >= since + self._options.wait
         return self._circuits.cannot_come(text) or (f"it hasn't come in {self._options.wait:g} seconds" if is_over else "")
 
@@ -530,7 +535,7 @@ def add_line_words(parser: argparse.ArgumentParser) -> None:
 
 def words() -> argparse.Namespace:
     """The words after the script's name."""
-    parser = argparse.ArgumentParser(description=__doc__, formatter_class=argparse.RawDescriptionHelpFormatter)
+    parser = x25lines.parser(__doc__)
     add_station_words(parser)
     add_line_words(parser)
     parser.add_argument("--library", metavar="PATH", help="a libx25.so, in place of the program")
@@ -569,6 +574,7 @@ def joined(options: argparse.Namespace, note: wires.Note) -> wires.Wire:
         return wires.Ethernet(note, options.ethernet)
     if options.stdio:
         return wires.Standard(end, note)
+    waiting.make_room(options.channels)
     return xot_wire.Xot(end, note, options.xot, options.xot_listen, called_on(options), t3)
 
 
@@ -630,7 +636,7 @@ def main() -> int:
         files.callback(wire.close)
         bridge = Bridge(station, wire, user, options, trace, signals)
         if console:
-            console.begin(wire)
+            console.begin(wire, bridge.said)
         try:
             bridge.run()
         finally:

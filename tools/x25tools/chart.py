@@ -6,10 +6,12 @@
     chart.py --svg examples/exchange.trace > exchange.svg
     chart.py --connection 2 capture.pcapng
 
-Reads the lines of `x25 decode`, the lines of a trace, also with a time and a tab before them, comments, which begin with `#`,
-and the lines of `x25 sim --tap`. Frames in hexadecimal digits are given to `x25 decode --wide`. Of a capture, which is read as
-pcap2x25.py reads it, one connection is drawn. A run alone doesn't say which of its frames was lost: with --script the run is made
-here from its script, by `x25 sim --tap`, and what the script loses or damages is marked.
+Reads the lines of `x25 decode`, the lines of a trace, also with a time before them, comments,
+which begin with `#`, the lines of `x25 sim --tap`, and what x25dump.py shows. Frames in
+hexadecimal digits are given to `x25 decode --wide`. Of a capture, which is read as pcap2x25.py
+reads it, one connection is drawn. A run alone doesn't say which of its frames was lost: with
+--script the run is made here from its script, by `x25 sim --tap`, and what the script loses or
+damages is marked.
 
 The program is the one that --x25 or the variable X25 names, or `x25` of the PATH, or else the one that was built or
 installed with this script, or that of `make look`, which is unproved.
@@ -24,40 +26,58 @@ import itertools
 import sys
 from typing import Iterable, Iterator, TextIO
 
-from x25tools import captures, decoding, drawing, pcap2x25, simruns, x25lines
+from x25tools import captures, decoding, drawing, pcap2x25, simruns, written, x25lines
 from x25tools.drawing import Entry, Frame, Note, Row
 from x25tools.x25lines import BadInput
 
 LEAST_WIDTH, MOST_WIDTH = 40, 400
-DECODING = "--loose", "--wide"
+DECODING = "--wide",
 
 
-def rows(decoder: decoding.Decoder, blocks: Iterable[tuple[int, list[bytes]]]) -> Iterator[list[Row]]:
+def rows(
+    decoder: decoding.Decoder,
+    blocks: Iterable[tuple[int, list[bytes]]],
+    sent_by: str | None = None,
+) -> Iterator[list[Row]]:
     """Yields the rows of the lines of each block, which is given with the number of its first line. Bad input is told after the rows before."""
     for first, lines in blocks:
         found: list[Row] = []
         try:
-            for number, (line, answer) in enumerate(zip(lines, decoding.answers(decoder, lines)), first):
-                if parts := decoding.parted(line, answer):
-                    given, text = parts
-                    time = x25lines.nanoseconds(given)
-                    found.append(Frame(text[0], text[2:], None, given if time is None else x25lines.moment(time)))
-                elif line:
+            given = [written.read(line, sent_by) for line in lines]
+            for number, (line, answer) in enumerate(
+                zip(given, written.answers(decoder, given)), first
+            ):
+                if answer:
+                    time = x25lines.nanoseconds(line.time)
+                    found.append(
+                        Frame(
+                            answer[0],
+                            answer[2:],
+                            None,
+                            line.time if time is None else x25lines.moment(time),
+                        )
+                    )
+                elif line.rest:
                     found.append(row(number, line))
         finally:
             yield found
 
 
-def row(number: int, line: bytes) -> Row:
+def row(number: int, line: written.Line) -> Row:
     """The row that a line makes that holds no frame in digits."""
-    if found := decoding.TEXT_LINE.fullmatch(line):
-        text = found[2].decode()
-        return Frame(text[0], text[2:], None, (found[1] or b"").decode())
-    if found := x25lines.ENTRY_LINE.fullmatch(line):
+    rest = line.rest
+    if line.kind != written.NONE:
+        text = rest.decode()
+        return Frame(text[0], text[2:], None, line.time)
+    if found := x25lines.ENTRY_LINE.fullmatch(rest):
         return Entry(found[1].decode(), found[2].decode())
-    if x25lines.REFUSAL_LINE.fullmatch(line) or x25lines.is_passed_over(line):
-        return Note(line.decode("utf-8", "replace"))
-    raise BadInput(f"line {number} is no line of decode, of a trace or of a run: {x25lines.shown(line)}")
+    if any(
+        it.fullmatch(rest) for it in (x25lines.REFUSAL_LINE, written.DAY, written.NAMED)
+    ) or x25lines.is_passed_over(rest):
+        return Note(rest.decode("utf-8", "replace"))
+    raise BadInput(
+        f"line {number} is no line of decode, of a trace or of a run: {x25lines.shown(rest)}"
+    )
 
 
 def lines_of_capture(converter: pcap2x25.Converter, file: x25lines.Readable, options: argparse.Namespace) -> Iterator[tuple[int, list[bytes]]]:
@@ -93,7 +113,7 @@ def draw(blocks: Iterable[list[Row]], options: argparse.Namespace, out: TextIO) 
 
 def words() -> argparse.Namespace:
     """The words after the script's name, and those for `x25 sim`."""
-    parser = argparse.ArgumentParser(description=__doc__, formatter_class=argparse.RawDescriptionHelpFormatter)
+    parser = x25lines.parser(__doc__)
     x25lines.add_input(parser, "what to draw")
     parser.add_argument("--script", action="store_true", help="the input is a script: run it")
     parser.add_argument("--sim", default="", metavar="WORDS", help="with --script, more words for `x25 sim`, as in --sim '--k 2'")
@@ -119,6 +139,6 @@ def main() -> int:
             draw(rows(decoder, lines_of_capture(converter, file, options)), options, sys.stdout)
             return pcap2x25.tell_of_one(converter, options)
         else:
-            drawn = rows(decoder, x25lines.blocks_of_lines(file))
+            drawn = rows(decoder, x25lines.blocks_of_lines(file), options.sent_by)
         draw(drawn, options, sys.stdout)
     return 0

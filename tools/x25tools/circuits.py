@@ -19,6 +19,12 @@ COMES_IN = {
     "resetdone": (("resetting", "fault"), "nothing is being reset"),
     **dict.fromkeys(("message", "interrupt", "intdone", "confirmed", "wasreset"), (("calling", *OPEN), "no call is up")),
 }
+# The events of all notices.
+EVENTS = frozenset(
+    "accept beside call clear cleardone cleared collided confirmed connect connected diagnostic"
+    " disconnect fault incoming int intdone interrupt linkdown linkup message notready ready"
+    " relink reset resetdone restart restartdone restarted send timeout wasreset".split()
+)
 # What comes of the link that this end sets up.
 OF_THE_LINK = ("linkup", "restarted", "incoming")
 
@@ -81,6 +87,18 @@ class Circuits:
         else:
             self._connects = False
 
+    def said(self) -> list[str]:
+        """What is known of the link and of each circuit, a line each."""
+        if self.is_up:
+            link = "the link is up" + (", and a restart is under way" if self._restarts else "")
+        elif self._has_ended:
+            link = "the link was ended here"
+        else:
+            link = "the link is being set up" if self._connects else "the link is down"
+        held = {channel: ", not ready" for channel in self.not_ready}
+        states = sorted(self._states.items())
+        return [link, *(f"channel {it}: {state}{held.get(it, '')}" for it, state in states)]
+
     def cannot_come(self, text: str) -> str:
         """Why no notice that begins with a text can come any more, while this end asks for nothing; nothing where one can."""
         found = EVENT.match(text)
@@ -95,6 +113,21 @@ class Circuits:
         if event == "restartdone" and not self._restarts:
             return "no restart is under way"
         return "the link didn't come up" if event in OF_THE_LINK and self._has_failed else ""
+
+
+def never_comes(text: str, end: str) -> str:
+    """Why no notice of an end begins with a text, whatever happens; nothing where one may."""
+    if any(sign.startswith(text) or text.startswith(sign) for sign in ("# ", "! ", "? 60")):
+        return ""
+    word, has_more, rest = text.partition(" ")
+    if not has_more and end.startswith(word):
+        return ""
+    if word != end:
+        return f"notices of this end begin with `{end} `"
+    event, is_whole, _ = rest.partition(" ")
+    if event in EVENTS or not is_whole and any(it.startswith(event) for it in EVENTS):
+        return ""
+    return f"no notice tells of {event!r}"
 
 
 def _may_begin(notice: str, text: str) -> bool:

@@ -12,6 +12,7 @@ from x25tools import x25lines
 # By its command the module of a script, and what it does.
 COMMANDS = {
     "dump": ("x25dump", "shows or judges a capture or a trace"),
+    "report": ("x25report", "makes a page for a browser of a capture or a trace"),
     "convert": ("pcap2x25", "makes lines of a trace of a capture"),
     "pcap": ("x25pcap", "makes a capture of lines"),
     "chart": ("chart", "draws a sequence chart"),

@@ -18,6 +18,7 @@ import threading
 from typing import Callable
 
 from x25tools import tcp, wires, x25names
+from x25tools.circuits import never_comes
 from x25tools.messages import dumped
 from x25tools.users import Outlet, kind
 
@@ -42,6 +43,7 @@ COMMANDS = {
     "restart": ("[cause=N] [diag=N]", "clears all circuits"),
     "pull": ("", "hands down what waits in circuits"),
     "wait": ("TEXT", "holds what is typed after it until a notice begins so"),
+    "status": ("", "shows the link, and the state of each circuit"),
     "help": ("[COMMAND]", "shows this; so does ?"),
     "quit": ("", "ends the link, and this program"),
 }
@@ -104,7 +106,10 @@ def spelled(typed: str, end: str) -> str:
         del words[0]
     if words[0] == "wait" and len(words) > 1:
         text = typed.split(None, 1)[1].strip()
-        return f"wait {text}" if re.match("d[tc]e |[#!?] ", text) else f"wait {end} {text}"
+        text = text if re.match("d[tc]e |[#!?] ", text) else f"{end} {text}"
+        if why := never_comes(text, end):
+            raise Unknown(f"that `wait` would hold for good: {why}")
+        return f"wait {text}"
     return " ".join([end, *command(words)])
 
 
@@ -123,11 +128,25 @@ def command(words: list[str]) -> list[str]:
     least, most = (len(text.split()) for text in (OPTIONAL.sub("", fields), fields))
     if name == "send" and words[3:-1] not in ([], ["d"]) or not least < len(words) <= most + 1 or "cause=N" in fields and not GIVEN.fullmatch(" ".join(words[least + 1 :])):
         raise Unknown(f"it is `{name} {fields}`" if fields else f"`{name}` stands alone")
+    for field, word in zip(fields.split(), words[1:]):
+        if why := misfit(field, word):
+            raise Unknown(f"{word!r} is {why}: it is `{name} {fields}`")
     if name == "call" and len(words) == least + 1:
         words.append("-")
     if "DATA" in fields:
         checked(words[3 if name == "call" else -1])
     return words
+
+
+def misfit(field: str, word: str) -> str:
+    """Why a word can't stand for a field; nothing where it can, or is looked at elsewhere."""
+    if field in ("CALLED", "CALLING"):
+        return "" if re.fullmatch("[0-9]+|-", word) else "no address, digits or - for none"
+    if field == "CHANNEL":
+        return "" if re.fullmatch("[0-9]+", word) else "no channel, a number"
+    if field == "Q":
+        return "" if word in ("0", "1") else "no Q, 0 or 1"
+    return ""
 
 
 def checked(word: str) -> str:
@@ -220,9 +239,10 @@ class Console:
         self.commands, self._writer = os.pipe()
         self._terminal = termios.tcgetattr(0)
 
-    def begin(self, wire: wires.Wire) -> None:
-        """Greets the user, and has him type; of the wire it is told where a command waits for it."""
-        self._wire = wire
+    def begin(self, wire: wires.Wire, said: Callable[[], list[str]]) -> None:
+        """Greets the user, and has him type; of the wire it is told where a command waits for it,
+        and `said` answers what is known of the link and its circuits."""
+        self._wire, self._said = wire, said
         print(greeting(self._options))
         if "readline" in sys.modules:
             # Readline is to know of one row alone, above which notices come.
@@ -252,6 +272,8 @@ class Console:
         try:
             if name in ("help", "?"):
                 print(helped(rest.strip()))
+            elif typed == "status":
+                print("\n".join(self._said()))
             else:
                 os.write(self._writer, f"{spelled(typed, self._end)}\n".encode(errors="surrogateescape"))
                 if not self._wire.is_there:

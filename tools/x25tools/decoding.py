@@ -25,12 +25,10 @@ MISSING_STATION = "a station needs the program x25: build it (make look, make x2
 REFUSED = "? 60"
 # The kinds of frames, in the order of a statistic: those of LAPB modulo 8, and those that `decode --wide` names.
 FRAMES = ("I", "RR", "RNR", "REJ", "SABM", "DISC", "UA", "DM", "FRMR", "SREJ", "SABME", "SARM", "XID", "TEST", "UI", "fault")
-# A line of `decode`, with a time and a tab before it where there is one.
-TEXT_LINE = re.compile(rb"(?:([0-9.]{1,30})\t)?([<>] (?:%b) [ -~]*)" % "|".join(FRAMES).encode())
+# A line of `decode`.
+TEXT_LINE = re.compile(rb"[<>] (?:%b) [ -~]*" % "|".join(FRAMES).encode())
 # Data in such a line that isn't digits of octets: then it is none.
 NO_DIGITS = re.compile(rb" data=(?!(?:-|(?:[0-9a-f]{2})+)(?: |$))")
-# What may stand among the lines of a trace beside frames in digits: a comment, an empty line, and the lines of `decode` and of a run.
-OTHER_LINE = re.compile(b"|".join([rb"(?:#[^\n]*)?", *(line.pattern for line in (TEXT_LINE, x25lines.ENTRY_LINE, x25lines.REFUSAL_LINE))]))
 
 
 # A program that is asked line by line.
@@ -51,9 +49,17 @@ def find_program() -> str | None:
 
 @functools.lru_cache(maxsize=None)
 def say_if_unproved(program: str) -> None:
-    """Says once on standard error that a program is unproved, where it is the one of `make look`."""
-    if os.path.basename(program) == UNPROVED:
-        x25lines.warn(f"{program} is unproved (make x25 proves it)")
+    """Says on standard error that a program is unproved, where it is the one of `make look`: once
+    of each that was built, which a file beside it keeps."""
+    if os.path.basename(program) != UNPROVED:
+        return
+    said = f"{program}.said"
+    with contextlib.suppress(OSError):
+        if os.path.getmtime(said) >= os.path.getmtime(program):
+            return
+    x25lines.warn(f"{program} is unproved (make x25 proves it); this is said once")
+    with contextlib.suppress(OSError), open(said, "w"):
+        pass
 
 
 def add_program(parser: argparse.ArgumentParser) -> None:
@@ -82,20 +88,6 @@ def let_end(child: Child) -> None:
     with contextlib.suppress(BrokenPipeError):
         given.close()
     child.wait()
-
-
-def answers(decoder: Asked, lines: list[bytes]) -> list[str]:
-    """What a decoder with `--loose` answers to some lines, each its octets. Where none of them can be a frame in digits nothing is asked, and each answer
-    is empty."""
-    if all(map(OTHER_LINE.fullmatch, lines)):
-        return [""] * len(lines)
-    return decoder.texts(b"\n".join([*lines, b""]).decode("latin-1"), [None] * len(lines))
-
-
-def parted(line: bytes, answer: str) -> tuple[str, str] | None:
-    """The time, empty where there is none, and the text of the frame that a line has in digits, by the answer to it; None where it has none."""
-    time, _, text = answer.rpartition("\t")
-    return (time, text) if text[:1] in x25lines.OTHER and not x25lines.is_passed_over(line) else None
 
 
 class Decoder:

@@ -10,7 +10,7 @@ import re
 from collections import Counter
 from typing import Iterator, Sequence
 
-from x25tools import decoding, lan, x25lines
+from x25tools import decoding, lan, pvc, x25lines
 from x25tools.pcap2x25 import Connection
 from x25tools.x25lines import OTHER, fcs, is_sealed
 
@@ -34,7 +34,8 @@ IF_LACKING, IF_MISREAD = ", or the capture lacks frames", ", or the frame is mis
 CERTAIN = "no frame of LAPB"
 UNJUDGED = " ~ note: not judged from here on: numbers are modulo 128"
 
-# A line that waits for its answer; whether a frame up to it had the address of its sender, and whether numbers are known to be modulo 8.
+# A line that waits for its answer; whether frames of both directions came up to it, one of them
+# with the address of its sender, and whether numbers are known to be modulo 8.
 Waiting = tuple[str, bool, bool]
 
 COUNTS = re.compile(r"# (dte|dce)(?: channel (\d+))?: (\d+) (?:frames|packets), (\d+) judged, \d+ not judged")
@@ -111,7 +112,7 @@ class Judge:
         """What judges a connection."""
         if not connection.is_made_up:
             return Frames(*self._asked)
-        kind = Circuit if (connection.name or "").startswith("XOT ") else Packets
+        kind = Circuit if connection.is_xot() else Packets
         return kind(*self._asked, connection.is_opened)
 
     def counts(self) -> Iterator[tuple[int, str]]:
@@ -132,8 +133,9 @@ class Frames:
         self._doubts: Counter[str] = Counter()
         # What numbers count by, 0 where it isn't known; and the direction of a SABME that waits for its answer.
         self._modulus, self._asks_128 = 0, ""
-        # Whether a frame had the address of its sender.
+        # Whether a frame had the address of its sender, and the directions of frames.
         self._has_own = False
+        self._directions: set[str] = set()
 
     def _place(self) -> str:
         """Where the capture was made, as the judge is told."""
@@ -157,12 +159,14 @@ class Frames:
                 if self._modulus == 128 or _control(line) == SABME:
                     texts += [*self._answers(waiting), self._read(line) + ("" if was_128 or self._modulus != 128 else UNJUDGED)]
                     continue
-            waiting.append((line, self._has_own, self._modulus == 8 and not self._asks_128))
+            is_read_right = self._has_own and len(self._directions) == 2
+            waiting.append((line, is_read_right, self._modulus == 8 and not self._asks_128))
         return [*texts, *self._answers(waiting)]
 
     def _see(self, line: str) -> None:
         """Sees of a frame what numbers count by: by a set-up or, where one may not be there, by RR, RNR or REJ; and whether it has its sender's address."""
         control, direction = _control(line), line[0]
+        self._directions.add(direction)
         if not self._has_own:
             self._has_own = lan.is_of_dte(_octets(line)) == (direction == ">")
         if control is None or not control & 1 or (control & 3 == 1 and self._modulus and not self._asks_128) or not is_sealed(_octets(line)):
@@ -217,11 +221,11 @@ class Frames:
 
     def _doubt(self, of: Waiting, text: str) -> str:
         """What else may explain what is told, empty where nothing does."""
-        line, has_own, is_8 = of
+        line, is_read_right, is_8 = of
         octets = _octets(line)
         if CERTAIN not in text:
             return "" if is_8 else IF_LACKING
-        if is_sealed(octets[:-2]) or not has_own and lan.is_of_dte(octets) is not None:
+        if is_sealed(octets[:-2]) or not is_read_right and lan.is_of_dte(octets) is not None:
             return IF_MISREAD
         has_more_control = octets[1] & 3 == 1 and OCTETS_OF_READY.get(len(octets)) == 128
         return IF_LACKING if has_more_control and self._at == "either" else ""
@@ -280,7 +284,7 @@ class Packets(Frames):
         return packet
 
     def _see(self, _: str) -> None:
-        self._modulus, self._has_own = 8, True
+        self._modulus, self._has_own, self._directions = 8, True, set(OTHER)
 
     def _counted(self, end: str, channel: str | None, seen: int, judged: int) -> Iterator[str]:
         before = self._heard_before if channel == "0" else 0
@@ -297,6 +301,13 @@ class Circuit(Packets):
         self._renamed: dict[str, tuple[int, int]] = {}
         super().__init__(program, words, reading, at, is_opened)
 
+    def _heard(self, line: str) -> list[str]:
+        """Of what sets up a permanent circuit a gap: nothing is known of its channel after it."""
+        if not pvc.sets_up(line):
+            return super()._heard(line)
+        self._next[line[0]] = (self._next[line[0]] + 1) % 8
+        return super()._heard(f"{line[0]} {x25lines.GAP}")
+
     def _packet(self, direction: str, packet: bytes) -> bytes:
         if len(packet) < 2:
             return packet
@@ -308,7 +319,7 @@ class Circuit(Packets):
         return packet if channel != own else bytes([packet[0] & 0xF0 | judged_by >> 8, judged_by & 0xFF]) + packet[2:]
 
     def _said(self, of: Waiting, text: str) -> str:
-        text = super()._said(of, text)
+        text = pvc.text(of[0]) or super()._said(of, text)
         if of[0][0] not in self._renamed:
             return text
         own, judged_by = self._renamed[of[0][0]]

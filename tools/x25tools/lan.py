@@ -7,8 +7,9 @@ by Ethernet type 6000 and to all stations. LLC (ISO 8802-2) carries the packets 
 from __future__ import annotations
 
 from collections import Counter
-from typing import Iterator
+from typing import Iterator, NamedTuple, Optional, Tuple
 
+from x25tools.early import Early
 from x25tools.x25lines import MOST_OCTETS, fcs
 
 ETHERNET, LINUX_COOKED, LINUX_COOKED_2 = 1, 113, 276
@@ -101,50 +102,117 @@ class Lapbether:
         return " ".join(["lapbether", *map(address, self._stations[:2])])
 
 
+class LlcFrame(NamedTuple):
+    """A frame of LLC: its time, its stations (the receiver empty where it isn't captured), its
+    octets, and whether they are a part of it alone."""
+
+    time: int
+    source: bytes
+    target: bytes
+    octets: bytes
+    is_cut: bool
+
+    def pair(self) -> frozenset[bytes]:
+        """Both stations; cooked captures don't tell who receives: all of LLC is one connection
+        there."""
+        return frozenset((self.source, self.target) if self.target else (b"",))
+
+    def numbers(self) -> tuple[int | None, int | None]:
+        """N(S) of an I frame, and N(R) of that and of RR, RNR and REJ; None where it has none."""
+        if len(self.octets) < 4 or self.octets[2] & 3 == 3:
+            return None, None
+        return None if self.octets[2] & 1 else self.octets[2] >> 1, self.octets[3] >> 1
+
+
+# The time of a frame, the name of its connection, whether the DTE sent it, and the packet; None in
+# its place is a gap.
+LlcPacket = Tuple[int, str, bool, Optional[bytes]]
+
+
 class Llc:
-    """The connections of LLC's service access point 7e, each between two stations; the one that is seen first is the DTE."""
+    """The connections of LLC's service access point 7e, each between two stations; the one that is
+    seen first is the DTE. A frame that stands before what it acknowledges waits for that."""
 
     def __init__(self, dte: bytes | None, notes: Counter[str]) -> None:
         self._dte = dte
         self._dtes: dict[frozenset[bytes], bytes] = {}
+        # The N(S) that is due of a station.
         self._next: dict[tuple[frozenset[bytes], bytes], int] = {}
+        self._early = Early(self._is_early, self._read)
         self._notes = notes
 
-    def take(self, source: bytes, target: bytes, llc: bytes, is_cut: bool) -> Iterator[tuple[str, bool, bytes | None]]:
-        """Yields the connection's name, whether the DTE sent it, and the packet, of a frame of LLC that brings one; None in its place is a gap."""
-        if len(llc) < 3 or llc[0] != X25_ACCESS_POINT or llc[1] & 0xFE != X25_ACCESS_POINT:
-            return
-        # Cooked captures don't tell who receives: all of LLC is one connection there.
-        pair = frozenset((source, target) if target else (b"",))
-        said = self._dte if self._dte in pair or not target else None
-        dte = self._dtes.setdefault(pair, said or source)
-        packets: list[bytes | None] = []
-        if llc[2] & 3 == 3:
-            self._begin(pair, llc[2])
-            packets = [llc[3:]] if llc[2] & 0xEF == 0x03 else []
-        elif not llc[2] & 1:
-            ahead = self._ahead(pair, source, llc[2] >> 1)
-            packets = ([None] if ahead else []) + [llc[4:]] if ahead is not None else []
+    def take(self, frame: LlcFrame) -> list[LlcPacket]:
+        """Answers the packets of the frames that are read now."""
+        octets = frame.octets
+        if (
+            len(octets) < 3
+            or octets[0] != X25_ACCESS_POINT
+            or octets[1] & 0xFE != X25_ACCESS_POINT
+        ):
+            return []
+        pair = frame.pair()
+        said = self._dte if self._dte in pair or not frame.target else None
+        self._dtes.setdefault(pair, said or frame.source)
+        return self._early.take(pair, frame)
+
+    def end(self) -> list[LlcPacket]:
+        """Answers the packets of the frames that wait."""
+        return self._early.end()
+
+    def _is_early(self, frame: LlcFrame) -> bool:
+        """Whether a frame acknowledges what hasn't come."""
+        number = frame.numbers()[1]
+        return (
+            number is not None
+            and frame.target != b""
+            and bool(self._ahead(frame.pair(), frame.target, number))
+        )
+
+    def _read(self, frame: LlcFrame) -> list[LlcPacket]:
+        """The packets of a frame, and where it shows that some are missing, a gap."""
+        pair, octets = frame.pair(), frame.octets
+        sent, wanted = frame.numbers()
+        found: list[tuple[bytes, bytes | None]] = []
+        if octets[2] & 3 == 3:
+            self._begin(pair, octets[2])
+            if octets[2] & 0xEF == 0x03:
+                found.append((frame.source, octets[3:]))
+        if wanted is not None and frame.target:
+            found += self._gap(pair, frame.target, wanted)
+        if sent is not None and self._ahead(pair, frame.source, sent) is not None:
+            found += [*self._gap(pair, frame.source, sent), (frame.source, octets[4:])]
+            self._next[pair, frame.source] = (sent + 1) % NUMBERS
+        dte = self._dtes[pair]
         names = [address(dte), *(address(other) for other in pair - {dte} if other)]
-        for packet in packets:
-            if packet and is_cut:
+        packets: list[LlcPacket] = []
+        for source, packet in found:
+            if packet and frame.is_cut:
                 self._notes["packet that was captured in part"] += 1
                 packet = None
             if packet != b"":
-                yield "LLC " + " > ".join(names), source == dte, packet
+                packets.append((frame.time, "LLC " + " > ".join(names), source == dte, packet))
+        return packets
 
     def _begin(self, pair: frozenset[bytes], control: int) -> None:
-        """Forgets the numbers of a connection that begins anew, by SABME."""
+        """The numbers of a connection begin anew, by SABME."""
         if control & 0xEF == 0x6F:
-            for ends in [ends for ends in self._next if ends[0] == pair]:
-                del self._next[ends]
+            self._next.update({(pair, station): 0 for station in pair})
+
+    def _gap(
+        self, pair: frozenset[bytes], source: bytes, number: int
+    ) -> list[tuple[bytes, bytes | None]]:
+        """A gap of a station, where its I frame of this number comes next and others are due
+        before it."""
+        ahead = self._ahead(pair, source, number)
+        if ahead is not None:
+            self._next[pair, source] = number
+        if not ahead:
+            return []
+        self._notes["gap in a connection of LLC"] += 1
+        return [(source, None)]
 
     def _ahead(self, pair: frozenset[bytes], source: bytes, number: int) -> int | None:
-        """How many I frames of LLC are missing before this one; None where it came before, since half of the numbers are behind the next one."""
+        """How many I frames of a station are missing before the one of a number; None where it
+        came before, as half of the numbers lie before the next one."""
         ahead = (number - self._next.get((pair, source), number)) % NUMBERS
-        if ahead >= NUMBERS // 2:
-            return None
-        if ahead:
-            self._notes["gap in a connection of LLC"] += 1
-        self._next[pair, source] = (number + 1) % NUMBERS
-        return ahead
+        return None if ahead >= NUMBERS // 2 else ahead

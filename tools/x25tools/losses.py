@@ -153,7 +153,7 @@ class Script:
 
 def words() -> argparse.Namespace:
     """The words after the script's name."""
-    parser = argparse.ArgumentParser(description=__doc__, formatter_class=argparse.RawDescriptionHelpFormatter)
+    parser = x25lines.parser(__doc__)
     parser.add_argument("seed", metavar="SEED", type=within(int, 0, 2**64 - 1), help="a whole number that the random ones come from")
     parser.add_argument("lines", metavar="LINES", type=within(int, 0, 10**9), help="how many lines to write")
     parser.add_argument("--loss", metavar="P", type=within(float, 0, 1), default=0.05, help="lines that lose a frame (0.05)")

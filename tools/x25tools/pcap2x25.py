@@ -49,6 +49,9 @@ LAPB_WITH_DIRECTION, SITA = 207, 196
 SITA_HEADER, SITA_RECEIVED, SITA_NO_PROTOCOL, SITA_LAPB = 5, 1, 0, 1
 # Commands of the DTE and responses of the DCE have the address B.
 ADDRESS = {">": 0x01, "<": 0x03}
+# What lies between frames on a line; and the address of a frame whose bits stand in the other
+# order.
+FLAG, REVERSED = b"\x7e", (b"\x80", b"\xc0")
 # These are the octets of a frame of which nothing is known.
 UNREAD = b""
 SHORT = "record that is shorter than its header"
@@ -75,6 +78,10 @@ class Connection:
     def __hash__(self) -> int:
         return self.number
 
+    def is_xot(self) -> bool:
+        """Whether it is one of XOT."""
+        return self.is_made_up and (self.name or "").startswith("XOT ")
+
     def row(self) -> str:
         """The line of a list of connections."""
         return f"{self.number}\t{self.name}\t> {self.sent['>']}\t< {self.sent['<']}"
@@ -91,12 +98,17 @@ class Doubts:
     def __init__(self) -> None:
         self._frames: Counter[object] = Counter()
         self._seen = 0
+        # Whether frames are of the DTE, as they are read.
+        self._directions: set[bool] = set()
 
     def see(self, is_of_dte: bool, octets: bytes, has_fcs: bool) -> None:
         """Takes a frame that is read as the DTE's or not, with or without its frame check sequence."""
         if self.are_enough():
             return
         self._seen += 1
+        self._directions.add(is_of_dte)
+        self._frames["flagged" if octets[:1] == octets[-1:] == FLAG else "without flags"] += 1
+        self._frames["reversed" if octets[:1] in REVERSED else "straight"] += 1
         is_sealed = x25lines.is_sealed(octets)
         self._frames["sealed" if is_sealed else "unsealed", has_fcs] += 1
         by_address = lan.is_of_dte(octets) if is_sealed or not has_fcs else None
@@ -108,6 +120,15 @@ class Doubts:
 
     def said(self) -> Iterator[str]:
         """Yields what is said of them at the end."""
+        if self._frames["flagged"] and not self._frames["without flags"]:
+            yield "each frame stands between flags (7e), which aren't part of it: leave them out"
+            return
+        if self._frames["reversed"] and not self._frames["straight"]:
+            yield "each frame begins with 80 or c0: bits of octets stand in the other order"
+            return
+        if len(self._directions) == 1 and 0 < self._frames["own"] <= 4 * self._frames["other"]:
+            end = "DTE" if True in self._directions else "DCE"
+            yield f"all frames are marked as the {end}'s, and their addresses are of both ends"
         if self._frames["other"] and not self._frames["own"]:
             yield "no frame has its sender's address: --swap exchanges the directions"
         if self._frames["sealed", False] and not self._frames["unsealed", False]:
@@ -139,8 +160,9 @@ class Converter:
         if options.lapb is not None:
             self._readers[options.lapb] = self._bare
         self._connections: dict[str, Connection] = {}
-        # Those of which something wasn't captured before the first packet.
-        self._late: set[str] = set()
+        # Of those of which something wasn't captured before the first packet: whether that was the
+        # DTE's.
+        self._late: dict[str, set[bool]] = {}
         self.notes: Counter[str] = Counter()
         self.passed: Counter[str] = Counter()
         self._doubts = Doubts()
@@ -171,6 +193,7 @@ class Converter:
                 yield self._found
         self._found = [], [], []
         self._add_streams(self._xot.end())
+        self._add_llc(self._llc.end())
         yield self._found
 
     def _other(self, link_type: int, *_: object) -> None:
@@ -179,7 +202,7 @@ class Converter:
 
     def _ip(self, link_type: int, octets: bytes, *_: object) -> None:
         """Packets of IP, with or without a header of their own: XOT."""
-        self._add_streams(self._xot.take(octets[ip.AT[link_type] :]))
+        self._add_streams(self._xot.take(octets[ip.AT[link_type] :], self._now))
 
     def _lan(self, link_type: int, octets: bytes, is_cut: bool, *_: object) -> None:
         """Ethernet and cooked captures: frames of lapbether, packets of LLC and of XOT."""
@@ -189,13 +212,12 @@ class Converter:
             return
         kind, source, target, octets = carried(octets)
         if kind in (lan.TYPE_IPV4, lan.TYPE_IPV6):
-            self._add_streams(self._xot.take(octets))
+            self._add_streams(self._xot.take(octets, self._now))
         elif kind == lan.LAPBETHER:
             for is_of_dte, frame in self._lapbether.take(source, octets, is_cut):
                 self._add("lapbether", self._lapbether.name(), is_of_dte, frame)
         elif kind == lan.COOKED_LLC and octets[:1] == bytes([lan.X25_ACCESS_POINT]):
-            for name, is_of_dte, packet in self._llc.take(source, target, octets, is_cut):
-                self._add_packet(name, name, is_of_dte, packet, False)
+            self._add_llc(self._llc.take(lan.LlcFrame(self._now, source, target, octets, is_cut)))
         else:
             self.passed["frame of LLC with another access point" if kind == lan.COOKED_LLC else f"frame of the type {kind:04x}"] += 1
 
@@ -246,11 +268,21 @@ class Converter:
             octets = UNREAD
         self._add("LAPB", "LAPB", is_of_dte, octets)
 
-    def _add_streams(self, streams: Iterable[tuple[xot.Stream, list[bytes | None]]]) -> None:
-        """Adds the packets that came by streams of XOT."""
-        for stream, packets in streams:
+    def _add_streams(self, streams: Iterable[xot.Found]) -> None:
+        """Adds the packets that came by streams of XOT, each with the time of its segment."""
+        now = self._now
+        for time, stream, packets in streams:
+            self._now = now if time is None else time
             for packet in packets:
                 self._add_packet(f"{stream.name} {stream.opened}", stream.name, stream.is_of_dte, packet, stream.opened is not None)
+        self._now = now
+
+    def _add_llc(self, packets: Iterable[lan.LlcPacket]) -> None:
+        """Adds the packets that came by LLC, each with the time of its frame."""
+        now = self._now
+        for self._now, name, is_of_dte, packet in packets:
+            self._add_packet(name, name, is_of_dte, packet, False)
+        self._now = now
 
     def _add_gaps(self, note: str, count: int) -> None:
         """So many frames aren't there, of whichever connections; the numbers of TCP and LLC show where theirs are missing."""
@@ -266,7 +298,7 @@ class Converter:
             self.notes["packet that is longer than a frame may be"] += 1
             packet = None
         if packet is None and key not in self._connections:
-            self._late.add(key)
+            self._late.setdefault(key, set()).add(is_of_dte)
         self._add(key, name, is_of_dte, packet, True, is_opened and key not in self._late)
 
     def _add(self, key: str, name: str, is_of_dte: bool, octets: bytes | None, is_made_up: bool = False, is_opened: bool = False) -> None:
@@ -278,7 +310,9 @@ class Converter:
             if connection is not None:
                 self._add_line(connection, f"{direction} {x25lines.GAP}\n")
             return
-        connection = connection or self._begun(key, name, is_made_up, is_opened)
+        if connection is None and (connection := self._begun(key, name, is_made_up, is_opened)):
+            for late in sorted(self._late.get(key, ())):
+                self._add(key, name, late, None)
         if connection is not None:
             connection.name = name
             if is_made_up:
@@ -341,7 +375,7 @@ def add_capture_words(parser: argparse.ArgumentParser) -> None:
 
 def words() -> argparse.Namespace:
     """The words after the script's name."""
-    parser = argparse.ArgumentParser(description=__doc__, formatter_class=argparse.RawDescriptionHelpFormatter)
+    parser = x25lines.parser(__doc__)
     x25lines.add_input(parser, "the capture")
     parser.add_argument("--time", action="store_true", help="begin each line with the time in seconds and a tab")
     parser.add_argument("--list", action="store_true", help="write no frames but the connections: number, name, frames or packets each way")

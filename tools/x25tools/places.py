@@ -30,6 +30,8 @@ def host(text: str) -> str:
 def host_and_port(text: str) -> tuple[str, int]:
     """A word HOST:PORT, or PORT of this host."""
     name, _, number = text.rpartition(":")
+    if not name and not re.fullmatch(r"[0-9]+", number):
+        raise argparse.ArgumentTypeError(f"{text!r} is neither HOST:PORT nor a port of this host")
     return host(name) if name else "127.0.0.1", port(number)
 
 

@@ -1,4 +1,5 @@
-"""Connections over TCP in a loop around `select`: the ends of one that are names and ports, those that listen, what goes and comes."""
+"""Connections over TCP in a loop around `waiting.ready`: the ends of one that are names and ports,
+those that listen, what goes and comes."""
 
 from __future__ import annotations
 

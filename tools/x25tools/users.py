@@ -4,14 +4,13 @@ from __future__ import annotations
 
 import os
 import re
-import select
 import signal
 import socket
 import time
 from collections import Counter, deque
 from typing import Callable, Container, Iterable, Protocol
 
-from x25tools import x25lines
+from x25tools import waiting, x25lines
 from x25tools.tcp import MOST_READ
 from x25tools.wires import ROOM
 from x25tools.x25lines import BadInput
@@ -73,7 +72,7 @@ class Outlet:
 
     def flush(self) -> None:
         """Writes what there is room for, without waiting."""
-        while self._left and select.select([], [self.number], [], 0)[1]:
+        while self._left and waiting.ready([], [self.number], 0):
             try:
                 del self._left[: os.write(self.number, self._left[:ROOM])]
             except BlockingIOError:
@@ -85,7 +84,7 @@ class Outlet:
 
     def end(self) -> None:
         """Writes what is left, as long as the reader goes on."""
-        while self._left and select.select([], [self.number], [], PATIENCE)[1]:
+        while self._left and waiting.ready([], [self.number], PATIENCE):
             self.flush()
 
 

@@ -1,9 +1,11 @@
 """What carries a bridge's frames to the other end: lines of a trace over a stream of octets, or frames of lapbether.
 
-A wire stands in a loop around `select`. `readers` and `writers` are the numbers of the files that it waits for, and `due` is when it
-wants a turn without them. `frames` is its turn: it writes what there is room for, and yields the octets of each frame that came, with
-its frame check sequence; it raises `Ended` where the wire has ended for good. `send` takes a frame that goes out: while the wire isn't
-there (`is_there`) it is lost, as on any line. What becomes of the wire is told by `note`, a function that the wire is given.
+A wire stands in a loop around `waiting.ready`. `readers` and `writers` are the numbers of the
+files that it waits for, and `due` is when it wants a turn without them. `frames` is its turn: it
+writes what there is room for, and yields the octets of each frame that came, with its frame check
+sequence; it raises `Ended` where the wire has ended for good. `send` takes a frame that goes out:
+while the wire isn't there (`is_there`) it is lost, as on any line. What becomes of the wire is
+told by `note`, a function that the wire is given.
 """
 
 from __future__ import annotations
@@ -22,7 +24,7 @@ from x25tools import lan, tcp, x25lines
 from x25tools.tcp import MOST_READ
 from x25tools.x25lines import BadInput
 
-# What `select` finds room for in a pipe: a write of this many octets doesn't block.
+# What a pipe has room for where it is ready: a write of this many octets doesn't block.
 ROOM = select.PIPE_BUF
 BROADCAST = b"\xff" * 6
 # The shortest frame of Ethernet, without its frame check sequence.

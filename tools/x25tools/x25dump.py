@@ -5,12 +5,15 @@
     tail -f trace | x25dump.py --channel 1
     x25 sim --tap < script | x25dump.py --messages
 
-Reads captures, as pcap2x25.py does (its --help has the link types and the words --swap to --dte), the lines of a trace (--swap
-and --no-fcs are for these too), also with a time and a tab before them, the lines of `x25 decode`, and those of
-`x25 sim --tap`; each also packed by gzip. Empty lines and comments, which begin with `#`, are shown as they are; a line that is none of
-these is answered by `? 60`, as `decode` does. Of a capture all connections are shown, each but the first with its number before
-the direction, and named where it begins; --connection takes one of them. Frames that were made up around packets aren't shown,
-their packets are.
+Reads captures, as pcap2x25.py does (its --help has the link types and the words --swap to --dte),
+the lines of a trace (--swap and --no-fcs are for these too, and --from for those without a
+direction), the lines of `x25 decode`, those of `x25 sim --tap`, and what it writes itself but for
+--messages and --stats; each also packed by gzip. A time may stand before a line, in seconds or
+that of the day, as 10:11:12.5, and blanks between octets. Empty lines and comments, which begin
+with `#`, are shown as they are; a line that is none of these is answered by `? 60`, as `decode`
+does. Of a capture all connections are shown, each but the first with its number before the
+direction, and named where it begins; --connection takes one of them. Frames that were made up
+around packets aren't shown, their packets are.
 
   --messages  shows what the ends' users sent: data packets joined by M, and interrupts, as hexadecimal digits and text. Each
               comes once, though its frame be repeated; where frames are missing those that are begun are broken off
@@ -28,10 +31,14 @@ their packets are.
               trace are all that was on the line, where nothing is said
   --strict, --manners
               make the status 1 too where a frame or a packet wasn't judged, or where manners were broken
-  --channel   shows the packets of a channel alone; 0 is that of RESTART. With --stats it counts them
-  --epoch     shows times as they are in a capture, in seconds, and not as the time of the day, with the date where it changes
-  --fold      shows of data over 32 octets the first 24 and how many there are, as on a terminal; --whole shows all there too
-  --no-wide   reads as `x25 decode` does, which has `fault` for packets in another form than a station writes
+  --told      judges too, and shows alone the frames of which a rule or manners are told, and how
+  much was judged --json      writes each frame as an object of JSON in a line, with the fields of
+  frame and packet and what is told; times in seconds --channel   shows the packets of a channel
+  alone; 0 is that of RESTART. With --stats it counts them --epoch     shows times as they are in a
+  capture, in seconds, and not as the time of the day, with the date where it changes --fold
+  shows of data over 32 octets the first 24 and how many there are, as on a terminal; --whole shows
+  all there too --no-wide   reads as `x25 decode` does, which has `fault` for packets in another
+  form than a station writes
 
 The program is the one that --x25 or the variable X25 names, or `x25` of the PATH, or else the one that was built or installed
 with this script, or that of `make look`, which is unproved. Colours are for a terminal alone, and not where the variable
@@ -46,15 +53,26 @@ from __future__ import annotations
 import argparse
 import functools
 import itertools
+import json
 import operator
 import os
 import re
 import sys
 import zlib
 from collections import Counter, defaultdict
-from typing import Callable, Iterable, Iterator, TextIO
+from typing import Callable, Iterable, Iterator, TextIO, Union
 
-from x25tools import captures, decoding, judging, pcap2x25, x25lines, x25names
+from x25tools import (
+    captures,
+    decoding,
+    fields,
+    judging,
+    pcap2x25,
+    pvc,
+    written,
+    x25lines,
+    x25names,
+)
 from x25tools.ahead import ahead
 from x25tools.messages import KEPT, Message, Messages, all_dumped
 from x25tools.pcap2x25 import Connection
@@ -73,8 +91,13 @@ PACKET_AT = len("> I cmd P=0 S=0 R=0 | ")
 # What stands before what is told of a frame, or noted.
 RULES, NOTES = (judging.RULE, judging.IN_DOUBT[judging.RULE]), (judging.IN_DOUBT[judging.MANNERS], " ~ ")
 # Texts without any of these are shown as they are. Others may be refusals or gaps, or have rules, notes, or numbers that x25names has words for:
-# `diag=`, `why=`, and `fac=`, which stands after `calling=` or in an ACCEPT.
-SIGNS = *"!?~gyE", x25lines.GAP
+# `diag=`, `why=`, and `fac=`, which stands after `calling=` or in an ACCEPT; or name what sets up
+# a permanent circuit.
+SIGNS = *"!?~gyEV", x25lines.GAP
+# What the program answers to a packet whose type it doesn't know.
+UNIDENTIFIABLE = "| fault 22 "
+# Lines that a judge is given.
+DIGITS = written.FRAME, written.GAP
 # Something to show: see `Reader`; and what puts a text into a colour.
 Thing = tuple[str, Connection, str]
 Paint = Callable[[str, str], str]
@@ -100,6 +123,11 @@ class Reader:
         # With --judge: the directions of the frames in digits that there were, and how many lines of `x25 decode`.
         self._directions: set[str] = set()
         self._texts_seen = 0
+        # Of lines: those without a direction, the last date, and the connections, by number and
+        # whether they have packets alone, with their names.
+        self._bare_seen, self._day, self._has_frames = 0, "", False
+        self._connections: dict[tuple[int, bool], Connection] = {}
+        self._names: dict[int, str] = {}
 
     def shown(self, file: x25lines.Readable) -> Iterator[list[Thing]]:
         """Whatever the file holds."""
@@ -119,7 +147,11 @@ class Reader:
                 self.status = max(self.status, found)
                 continue
             connections, times, asked = found
-            yield list(zip(map(self._time, times), connections, self._decoder.texts(asked, connections)))
+            texts = self._decoder.texts(asked, connections)
+            for place, text in enumerate(texts):
+                if UNIDENTIFIABLE in text and connections[place].is_xot():
+                    texts[place] = pvc.text(asked.splitlines()[place]) or text
+            yield list(zip(map(self._time, times), connections, texts))
 
     def _found(self, file: x25lines.Readable) -> Iterator[tuple[list[Connection], list[int], str] | int]:
         """Yields the connections, the times and the text of the lines of the frames of a capture, in blocks, and at the end the status."""
@@ -138,21 +170,25 @@ class Reader:
         yield converter.tell()
 
     def _lines(self, file: x25lines.Readable) -> Iterator[list[Thing]]:
-        trace, doubts, is_empty, has_found = pcap2x25.Connection(1, None, False), pcap2x25.Doubts(), not file.peek(1), False
-        with decoding.Decoder(self._options.x25, ["--loose", *reading(self._options)]) as decoder:
+        doubts, is_empty, has_found = pcap2x25.Doubts(), not file.peek(1), False
+        with decoding.Decoder(self._options.x25, reading(self._options)) as decoder:
             for _, lines in x25lines.blocks_of_lines(file):
+                given = [written.read(line, self._options.sent_by) for line in lines]
                 if self._options.swap or self._options.fcs is False:
-                    lines = [self._as_asked(line) for line in lines]
-                for line in itertools.takewhile(lambda _: not doubts.are_enough(), lines):
-                    if (frame := x25lines.frame_line(line)) and frame.octets:
+                    given = [self._as_asked(line) for line in given]
+                for line in itertools.takewhile(lambda _: not doubts.are_enough(), given):
+                    if (frame := x25lines.frame_line(line.rest)) and frame.octets:
                         doubts.see(frame.direction == ">", frame.octets, True)
-                answers = decoding.answers(decoder, lines)
-                if self._options.judge:
-                    answers = self._judged(lines, answers, trace)
-                things = [("", trace, answer) if answer[:1] in COLOURS else self._other(line, answer, trace) for line, answer in zip(lines, answers)]
+                answers = (
+                    self._judged(given) if self._options.judge else written.answers(decoder, given)
+                )
+                things = [thing for pair in zip(given, answers) for thing in self._things(*pair)]
                 has_found = has_found or any(text[:1] not in "?#" for _, _, text in things)
                 yield things
 
+        if self._bare_seen:
+            remedy = "--from dte or --from dce says whose frames these are"
+            self._say(f"no direction: {remedy} ({self._bare_seen})")
         if is_empty:
             self._say("nothing was found: the input is empty")
         elif not has_found:
@@ -170,40 +206,76 @@ class Reader:
         x25lines.warn(text)
         self.status = 1
 
-    def _as_asked(self, line: bytes) -> bytes:
+    def _as_asked(self, line: written.Line) -> written.Line:
         """A line with its direction exchanged, or with a frame check sequence added, where it has a frame in digits."""
-        frame, (time, tab, _) = x25lines.frame_line(line), line.rpartition(b"\t")
+        frame = x25lines.frame_line(line.rest)
         if frame is None:
             return line
         direction = x25lines.OTHER[frame.direction] if self._options.swap else frame.direction
         octets = frame.octets + (x25lines.fcs(frame.octets) if self._options.fcs is False else b"")
-        return time + tab + f"{direction} {octets.hex()}".encode()
+        return line._replace(rest=f"{direction} {octets.hex()}".encode())
 
-    def _judged(self, lines: list[bytes], answers: list[str], trace: Connection) -> list[str]:
-        """The answers to lines, those to frames with what is told of each after it."""
-        frames = [line.rpartition(b"\t")[2].decode() if decoding.parted(line, answer) else None for line, answer in zip(lines, answers)]
-        asked = [f"{frame}\n" for frame in frames if frame]
-        self._directions |= {frame[0] for frame in frames if frame}
-        texts = iter(self._decoder.texts("".join(asked), [trace] * len(asked)))
-        return ["".join(answer.rpartition("\t")[:2]) + next(texts) if frame else answer for frame, answer in zip(frames, answers)]
+    def _judged(self, given: list[written.Line]) -> list[str]:
+        """The answers to the frames among some lines, with what is told of each after it; to the
+        others nothing."""
+        frames = [line for line in given if line.kind in DIGITS]
+        self._directions |= {line.rest[:1].decode() for line in frames}
+        asked = "".join([line.rest.decode() + "\n" for line in frames])
+        texts = iter(
+            self._decoder.texts(asked, [self._connection(line.number, False) for line in frames])
+        )
+        return [next(texts) if line.kind in DIGITS else "" for line in given]
+
+    def _connection(self, number: int, has_packets_alone: bool) -> Connection:
+        """The connection of a line, which has a name where a line before it says so."""
+        key = number, has_packets_alone
+        if key not in self._connections:
+            self._connections[key] = Connection(number, self._names.get(number), has_packets_alone)
+        return self._connections[key]
 
     def _clock(self, time: str) -> str:
-        """A time of a line as it is shown."""
-        found = x25lines.nanoseconds(time)
-        return time if found is None else self._time(found)
+        """A time of a line as it is shown, with the date that stood before it."""
+        return f"{self._day} {time}" if self._day and ":" in time[:3] else time
 
-    def _other(self, line: bytes, answer: str, trace: Connection) -> Thing:
-        """What there is to show of a line, by its answer, that has a time, or holds no frame in digits."""
-        if parts := decoding.parted(line, answer):
-            return self._clock(parts[0]), trace, parts[1]
-        if (found := decoding.TEXT_LINE.fullmatch(line)) and not decoding.NO_DIGITS.search(line):
+    def _things(self, line: written.Line, answer: str) -> Iterator[Thing]:
+        """Yields what there is to show of a line, by its answer."""
+        if written.DAY.fullmatch(line.rest):
+            self._day = line.rest.decode()
+            return
+        if found_name := written.NAMED.fullmatch(line.rest):
+            self._names[int(found_name[1])] = found_name[2].decode("utf-8", "replace")
+            return
+        is_of_packets = (
+            line.kind == written.PACKET_TEXT
+            or line.kind == written.GAP
+            and (line.number, True) in self._connections
+        )
+        connection = self._connection(line.number, is_of_packets)
+        if line.kind in DIGITS:
+            # Of text times are shown as they stand there, and so are those of its gaps.
+            self._has_frames = self._has_frames or line.kind == written.FRAME
+            found = x25lines.nanoseconds(line.time) if self._has_frames else None
+            yield self._clock(line.time) if found is None else self._time(
+                found
+            ), connection, answer
+        elif line.kind != written.NONE:
             self._texts_seen += self._options.judge
-            return (found[1] or b"").decode(), trace, found[2].decode()
-        if x25lines.is_passed_over(line):
-            return "", trace, line.decode("utf-8", "replace")
-        is_known = x25lines.ENTRY_LINE.fullmatch(line) or x25lines.REFUSAL_LINE.fullmatch(line)
-        self.status = max(self.status, 0 if is_known else 1)
-        return "", trace, line.decode() if is_known else "? 60"
+            front = written.MADE_UP if line.kind == written.PACKET_TEXT else b""
+            yield self._clock(line.time), connection, (
+                line.rest[:2] + front + line.rest[2:]
+            ).decode()
+        elif x25lines.is_passed_over(line.rest):
+            yield "", connection, line.rest.decode("utf-8", "replace")
+        else:
+            yield "", connection, self._other(line.rest)
+
+    def _other(self, line: bytes) -> str:
+        """What there is to show of a line that holds no frame."""
+        if x25lines.ENTRY_LINE.fullmatch(line) or x25lines.REFUSAL_LINE.fullmatch(line):
+            return line.decode()
+        self._bare_seen += written.is_bare(line)
+        self.status = 1
+        return "? 60"
 
 
 class Days:
@@ -334,6 +406,36 @@ class Joined:
             yield from self._rows(connection, line.end())
 
 
+class Objects:
+    """Writes each thing as an object of JSON in a line, for programs such as jq."""
+
+    def take(self, block: list[Thing]) -> list[str]:
+        """Answers the lines of the things of a block."""
+        return [self._line(*thing) for thing in block]
+
+    def _line(self, time: str, connection: Connection, text: str) -> str:
+        found: dict[str, object] = {"connection": connection.number, "name": connection.name}
+        if x25lines.is_gap(text):
+            found |= {"from": x25lines.ENDS[text[0]], "gap": True}
+        elif text[:1] in x25lines.OTHER:
+            frame = fields.read(text, connection.is_made_up)
+            found |= {"from": x25lines.ENDS[text[0]], "frame": frame.frame}
+            found |= {"packet": frame.packet, "text": frame.text, "words": frame.words or None}
+            if frame.verdict:
+                found["told"] = frame.verdict._asdict()
+        elif entry := x25lines.ENTRY_LINE.fullmatch(text.encode()):
+            found |= {"from": entry[1].decode(), "entry": entry[2].decode()}
+        else:
+            found["line"] = text
+        # A number has all its places so, which a float of Python would lose.
+        moment = time if x25lines.TIME.fullmatch(time) else json.dumps(time or None)
+        return f'{{"time": {moment}, {json.dumps(found)[1:]}'
+
+    def end(self) -> list[str]:
+        """Nothing is left at the end."""
+        return []
+
+
 AGAIN, OCTETS = "I frames out of order, or again", "octets of data"
 # The frames of a text, each in a line with a blank at its end: of an I frame N(S); the kind of the frame or, after a bar, of its packet; the data of
 # DATA.
@@ -419,6 +521,10 @@ def _place(kind: str) -> tuple[int, int, str]:
     return (0, decoding.FRAMES.index(kind), "") if kind in decoding.FRAMES else (1 if kind[0] == "|" else 2, 0, kind)
 
 
+# What makes lines of things.
+View = Union[Lines, Joined, Statistic, Objects]
+
+
 def painted(colour: str, text: str) -> str:
     """A text in a colour."""
     return f"{colour}{text}{PLAIN}"
@@ -436,13 +542,17 @@ def painter() -> Paint:
 
 def words() -> argparse.Namespace:
     """The words after the script's name."""
-    parser = argparse.ArgumentParser(description=__doc__, formatter_class=argparse.RawDescriptionHelpFormatter)
+    parser = x25lines.parser(__doc__)
     x25lines.add_input(parser, "the capture or the trace")
     parser.add_argument("--channel", type=within(int, 0, 4095), metavar="N", help="show this logical channel alone")
     which = parser.add_mutually_exclusive_group()
     which.add_argument("--messages", action="store_true", help="show messages, not frames")
     which.add_argument("--stats", action="store_true", help="show numbers at the end, not frames")
     which.add_argument("--judge", action="store_true", help="say which end broke which rule of the link or the packet layer")
+    which.add_argument(
+        "--told", action="store_true", help="judge, and show alone what is told of: rules, manners"
+    )
+    parser.add_argument("--json", action="store_true", help="write objects of JSON, a line each")
     parser.add_argument("--long", action="store_true", help="a CALL may have 128 octets of user data, as with `decode --long`")
     parser.add_argument("--no-wide", dest="wide", action="store_false", help="read as `decode` does without `--wide`")
     parser.add_argument("--epoch", action="store_true", help="show times as seconds, not as the time of the day")
@@ -452,6 +562,10 @@ def words() -> argparse.Namespace:
     judging.add_words(parser)
     decoding.add_program(parser)
     options = parser.parse_args()
+    options.judge = options.judge or options.told
+    if options.json and (options.messages or options.stats):
+        parser.error("--json is for frames, and not for --messages or --stats")
+    options.epoch = options.epoch or options.json
     if not options.judge and (options.at or options.manners or options.strict):
         parser.error("--at, --manners and --strict are for --judge")
     return options
@@ -469,7 +583,12 @@ def asked(options: argparse.Namespace, file: x25lines.Readable) -> decoding.Deco
     return judging.Judge(options.x25, ["--k", str(options.k)], reading(options), options.at or ("either" if captures.is_capture(file) else "line"))
 
 
-def show(view: Lines | Joined | Statistic, blocks: Iterable[list[Thing]], out: TextIO) -> None:
+def is_told(text: str) -> bool:
+    """Whether a rule or manners are told of a frame, or a line was none."""
+    return any(mark in text for mark in fields.TOLD) or text[:1] in "!?"
+
+
+def show(view: View, blocks: Iterable[list[Thing]], out: TextIO) -> None:
     """Writes what a view makes of the things of each block; also what it has at the end, where the user ends it."""
     try:
         for block in blocks:
@@ -484,7 +603,15 @@ def main() -> int:
     with x25lines.opened(options.file) as file, asked(options, file) as decoder:
         reader = Reader(decoder, options)
         blocks = reader.shown(file)
-        view: Lines | Joined | Statistic = Joined(paint, options.channel) if options.messages else Statistic() if options.stats else Lines(paint, options.fold)
+        view: View
+        if options.messages:
+            view = Joined(paint, options.channel)
+        elif options.stats:
+            view = Statistic()
+        else:
+            view = Objects() if options.json else Lines(paint, options.fold)
+        if options.told:
+            blocks = ([it for it in block if is_told(it[2])] for block in blocks)
         if options.channel is not None and not options.messages:
             blocks = ([it for it in block if channel_of(it[2]) == options.channel] for block in blocks)
         bad: BaseException | None = None
@@ -494,7 +621,19 @@ def main() -> int:
             bad = error
         counts = list(decoder.counts()) if isinstance(decoder, judging.Judge) else []
     for number, line in counts:
-        print(f"#{number} {line}" if number > 1 else line)
+        if options.json:
+            print(json.dumps({"connection": number, "count": line.removeprefix("# ")}))
+        else:
+            print(f"#{number} {line}" if number > 1 else line)
     if bad is not None:
         raise bad
-    return 1 if options.strict and any(" judged, " in line and not line.endswith(" 0 not judged") for _, line in counts) else reader.status
+    judged = [line for _, line in counts if " judged, " in line]
+    if judged and all(" 0 judged, " in line for line in judged):
+        if not reader.status:
+            x25lines.warn("no frame and no packet was judged")
+        return 1
+    return (
+        1
+        if options.strict and any(not line.endswith(" 0 not judged") for line in judged)
+        else reader.status
+    )

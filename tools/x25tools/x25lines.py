@@ -40,11 +40,26 @@ PIECE = 65_536
 
 # The other direction of each.
 OTHER = {">": "<", "<": ">"}
+# The end that sends so.
+ENDS = {">": "dte", "<": "dce"}
 # What stands after the direction, in place of octets, where any number of that end's frames may be missing; and what that is in words.
 GAP, LACKS = "..", "the capture lacks frames here"
 
 # The mark of UTF-8, with which some editors begin a file.
 MARK = b"\xef\xbb\xbf"
+
+# The scripts by the names that they have where they are installed, and what names one in a text.
+NAMES = {
+    "bridge": "x25bridge",
+    "chart": "x25chart",
+    "pcap2x25": "pcap2x25",
+    "x25dump": "x25dump",
+    "x25pad": "x25pad",
+    "x25pcap": "x25pcap",
+    "x25report": "x25report",
+    "x25tools": "x25tools",
+}
+SCRIPT = re.compile(rf"(?:(?:python3 )?tools/|\b)({'|'.join(NAMES)})\.py\b")
 
 TIME = re.compile(r"([0-9]{1,10})(?:\.([0-9]{1,9}))?")
 FRAME_LINE = re.compile(rb"(?:([0-9]{1,10}(?:\.[0-9]{1,9})?)\t)?([<>]) ([0-9a-fA-F]*)")
@@ -206,9 +221,22 @@ def add_input(parser: argparse.ArgumentParser, what: str) -> None:
     parser.add_argument("file", nargs="?", default="-", metavar="FILE", help=f"{what}; standard input where it is missing or `-`")
 
 
+def named(text: str) -> str:
+    """A text with the names of scripts that they have here: those of files, or where they are
+    installed others."""
+    name = os.path.basename(sys.argv[0].partition(" ")[0])
+    return text if name.endswith(".py") else SCRIPT.sub(lambda found: NAMES[found[1]], text)
+
+
+def parser(text: str | None, **more: Any) -> argparse.ArgumentParser:
+    """A parser of words that has a script's text as its help."""
+    form = argparse.RawDescriptionHelpFormatter
+    return argparse.ArgumentParser(description=named(text or ""), formatter_class=form, **more)
+
+
 def warn(text: object) -> None:
     """Says something on standard error, after the script's name, by one write: lines of two processes stay apart."""
-    sys.stderr.write(f"{os.path.basename(sys.argv[0])}: {text}\n")
+    sys.stderr.write(f"{os.path.basename(sys.argv[0])}: {named(str(text))}\n")
 
 
 def run(main: Callable[[], int]) -> NoReturn:

@@ -141,6 +141,8 @@ def words(text: str) -> str:
         said.append(FAULTS[int(found[1])])
     elif "diag=" in text and (found := DIAGNOSED.search(text)):
         said.append(_diagnostic(int(found[1])))
+    elif " PVC ch=" in text:
+        said.append("sets up a permanent circuit of XOT; what it says isn't read")
     elif "SABME cmd" in text:
         said.append(EXTENDED)
     elif text[2:] == x25lines.GAP:

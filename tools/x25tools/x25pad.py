@@ -2,6 +2,7 @@
 
     x25pad.py dte --xot router.example
     x25pad.py dce --listen 7000 --address 4567
+    x25pad.py dce --xot-listen --channels 8 --stay --serve 'cat /etc/motd'
     printf '%s\\n' 123 'show version' | x25pad.py dte --xot router.example
 
 The other words are those of bridge.py, which it runs: the line, --trace and so on. A DTE sets the link up, but for XOT. There are commands of
@@ -15,6 +16,12 @@ or is empty, and no call is there.
 Where input or output is no terminal, lines of the input are what would be typed, and wait while a call isn't answered; with --answer they
 wait for a call that comes. The output is what the host sends, with line feeds; all else goes to standard error. At the end of the input the
 call is cleared once nothing has come for --quiet seconds, and the script ends.
+
+With --serve a command runs by `sh -c` for each call that comes. Its input and output are the
+call's data, with lines that end by CR for a PAD; the variables X25_CALLING, X25_CALLED and
+X25_DATA have who calls, whom, and the user data in digits. Where its output ends a PAD is asked to
+clear, and another call is cleared --quiet seconds after; where the call ends the command gets
+SIGHUP. --channels says how many calls there may be at once.
 
 Exit status: 0; 1 where a call wasn't taken, a command was none, or the line ended; 2 for bad words; 143 after SIGTERM, 129 after SIGHUP.
 """
@@ -32,7 +39,7 @@ import time
 import tty
 from typing import Callable, Dict, Iterable, Iterator, List, Optional, Tuple
 
-from x25tools import decoding, facilities
+from x25tools import decoding, facilities, serving, x25lines
 from x25tools.places import within
 
 # Of each parameter of X.3 the values that it takes, none where it is only read, and those that it has in the profiles 90 and 91.
@@ -66,11 +73,23 @@ CLEARED = {1: "OCC", 3: "INV", 5: "NC", 9: "DER", 11: "NA", 13: "NP", 17: "RPE",
 RESET = {1: "DER", 3: "RPE", 5: "ERR", 7: "NC", 9: "OPR", 15: "NOP", 17: "ID", 29: "DER"}
 CR, LF, DLE, EOT = 13, 10, 16, 4
 PACKET, MOST_UNSENT = 128, 1 << 16
+# The octets of the protocol identifier before the user data of a call.
+PROTOCOL = 4
 # How long the end of a call is waited for at the end, in seconds.
 LAST = 5
 # What a call may ask for before its address: reverse charging, fast select, a closed user group by two or four digits.
 REQUEST = r"(?:[RF]|G(?:\d\d){1,2})"
-SELECTION = re.compile(rf"(?:({REQUEST}(?:,{REQUEST})*)-)?(\d{{1,15}})(?:[DP](.*))?", re.ASCII | re.IGNORECASE)
+SELECTION = re.compile(
+    rf"(?:({REQUEST}(?:,{REQUEST})*)-)?(\d{{1,15}})(?:[DP](.*)| +[DP](?: +(.*))?)?",
+    re.ASCII | re.IGNORECASE,
+)
+# What is typed as at other terminals, and what does that here.
+HINTS = {
+    **dict.fromkeys(("EXIT", "BYE", "LOGOUT", "Q"), "QUIT ends"),
+    **dict.fromkeys(("CLEAR", "DISCONNECT", "HANGUP", "CLOSE"), "CLR clears the call"),
+    **dict.fromkeys(("CALL", "CONNECT", "DIAL", "C"), "an address alone calls, as 4567"),
+    "STATUS": "STAT says whether there is a call",
+}
 CHARGED, FAST, GROUPS = 0x01, 0x80, {1: 0x03, 2: 0x47}
 # How many octets of text a call has room for, and with fast select.
 MOST_TEXT, MOST_FAST = 12, 124
@@ -94,6 +113,10 @@ class Parameters(Dict[int, int]):
         """Sets all to a profile, and 90 as it is at first."""
         self.update({number: values[profile - 90] for number, (_, values) in sorted(PARAMETERS.items())})
         self.update(self._initial if profile == 90 else {})
+
+    def are_given(self, number: int) -> bool:
+        """Whether the user has said at first what a parameter is."""
+        return number in self._initial
 
     def why_not(self, number: int, value: int) -> int:
         """Why a parameter doesn't take a value, or 0."""
@@ -258,7 +281,8 @@ class Pad:
     def _done(self, line: str) -> str:
         """Does a command; answers what is said to it."""
         if found := SELECTION.fullmatch(line):
-            return self._call(requested(found[1] or ""), found[2], found[3] or "")
+            return self._call(requested(found[1] or ""), found[2], found[3] or found[4] or "")
+        line = "HELP" if line == "?" else line
         found = re.match(r"[A-Za-z]+\??", line)
         name = found[0].upper() if found else ""
         rest = line[len(name) :].strip()
@@ -278,7 +302,7 @@ class Pad:
         if name == "PROF" and rest in ("90", "91"):
             self.parameters.begin(int(rest))
         elif rest and not message or name not in ("", "HELP", "STAT", "QUIT", *of_the_call) and not message:
-            return f"ERR  {line!r} is no command: HELP shows them"
+            return f"ERR  {line!r} is no command: {HINTS.get(name, 'HELP shows them')}"
         elif (message or name in of_the_call) and not self.may_clear():
             return "ERR  there is no call"
         elif message:
@@ -392,11 +416,21 @@ class Pad:
             return
         self._channel, self.was_called = channel, True
         self._ask(f"accept {channel}")
+        octets = bytes.fromhex(told["data"].replace("-", ""))
+        if octets and not self.parameters.are_given(FEED):
+            # The other end is a PAD too: without line feeds its lines and those from here would
+            # stand upon each other.
+            self.parameters[FEED] = 7
+            self._message(SET, FEED, 4)
         self._become("open", f"{told['calling']} COM".removeprefix("- "))
+        if octets[PROTOCOL:]:
+            self._signal(f"# user data: {octets[PROTOCOL:].decode('utf-8', 'replace')!r}")
 
     def _become(self, stage: str, said: str) -> None:
         """The call is there, or isn't any more."""
         self.stage, self._why, self.due, self._is_recalled = stage, "", None, False
+        if stage == "free" and not self.parameters.are_given(FEED):
+            self.parameters[FEED] = 0
         self._typed.clear()
         self._say(said)
 
@@ -448,8 +482,16 @@ class Pad:
 class Session:
     """The PAD between its user and the bridge."""
 
-    def __init__(self, pad: Pad, face: Face, child: "subprocess.Popen[bytes]", options: argparse.Namespace) -> None:
+    def __init__(
+        self,
+        pad: Pad,
+        face: Face,
+        child: "subprocess.Popen[bytes]",
+        options: argparse.Namespace,
+        woken: int,
+    ) -> None:
         assert child.stdin and child.stdout
+        self._woken = woken
         self._pad, self._face, self._child, self._options = pad, face, child, options
         self._out, self._into = child.stdout.fileno(), child.stdin.fileno()
         os.set_blocking(self._into, False)
@@ -469,8 +511,15 @@ class Session:
                 if pad.may_clear():
                     pad.clear()
             elif not self._wait(until):
-                return pad.status if pad.has_ended else 2 if self._child.wait() == 2 else 1
+                return pad.status if pad.has_ended else self._ended()
         return pad.status
+
+    def _ended(self) -> int:
+        """The bridge has ended by itself; it said why, where no signal ended it."""
+        status = self._child.wait()
+        if status < 0:
+            self._face.signal(f"# the bridge was ended: {signal.strsignal(-status)}")
+        return 2 if status == 2 else 1
 
     def _takes(self) -> bool:
         """Whether what was typed is taken: of a file, what stands after a call waits until that is answered."""
@@ -490,7 +539,8 @@ class Session:
         reads = not self._is_over and len(self._typed) < PACKET and len(self._pad.asks) < MOST_UNSENT
         times = [self._pad.due, until, self._last + self._options.quiet if self._is_over and self._pad.stage == "open" else None]
         patience = min((max(0, at - time.monotonic()) for at in times if at is not None), default=None)
-        came, room, _ = select.select([self._out] + [0] * reads, [self._into] * bool(self._pad.asks), [], patience)
+        waits = [self._out, self._woken] + [0] * reads
+        came, room, _ = select.select(waits, [self._into] * bool(self._pad.asks), [], patience)
         if room:
             with contextlib.suppress(BrokenPipeError):
                 del self._pad.asks[: os.write(self._into, self._pad.asks)]
@@ -510,7 +560,8 @@ class Session:
             octets = os.read(0, PACKET)
         except OSError:
             octets = b""
-        self._is_over = not octets
+        # What is typed last has its answer, though nothing came for long before it.
+        self._is_over, self._last = not octets, time.monotonic()
         self._typed += octets if self._face.is_terminal else octets.replace(b"\r", b"").replace(b"\n", b"\r")
         # Where the terminal has gone, so has its user.
         self._pad.has_ended |= self._is_over and self._face.is_terminal
@@ -537,35 +588,75 @@ def parameters(text: str) -> Dict[int, int]:
 
 def words() -> Tuple[argparse.Namespace, List[str]]:
     """The words after the script's name, and those of them that the bridge gets."""
-    usage = "%(prog)s [-h] dte|dce [--address DIGITS] [--set N:V,..] [--answer] [--quiet SECONDS] [words of bridge.py]"
-    parser = argparse.ArgumentParser(usage=usage, description=__doc__, formatter_class=argparse.RawDescriptionHelpFormatter, allow_abbrev=False)
+    usage = "%(prog)s [-h] dte|dce [--address DIGITS] [--set N:V,..] [--answer] [--serve COMMAND]"
+    usage += " [--quiet SECONDS] [words of the bridge]"
+    parser = x25lines.parser(__doc__, usage=usage, allow_abbrev=False)
     parser.add_argument("end", choices=["dte", "dce"], help="which end the station is")
     parser.add_argument("--address", default="-", metavar="DIGITS", help="the address that calls come from (none)")
     parser.add_argument("--set", type=parameters, default={}, metavar="N:V,..", help="parameters at first")
     parser.add_argument("--answer", action="store_true", help="lines of the input wait for a call that comes")
     parser.add_argument("--quiet", type=within(float, 0, 86_400), default=2, metavar="SECONDS", help="how long nothing comes at the end (2)")
+    parser.add_argument(
+        "--serve", metavar="COMMAND", help="run a command for each call that comes"
+    )
     options, others = parser.parse_known_args()
     if {"--stdio", "--commands", "--notices"} & {word.partition("=")[0] for word in others}:
         parser.error("--stdio, --commands and --notices are for a bridge alone")
     return options, others
 
 
+def bridged(end: str, others: List[str]) -> List[str]:
+    """The command that runs the bridge."""
+    script = os.path.join(decoding.FOLDER, "bridge.py")
+    return [sys.executable, script, end, "--long", *others]
+
+
+def heed_signals() -> int:
+    """SIGTERM and SIGHUP end the script, with what is to be done at its end. Answers what can be
+    read once one came, so that none is missed that comes just before the script waits."""
+    woken, wakes = os.pipe()
+    os.set_blocking(wakes, False)
+    signal.set_wakeup_fd(wakes)
+    for number in (signal.SIGTERM, signal.SIGHUP):
+        if signal.getsignal(number) != signal.SIG_IGN:
+            signal.signal(number, lambda came, _: sys.exit(128 + came))
+    return woken
+
+
+def serve(options: argparse.Namespace, others: List[str]) -> int:
+    """Runs a command for each call, until the bridge ends."""
+    command = bridged(options.end, others)
+    woken = heed_signals()
+    pipe, out = subprocess.PIPE, subprocess.STDOUT
+    with subprocess.Popen(
+        command, stdin=pipe, stdout=pipe, stderr=out, start_new_session=True
+    ) as child:
+        try:
+            server = serving.Server(options.end, options.serve, child, options.quiet, woken)
+            if options.end == "dte" and not any(word.startswith("--xot") for word in others):
+                server.asks += b"dte connect\n"
+            return server.run()
+        finally:
+            child.terminate()
+            child.communicate()
+
+
 def main() -> int:
     options, others = words()
+    if options.serve is not None:
+        return serve(options, others)
     face = Face(os.isatty(0) and os.isatty(1))
     pad = Pad(options.end, options.address, {SIGNALS: 5, **options.set}, face)
     if options.end == "dte" and not any(word.startswith("--xot") for word in others):
         pad.asks += b"dte connect\n"
-    command = [sys.executable, os.path.join(decoding.FOLDER, "bridge.py"), options.end, "--long", *others]
-    for number in (signal.SIGTERM, signal.SIGHUP):
-        if signal.getsignal(number) != signal.SIG_IGN:
-            signal.signal(number, lambda came, _: sys.exit(128 + came))
+    command = bridged(options.end, others)
+    woken = heed_signals()
     # In a session of its own CTRL-C doesn't end it first.
     with subprocess.Popen(command, stdin=subprocess.PIPE, stdout=subprocess.PIPE, stderr=subprocess.STDOUT, start_new_session=True) as child:
         try:
             with raw_terminal() if face.is_terminal else contextlib.nullcontext():
                 face.echo(b"HELP shows the commands.\r\n")
-                return Session(pad, face, child, options).run()
+                return Session(pad, face, child, options, woken).run()
         finally:
             child.terminate()
             child.communicate()

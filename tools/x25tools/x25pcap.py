@@ -3,8 +3,11 @@
     x25pcap.py [FILE] > trace.pcapng
     x25 sim --tap < script | x25pcap.py -o run.pcapng
 
-Reads `> HEX` and `< HEX` lines, also with a time in seconds and a tab before them. The other lines of a run of `x25 sim --tap`
-(entries, `! N`, `? 60`), empty lines and comments are passed over. A line without a time gets its number as milliseconds, so that it is found again.
+Reads `> HEX` and `< HEX` lines, with blanks between the octets too, and with a time before them:
+in seconds, or that of the day, as 10:11:12.5. With --from a line without a direction is a frame of
+that end. The other lines of a run of `x25 sim --tap` (entries, `! N`, `? 60`), empty lines and
+comments are passed over. A line without a time gets its number as milliseconds, so that it is
+found again.
 
 The link type is SITA (196) and not LAPB_WITH_DIR (207), which Wireshark 4.0 doesn't open; the direction stands in the flags
 of each packet, outbound being from the DTE to the DCE. The frame check sequence is cut off, as the dissector expects. A line
@@ -16,11 +19,10 @@ Exit status: 0, or 2 for bad words or bad input.
 
 from __future__ import annotations
 
-import argparse
 import sys
 from typing import BinaryIO
 
-from x25tools import captures, x25lines
+from x25tools import captures, written, x25lines
 from x25tools.x25lines import BadInput
 
 SITA = 196
@@ -41,16 +43,20 @@ def packet(frame: x25lines.FrameLine) -> tuple[bytes, int]:
     return bytes([first, 0, 0, 0, NO_PROTOCOL]) + frame.octets, flags | error
 
 
-def convert(file: x25lines.Readable, out: BinaryIO) -> int:
+def convert(file: x25lines.Readable, out: BinaryIO, sent_by: str | None) -> int:
     """Writes a packet for each frame line of a file, those of a block of lines at once; answers the status."""
     writer, gaps = captures.Writer(out, SITA), 0
     for first, lines in x25lines.blocks_of_lines(file):
         for number, line in enumerate(lines, first):
-            frame = x25lines.frame_line(line)
-            if frame is not None:
+            given = written.read(line, sent_by)
+            frame, time = (
+                x25lines.frame_line(given.rest),
+                written.nanoseconds(given.time) if given.time else number * MILLISECOND,
+            )
+            if frame is not None and time is not None:
                 octets, flags = packet(frame)
-                writer.packet(octets, number * MILLISECOND if frame.time is None else frame.time, flags)
-            elif x25lines.is_gap(line.rpartition(b"\t")[2].decode("latin-1")):
+                writer.packet(octets, time, flags)
+            elif x25lines.is_gap(given.rest.decode("latin-1")):
                 gaps += 1
             elif not (x25lines.is_passed_over(line) or x25lines.ENTRY_LINE.fullmatch(line) or x25lines.REFUSAL_LINE.fullmatch(line)):
                 raise BadInput(f"line {number} is no line of a trace or a run: {x25lines.shown(line)}")
@@ -61,9 +67,15 @@ def convert(file: x25lines.Readable, out: BinaryIO) -> int:
 
 
 def main() -> int:
-    parser = argparse.ArgumentParser(description=__doc__, formatter_class=argparse.RawDescriptionHelpFormatter)
+    parser = x25lines.parser(__doc__)
     x25lines.add_input(parser, "the trace")
     parser.add_argument("-o", "--output", metavar="CAPTURE", help="the file to write; else standard output")
+    parser.add_argument(
+        "--from",
+        dest="sent_by",
+        choices=["dte", "dce"],
+        help="whose frames those without a direction are",
+    )
     options = parser.parse_args()
     if options.output is None and sys.stdout.isatty():
         parser.error("a capture isn't for a terminal: give -o CAPTURE, or send standard output to a file")
@@ -71,6 +83,6 @@ def main() -> int:
         if captures.is_capture(file):
             raise BadInput("this is a capture already; pcap2x25.py makes lines of one")
         if options.output is None:
-            return convert(file, sys.stdout.buffer)
+            return convert(file, sys.stdout.buffer, options.sent_by)
         with open(options.output, "wb") as out:
-            return convert(file, out)
+            return convert(file, out, options.sent_by)

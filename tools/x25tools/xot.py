@@ -8,8 +8,10 @@ from __future__ import annotations
 import ipaddress
 import struct
 from collections import Counter
+from typing import NamedTuple, Optional
 
 from x25tools import ip
+from x25tools.early import Early
 
 XOT_PORT = 1998
 # The ends of a segment: addresses, and ports.
@@ -25,6 +27,18 @@ MOST_SEGMENTS, MOST_STREAMS = 256, 4096
 SEQUENCES = 1 << 32
 # What a packet modulo 8 or 128 begins with, of its format; and the longest.
 FORMATS, FORMAT, MOST_PACKET = (0x10, 0x20), 0x30, 4_099
+
+class Segment(NamedTuple):
+    """A segment: its time, its ends, where it stands, where those octets stand that its sender
+    wants next, its flags, its octets."""
+
+    time: int
+    ends: Ends
+    sequence: int
+    wanted: int
+    flags: int
+    octets: bytes
+
 
 _TCP, _HEADER, _PORTS = (struct.Struct(form).unpack_from for form in (">HHIIBB", ">HH", ">HH"))
 
@@ -86,11 +100,15 @@ class Stream:
                     packets += self._pass_gap()
         return packets
 
+    def lacks(self, wanted: int) -> bool:
+        """Whether some of what stands before that place hasn't come; an end of the stream counts
+        as an octet."""
+        return self._next is not None and self._distance(wanted) > (0 if self._ahead else 1)
+
     def taken(self, wanted: int) -> list[bytes | None]:
         """Takes the place up to which the other end has all; answers the packets that are whole now, with None where some weren't captured."""
         packets: list[bytes | None] = []
-        # An end of the stream counts as an octet.
-        while self._next is not None and self._distance(wanted) > (0 if self._ahead else 1):
+        while self.lacks(wanted):
             packets += self._pass_gap() if self._ahead else self._skip(wanted)
         return packets
 
@@ -162,6 +180,11 @@ class Stream:
         return packets
 
 
+def _back(ends: Ends) -> Ends:
+    """The ends of a segment that goes the other way."""
+    return ends[1], ends[0], ends[3], ends[2]
+
+
 def _end(end: tuple[bytes, int]) -> str:
     """An address and a port as they are written."""
     host = str(ipaddress.ip_address(end[0]))
@@ -178,8 +201,18 @@ def is_like_xot(octets: bytes) -> bool:
     return octets[:2] == b"\0\0" and int.from_bytes(octets[2:4], "big") == len(octets) - 4 and _is_like_packet(octets[4:], len(octets) - 4)
 
 
+class Found(NamedTuple):
+    """Packets that are whole now, with None where some are missing: the time of their segment,
+    None at the end, and their stream."""
+
+    time: Optional[int]
+    stream: Stream
+    packets: list[Optional[bytes]]
+
+
 class Xot:
-    """All connections of a capture to and from one port, each known by its two ends and the number of the SYN that opened it.
+    """All connections of a capture to and from one port, each known by its two ends and the number
+    of the SYN that opened it. A segment that stands before what it acknowledges waits for that.
 
     `notes` counts what was left out, by why, and `passed` what was no part of it.
     """
@@ -188,11 +221,16 @@ class Xot:
         self._port = port
         self._streams: dict[Ends, Stream] = {}
         self._fragments = ip.Fragments()
+        self._early = Early(self._is_early, self._read)
+        # Of ends whose stream hasn't begun the place that was wanted first; None where what is
+        # wanted after that doesn't come.
+        self._asked: dict[Ends, Optional[int]] = {}
         self._notes = notes
         self._passed = passed
 
-    def take(self, octets: bytes) -> list[tuple[Stream, list[bytes | None]]]:
-        """Takes a packet of IP; answers the streams that have whole X.25 packets now, each with these."""
+    def take(self, octets: bytes, time: int = 0) -> list[Found]:
+        """Takes a packet of IP, and its time; answers the streams that have whole X.25 packets
+        now, each with these."""
         carried = ip.carried(octets)
         if carried and carried.is_fragment:
             carried, given_up = self._fragments.take(carried)
@@ -210,7 +248,34 @@ class Xot:
             return []
         if missing > 0:
             self._notes["segment that was captured in part"] += 1
-        back_ends = ends[1], ends[0], ends[3], ends[2]
+        if not octets and not missing:
+            self._passed["segment of TCP that brings no octets"] += 1
+        both = frozenset((ends[::2], ends[1::2]))
+        it = Segment(time, ends, sequence, wanted, flags, octets)
+        return (
+            [*self._early.give_up(both), *self._read(it)]
+            if flags & SYN
+            else self._early.take(both, it)
+        )
+
+    def _is_early(self, it: Segment) -> bool:
+        """Whether a segment acknowledges what hasn't come."""
+        back_ends = _back(it.ends)
+        back = self._streams.get(back_ends)
+        if not it.flags & ACK:
+            return False
+        if back is not None:
+            return back.lacks(it.wanted)
+        asked = self._asked.setdefault(back_ends, it.wanted)
+        return asked is not None and 1 < (it.wanted - asked) % SEQUENCES < SEQUENCES // 2
+
+    def _read(self, it: Segment) -> list[Found]:
+        """Reads a segment."""
+        time, ends, sequence, wanted, flags, octets = it
+        back_ends = _back(ends)
+        if back_ends not in self._streams and self._is_early(it):
+            self._asked[back_ends] = None
+        self._asked.pop(ends, None)
         opened = (wanted - 1 if flags & ACK else sequence) % SEQUENCES if flags & SYN else None
         ended = self._reopen(ends, back_ends, opened) if flags & SYN else []
         stream, back, closed = self._streams.get(ends), self._streams.get(back_ends), []
@@ -220,8 +285,8 @@ class Xot:
             if len(self._streams) > MOST_STREAMS:
                 closed = self._close(next(iter(self._streams)))
         # What its sender took of the other way came before this.
-        taken = [(back, back.taken(wanted))] if back and flags & ACK else []
-        return [*ended, *taken, (stream, stream.take(sequence, flags, octets)), *closed]
+        taken = [Found(time, back, back.taken(wanted))] if back and flags & ACK else []
+        return [*ended, *taken, Found(time, stream, stream.take(sequence, flags, octets)), *closed]
 
     def _is_of_dte(self, ends: Ends, flags: int) -> bool:
         """Whether the DTE sent the first segment that is seen of a connection. It opened the connection to the port; where both ends have that, and no SYN
@@ -229,7 +294,7 @@ class Xot:
         answers = flags & SYN and flags & ACK
         return ends[3] == self._port and not (ends[2] == self._port and answers)
 
-    def _reopen(self, ends: Ends, back_ends: Ends, opened: int | None) -> list[tuple[Stream, list[bytes | None]]]:
+    def _reopen(self, ends: Ends, back_ends: Ends, opened: int | None) -> list[Found]:
         """Ends the connection of these ends where a SYN opens another one; answers what it still holds."""
         of_another = [it for it in (ends, back_ends) if it in self._streams and self._streams[it].opened != opened]
         return [closed for it in of_another for closed in self._close(it)]
@@ -244,11 +309,14 @@ class Xot:
             else:
                 self._passed["packet of IP without a whole segment of TCP"] += 1
 
-    def end(self) -> list[tuple[Stream, list[bytes | None]]]:
+    def end(self) -> list[Found]:
         """Ends all connections; answers what they still hold."""
         self._tell(self._fragments.end())
-        return [closed for ends in list(self._streams) for closed in self._close(ends)]
+        return [
+            *self._early.end(),
+            *(closed for ends in list(self._streams) for closed in self._close(ends)),
+        ]
 
-    def _close(self, ends: Ends) -> list[tuple[Stream, list[bytes | None]]]:
+    def _close(self, ends: Ends) -> list[Found]:
         stream = self._streams.pop(ends)
-        return [(stream, stream.end())]
+        return [Found(None, stream, stream.end())]

@@ -157,8 +157,12 @@ class Xot(wires.Wire):
             self._coming.append(Circuit(tcp.Connection(came, self._t3)))
             if len(self._coming) > MOST_COMING:
                 self._coming.pop(0).connection.close()
+        # Of thousands of circuits few have something to do.
         for it in self._all():
-            self._read(it, ready)
+            if it.connection.number in ready or not it.connection.is_open:
+                self._read(it, ready)
+        for it in [it for it in self._ending if not it.connection.waits]:
+            self._drop(it)
         yield from self._for_the_station()
 
     def _for_the_station(self) -> Iterator[bytes]:
@@ -184,10 +188,7 @@ class Xot(wires.Wire):
             self._note(f"channel {it.channel} is connected to {connection.other()}")
         if octets is None or (not connection.is_open and time.monotonic() >= it.last):
             self._lose(it, connection.why or ("the other end has closed it" if connection.is_open else "it wasn't made in time"))
-        elif it in self._ending:
-            if not connection.waits:
-                self._drop(it)
-        else:
+        elif it not in self._ending:
             for packet in it.packets(octets):
                 if not self._take(it, packet):
                     break
