@@ -36,7 +36,8 @@ def python(count, length):
     """The seconds that so many messages take from Python."""
     with x25.Station(x25.DTE) as dte, x25.Station(x25.DCE) as dce:
         talk(dte.connect(), dte, dce)
-        channel, answer = dte.call("1", "2")
+        answer = dte.call("1", "2")
+        channel = answer.channel
         talk(answer, dte, dce)
         talk(dce.accept(channel), dce, dte)
         message, start = bytes(length), time.process_time()

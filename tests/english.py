@@ -3,8 +3,9 @@
 
     english.py [--over N] [DOCUMENT ..]
 
-Headings, examples, tables, quotations and lists of names aren't sentences. A word of code counts as one word. With --over, each sentence of more than N
-words is shown, with its line; without, the longest of each document.
+Headings, examples and quotations aren't sentences; each cell of a table has its own. A word of code
+counts as one word. With --over, each sentence of more than N words is shown, with its line; without,
+the longest of each document.
 """
 
 from __future__ import annotations
@@ -18,7 +19,7 @@ ROOT = os.path.dirname(os.path.dirname(os.path.abspath(__file__)))
 
 
 def parts_of(text: str) -> Iterator[tuple[int, str]]:
-    """The paragraphs and items of a text, each with its first line."""
+    """The paragraphs, items and cells of a text, each with its first line."""
     part: list[str] = []
     begun, fenced = 0, False
     for number, line in enumerate([*text.splitlines(), ""], 1):
@@ -28,6 +29,8 @@ def parts_of(text: str) -> Iterator[tuple[int, str]]:
             if part:
                 yield begun, " ".join(part)
             part = []
+        if line.startswith("|") and not fenced:
+            yield from ((number, cell.strip()) for cell in line.strip("|\n").split("|"))
         if not is_none:
             begun = begun if part else number
             part.append(re.sub(r"^ *(?:[-*]|\d+\.) ", "", line).strip())
