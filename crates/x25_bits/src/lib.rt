@@ -37,7 +37,7 @@ pub use laws::{
 };
 pub use line_octets::put_octets;
 pub use no_memory::NoMemory;
-pub use octets::{Octets, append_octets, with_octets};
+pub use octets::{append_octets, with_octets};
 pub use role::Role;
 pub use seq::Seq;
 pub use stuffing::put;

@@ -234,8 +234,8 @@ impl Link {
 
     /// Copies a packet of at most `limit()` octets, and hands it down behind all others. It takes no memory.
     ///
-    /// 9 where the link isn't up, then 10 where 256 packets wait, and else 70 alone: where 25 frames stand, or where 8
-    /// or more packets wait and this one has more than 260 octets.
+    /// 9 where the link isn't up, then 10 where 256 packets wait, and else 70 alone, only where 25 frames stand, or
+    /// where 8 or more packets wait and this one has more than 260 octets.
     #[inline(always)]
     pub fn put(&mut self, packet: &[u8]) -> Result<(), LinkError>
         requires { length packet.now ≤ limit_of self.old }

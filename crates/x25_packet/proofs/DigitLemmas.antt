@@ -1,8 +1,8 @@
 -- Half octets by their place, and digits packed into octets.
 use Rattle.x25_packet.proofs.Names.{ℕ, zero, suc, ◌+◌, ◌-◌, ◌*◌, ◌/◌, ◌%◌, ◌<◌, ◌≤◌, ◌≡◌, ◌≢◌, ◌∙◌, Bool, true, false, List, [], ◌∷◌, ◌++◌, length, get_or}
 use Rattle.x25_packet.proofs.Names.{take, drop, refl, ap, sym, arith, nat_eq, ◌&&◌, nat_le, list_all, take-append-drop, list_all-append, and_parts, leb-true}
-use Rattle.std.proofs.{Math.Bool.{and-true}, lemmas.List.{append-nil, length-map}}
-use Rattle.x25_packet.{proofs.Names.{le-leb, and_from, IsAddress, halves_of, is_digit, hold_digits}, specs.Digits.{digits_of_text, is_pair, is_figure}}
+use Rattle.std.proofs.{Math.Bool.{and-true}, Math.Seq.{drop-nil, take-nil}, lemmas.List.{append-nil, drop-drop, drop-take, length-map, take-take}}
+use Rattle.x25_packet.{proofs.Names.{le-leb, and_from, IsAddress, halves_at, halves_of, is_digit, hold_digits}, specs.Digits.{digits_of_text, is_pair, is_figure}}
 
 pub length-halves_of : (octets : List ℕ) → length (halves_of octets) ≡ 2 * length octets
 unfolding halves_of
@@ -20,6 +20,34 @@ unfolding halves_of
 low_half [] k = refl
 low_half (b ∷ octets) zero = refl
 low_half (b ∷ octets) (suc k) = let at : 2 * suc k + 1 ≡ suc (suc (2 * k + 1)) = omega arith in rw at (low_half octets k)
+
+-- the half octets of the octets behind some, and of the first of some
+halves_of-drop : (n : ℕ) (octets : List ℕ) → halves_of (drop n octets) ≡ drop (2 * n) (halves_of octets)
+unfolding halves_of
+halves_of-drop zero octets = refl
+halves_of-drop (suc n) [] = sym (drop-nil (2 * suc n))
+halves_of-drop (suc n) (b ∷ octets) = let at : 2 * suc n ≡ suc (suc (2 * n)) = omega arith in rw at (halves_of-drop n octets)
+
+halves_of-take : (n : ℕ) (octets : List ℕ) → halves_of (take n octets) ≡ take (2 * n) (halves_of octets)
+unfolding halves_of
+halves_of-take zero octets = refl
+halves_of-take (suc n) [] = sym (take-nil (2 * suc n))
+halves_of-take (suc n) (b ∷ octets) =
+    let at : 2 * suc n ≡ suc (suc (2 * n)) = omega arith in
+    rw at (ap (λ (halves : List ℕ). b / 16 ∷ b % 16 ∷ halves) (halves_of-take n octets))
+
+-- half octets from a place on, in the octets that hold them
+pub halves_held : (octets : List ℕ) (first place count held : ℕ) → place + count ≤ 2 * held
+    → halves_at (take held (drop first octets)) place count ≡ halves_at octets (2 * first + place) count
+halves_held octets first place count held room =
+    let behind = drop (2 * first) (halves_of octets) in
+    let size : 2 * held ≡ place + (2 * held - place) = omega (arith, room) in
+    ap (λ (halves : List ℕ). take count (drop place halves))
+    (halves_of-take held (drop first octets) ∙ ap (take (2 * held)) (halves_of-drop first octets))
+    ∙ ap (λ (n : ℕ). take count (drop place (take n behind))) size
+    ∙ ap (take count) (drop-take place (2 * held - place) behind)
+    ∙ take-take count (2 * held - place) (drop place behind) (omega (arith, room))
+    ∙ ap (take count) (drop-drop place (2 * first) (halves_of octets))
 
 -- ---- what holds of each element of a list holds of its parts
 

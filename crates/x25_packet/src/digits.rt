@@ -21,9 +21,10 @@ pub fn hold_digits(count: usize, octets: &[u8]) -> bool
     requires { length octets.now ≤ (count + 1) / 2 }
     ensures { result ≡ hold_digits count octets.now }
 {
-    let are_digits = octets
-        .iter()
-        .all(|octet| *octet / 16 <= 9 && *octet % 16 <= 9);
+    let mut are_digits = true;
+    for octet in octets {
+        are_digits &= (*octet / 16 <= 9) & (*octet % 16 <= 9);
+    }
     if !are_digits {
         return false;
     }

@@ -1,4 +1,4 @@
-//! Packets read from their octets.
+//! Packets in the forms that any equipment sends, read from their octets.
 ghost use Rattle.std.specs.Prelude.{◌≡◌, IfOk, IsOkAnd};
 ghost use Rattle.x25_packet.specs.Made.{Makes, Reads};
 ghost use Rattle.x25_packet.specs.Form.{PlainForm, plain, plain_kind};

@@ -1,5 +1,5 @@
 //! The half octets of an address with its type and plan.
-ghost use Rattle.std.specs.Prelude.{◌≡◌, ◌≤◌, ◌<◌, drop, length, slice_index};
+ghost use Rattle.std.specs.Prelude.{◌≡◌, ◌≤◌, ◌<◌, ◌+◌, ◌*◌, drop, length, slice_index};
 ghost use Rattle.x25_packet.specs.Digits.{halves_at};
 
 use std::marker::Model;
@@ -55,6 +55,17 @@ impl<'a> Halves<'a> {
             start: self.start + usize::from(count),
             count: self.count - usize::from(count),
         }
+    }
+
+    /// The octets that hold them, and how many half octets stand in these before the first: 0 or 1.
+    pub fn octets(&self) -> (&'a [u8], usize)
+        ensures held { halves_at result.0.now result.1 (length self.now) ≡ self.now }
+        ensures before { result.1 ≤ 1 }
+        ensures room { result.1 + length self.now ≤ 2 * length result.0.now }
+        ensures few { 2 * length result.0.now ≤ length self.now + 2 }
+    {
+        let end = (self.start + self.count + 1) / 2;
+        (&self.octets[self.start / 2..end], self.start % 2)
     }
 
     /// The half octet at a place, 0 to 15. The first is at place 0.

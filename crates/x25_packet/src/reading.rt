@@ -1,4 +1,4 @@
-//! Packets read from their octets.
+//! The packets that a station sends, read from their octets.
 ghost use Rattle.std.specs.Prelude.{◌≡◌, ◌≤◌, IfErr, IfOk, IsOkAnd};
 ghost use Rattle.x25_packet.specs.Packet.{PlainPacket, plain};
 ghost use Rattle.x25_packet.specs.Reading.{channel_in, packet_of};

@@ -175,7 +175,23 @@ fn has_halves(octets: &[u8], called: &[u8], calling: &[u8], behind: &[u8]) -> bo
         && are_halves(&block.calling_halves(), calling)
 }
 
+// Whether the calling address stands in these octets, behind so many half octets.
+fn stands_in(octets: &[u8], wanted: &[u8], before: usize) -> bool {
+    let Ok(
+        Form {
+            kind: Kind::Call { body },
+            ..
+        },
+    ) = decode(16, octets)
+    else {
+        return false;
+    };
+    let held = Block::of(true, body).calling_halves().octets();
+    held.0 == wanted && held.1 == before
+}
+
 #[test]
 fn addresses_with_types(rt: HostRuntime) {
     assert!(rt; has_halves(&TYPED, &[1, 1, 4, 9, 3], &[1, 3, 2, 0, 8, 15], &[4, 9, 3]));
+    assert!(rt; stands_in(&TYPED, &[0x31, 0x32, 0x08, 0xF0], 1));
 }

@@ -32,11 +32,13 @@ fn push_digits(digits: &Halves, text: &mut Text)
     ensures text { text.new ≡ text.old ++ map (λ digit. 48 + digit) digits.now }
     ensures size { length text.new ≡ length text.old + length digits.now }
 {
-    let mut figures = [b'0'; 15];
-    for place in 0..digits.len() {
-        figures[place] = b'0' + digits.get(place);
+    let (octets, before) = digits.octets();
+    let mut figures = [b'0'; 16];
+    for place in 0..octets.len() {
+        figures[2 * place] = b'0' + octets[place] / 16;
+        figures[2 * place + 1] = b'0' + octets[place] % 16;
     }
-    text.push(&figures[..digits.len()]);
+    text.push(&figures[before..before + digits.len()]);
 }
 
 /// Appends a label and then an address.

@@ -1,10 +1,11 @@
-use Rattle.std.proofs.Common.{◌≡◌, ◌+◌, ℕ, List, length, map, take}
+use Rattle.std.proofs.Common.{◌≡◌, ◌+◌, ◌*◌, ℕ, List, length, map, take}
+use Rattle.x25_packet.specs.Digits.{halves_of}
 use Rattle.x25_text.proofs.packet_text.push_digits.Given as goal
 
--- the first places have the figures of the first digits
-pub record Shown (figures digits : List ℕ) (count : ℕ) : Type 0 where
-  pub long : length figures ≡ 15
-  pub same : take count figures ≡ map (λ digit. 48 + digit) (take count digits)
+-- the first places have the figures of the half octets of the first octets
+pub record Shown (figures octets : List ℕ) (count : ℕ) : Type 0 where
+  pub long : length figures ≡ 16
+  pub same : take (2 * count) figures ≡ map (λ half. 48 + half) (halves_of (take count octets))
 
 abbrev pub invariant-loop-place : goal.invariant-loop-place
-invariant-loop-place l = Shown l.figures l.digits l.place
+invariant-loop-place l = Shown l.figures l.octets l.place
