@@ -1,14 +1,16 @@
 -- What is acknowledged to an end that talks, the other end has taken in the same stretch.
-use Rattle.x25_handshakes.proofs.Names.{◌≡◌, ◌⊎◌, inl, inr, ℕ, ◌≤◌, List, [], ◌∷◌, ◌++◌, length, Some, refl, sym, ap, subst, ◌∙◌, arith, true≢false, Role, Dte}
-use Rattle.x25_handshakes.proofs.Names.{Dce, Message, no_part, joining, carried_from, carried, CallRequest, Live, At, state_of, live, Packet, Stretch, fresh}
-use Rattle.x25_handshakes.proofs.Names.{fresh_transfer, Phase, Talking, Connection, fresh_call, Channels, all_fresh, Pair, Name, Lists, messages, resets_in}
+use Rattle.x25_handshakes.proofs.Names.{◌≡◌, ◌⊎◌, inl, inr, ℕ, List, [], ◌∷◌, ◌++◌, length, Some, refl, sym, ap, subst, ◌∙◌, arith, true≢false, Role}
+use Rattle.x25_handshakes.proofs.Names.{Message, no_part, joining, carried_from, carried, CallRequest, Live, At, state_of, live, Stretch, fresh}
+use Rattle.x25_handshakes.proofs.Names.{Phase, Talking, Connection, fresh_call, Channels, all_fresh, Pair, Name, Lists, messages, resets_in}
 use Rattle.std.proofs.{Common.{take, drop}, lemmas.List.{take-append-drop, take-append-le}}
-use Rattle.x25_handshakes.proofs.{ArrivalLemmas.{opened, name_opened}, CallLemmas.{TalksRelated-flip}, CallsRelation.{TalksRelated}}
-use Rattle.x25_handshakes.proofs.{ChannelRelation.{Seen, connection_level, ChannelRelated}, HandshakeLemmas.{both_fresh}, JointLemmas.{joint_order}}
-use Rattle.x25_handshakes.proofs.{LawLemmas.{always_holds}, LayerLemmas.{Stands, Stands-turned}, LayersRelation.{channels_level, LayersRelated, EndsRelated}}
-use Rattle.x25_handshakes.proofs.{LineLemmas.{heard_least}, NameLemmas.{name_eq}, Names.{name_at, held_at, IsPrefix, open_at, Laws, Terms}}
-use Rattle.x25_handshakes.proofs.{PartLemmas.{Line-le}, PeerOrder.{in_epochs}, StretchKindLemmas.{messages_handled}, StretchLemmas.{StretchesRelated-fresh}}
-use Rattle.x25_handshakes.proofs.{StretchRelation.{pieces, StretchesRelated}, TextLemmas.{carried-append}, TransferRelation.{stretch_level}}
+use Rattle.x25_handshakes.proofs.{ArrivalLemmas.{opened, name_opened}, OwnCallLemmas.{same_stage, own_transfer_of}}
+use Rattle.x25_handshakes.proofs.{ChannelRelation.{OwnChannel, IsCalled}, CallsRelation.{OwnPhase}}
+use Rattle.x25_handshakes.proofs.{LawLemmas.{always_holds}, LayerLemmas.{Stands, Stands-turned}, LayersRelation.{OwnChannels, LayersRelated, EndsRelated}}
+use Rattle.x25_handshakes.proofs.{NameLemmas.{name_eq}, Names.{name_at, held_at, IsPrefix, open_at, Laws, Terms}}
+use Rattle.x25_handshakes.proofs.{TwoPeerLemmas.{TwoOrder, ChannelsOrder, two_layers_order}, StretchKindLemmas.{messages_handled}, OwnStretchLemmas.{Own-fresh}, ViewLemmas.{epochs_near, epochs_far}}
+use Rattle.x25_handshakes.proofs.{StretchRelation.{Own}, TextLemmas.{carried-append}}
+use Rattle.x25_handshakes.proofs.Names.{as_peer_stretch, as_at, ◌+◌, length-append}
+use Rattle.x25_handshakes.specs.laws.{TwoPeers.{BothInOrder}, TwoLayers.{CallsInOrder}, LayerPeers.{as_stage, as_peer_call, as_peer_channels, as_peer}, PeerClaims.{peer_transfer_of}}
 use Rattle.x25_handshakes.{proofs.TurnLemmas.{Ends-meet}, specs.laws.Acknowledged.{AcknowledgedAreUp, AcknowledgedAreHandedUp}}
 use Rattle.x25_handshakes.specs.laws.{Histories.{held_in, circuit_at, histories_run, histories_start}, PeerClaims.{InEpochs, transfer_of}}
 
@@ -18,56 +20,59 @@ use Rattle.x25_handshakes.specs.laws.{Histories.{held_in, circuit_at, histories_
 abbrev Acked : Stretch → Stretch → Type 0
 Acked x y = AcknowledgedAreUp x y.up
 
-in_stretch : (t b : Terms) (x : Stretch) (u v : List Packet) (y : Stretch) → StretchesRelated t b x u v y → Acked x y
-in_stretch t b x u v y h =
-    let there = h.there in
-    let low : x.acked ≤ length y.taken = omega (arith, there.acks.acks, heard_least x.acked v) in
-    let few : take x.acked x.sent ≡ take x.acked y.taken = ap (take x.acked) there.line.flow ∙ take-append-le x.acked y.taken (pieces u) low in
+in_stretch : {t b : Terms} {x y : Stretch} → Own t x → Own b y → BothInOrder (as_peer_stretch x) (as_peer_stretch y) → Acked x y
+in_stretch {x} {y} own own_there both =
+    let o = both.0 in
+    let low = o.acked in
+    let few : take x.acked x.sent ≡ take x.acked y.taken = ap (take x.acked) (sym o.begins.1) ∙ take-append-le x.acked y.taken o.begins.0 low in
+    let all : length y.taken + length o.begins.0 ≡ length x.sent = sym (length-append y.taken o.begins.0) ∙ ap length o.begins.1 in
     let rest = carried_from (joining no_part (take x.acked y.taken)) (drop x.acked y.taken) in
     record {
-      sent = omega (arith, low, Line-le there.line);
-      down = there.text.messages;
+      sent = omega (arith, low, all);
+      down = own.text.messages;
       first = (
         rest,
         ap (λ l. carried l ++ rest) few ∙ sym (carried-append no_part (take x.acked y.taken) (drop x.acked y.taken))
-            ∙ ap carried (take-append-drop x.acked y.taken) ∙ sym there.up,
+            ∙ ap carried (take-append-drop x.acked y.taken) ∙ sym own_there.up,
       );
     }
 
 abbrev Transfers : At Stretch → At Stretch → Type 0
 Transfers x y = InEpochs Acked fresh fresh x y
 
-in_talk : (t b : Terms) (x : At Stretch) (u v : List Packet) (t₂ b₂ : Terms) (y : At Stretch) → TalksRelated t b x u v t₂ b₂ y → Transfers x y
-in_talk t b x u v t₂ b₂ y h = in_epochs (stretch_level t b) Acked (in_stretch t b) x y h.related.hand
-
--- before p4: any terms do
-both_new : Transfers fresh_transfer fresh_transfer
-both_new =
-    let t : Terms = record { window = 0; size = 0; longest = 0 } in
-    in_epochs (stretch_level t t) Acked (in_stretch t t) fresh_transfer fresh_transfer (both_fresh (stretch_level t t) (StretchesRelated-fresh t t) 0)
+own_epochs : {t b : Terms} {x y : At Stretch} → Own t (state_of x.side) → Own b (state_of y.side) → TwoOrder (as_at as_peer_stretch x) (as_at as_peer_stretch y)
+    → Transfers x y
+own_epochs {t} {b} {x} {y} own there o =
+    epochs_far as_peer_stretch {Q = λ a c. Own t a × BothInOrder (as_peer_stretch a) c} x y (λ a k. in_stretch k.0 there k.1)
+    (λ a k. in_stretch k.0 (Own-fresh b) k.1)
+    (epochs_near as_peer_stretch x (as_at as_peer_stretch y) (λ c k. (own, k)) (λ c k. (Own-fresh t, k)) o)
 
 abbrev Calls : Connection → Connection → Type 0
 Calls x y = Transfers (transfer_of x.phase) (transfer_of y.phase)
 
-in_call : (r : Role) (x : Connection) (u v : List Packet) (y : Connection) → Seen r x u v y → Calls x y
-in_call Dte x u v y h = (joint_order TalksRelated fresh_transfer fresh_transfer Transfers both_new in_talk x.phase y.phase x.made x.indicated y.made
-    y.indicated u v h).2
-in_call Dce x u v y h =
-    (joint_order TalksRelated fresh_transfer fresh_transfer (λ b a. Transfers a b) both_new
-    (λ t b y u v t₂ b₂ x h. in_talk t₂ b₂ x v u t b y (TalksRelated-flip h))
-    y.phase x.phase y.made y.indicated x.made x.indicated v u h).2
+in_call : (x y : Connection) → OwnPhase x.phase → OwnPhase y.phase → CallsInOrder (as_peer_call x) (as_peer_call y) → Calls x y
+in_call x y own there o =
+    own_epochs (own_transfer_of x.phase own).1 (own_transfer_of y.phase there).1
+    (subst (λ z. TwoOrder z (as_at as_peer_stretch (transfer_of y.phase))) (same_stage x.phase)
+    (subst (TwoOrder (peer_transfer_of (as_stage x.phase))) (same_stage y.phase) o.stretches))
 
 abbrev Channel : At Connection → At Connection → Type 0
 Channel x y = InEpochs Calls fresh_call fresh_call x y
 
-in_channel : (r : Role) {x : At Connection} {u v : List Packet} {y : At Connection} → ChannelRelated r x u v y → Channel x y
-in_channel r {x} {u} {v} {y} h = in_epochs (connection_level r) Calls (in_call r) x y h.hand
+in_channel : {x y : At Connection} → OwnChannel x → OwnChannel y → ChannelsOrder (as_at as_peer_call x) (as_at as_peer_call y) → Channel x y
+in_channel {x} {y} own there o =
+    epochs_far as_peer_call {Q = λ a c. OwnPhase a.phase × CallsInOrder (as_peer_call a) c} x y (λ a k. in_call a (state_of y.side) k.0 there k.1)
+    (λ a k. in_call a fresh_call k.0 tt k.1)
+    (epochs_near as_peer_call x (as_at as_peer_call y) (λ c k. (own, k)) (λ c k. (tt, k)) o)
 
 abbrev AllChannels : Channels → Channels → Type 0
 AllChannels x y = (k : ℕ) → Channel (x k) (y k)
 
 in_layers : (r : Role) {x : At Channels} {L K : List _} {y : At Channels} → LayersRelated r x L K y → InEpochs AllChannels all_fresh all_fresh x y
-in_layers r {x} {L} {K} {y} h = in_epochs (channels_level r) AllChannels (λ x u v y each k. in_channel r (each.each k)) x y h.hand
+in_layers r {x} {L} {K} {y} h =
+    epochs_far as_peer_channels {Q = λ a c. OwnChannels a × ((k : ℕ) → ChannelsOrder (as_at as_peer_call (a k)) (c k))} x y
+    (λ a o k. in_channel (o.0 k) (h.own_there k) (o.1 k)) (λ a o k. in_channel (o.0 k) tt (o.1 k))
+    (epochs_near as_peer_channels x (as_peer y) (λ c o. (h.near.own, o)) (λ c o. (λ k. tt, o)) (two_layers_order IsCalled IsCalled r h.near.two))
 
 -- ---- a stretch that is open: the other end is there too, or has done nothing there
 

@@ -5,7 +5,7 @@ use Rattle.x25_handshakes.proofs.Names.{pair_run, pair_start, Name, messages, na
 use Rattle.std.proofs.lemmas.Option.{same_Some}
 use Rattle.x25_circuit.specs.Message.{More, Partial, joined}
 use Rattle.x25_handshakes.proofs.{ClaimLemmas.{open_stretch}, LayerLemmas.{Stands, Stands-turned, Stands-run, Stands-start}, LayersRelation.{EndsRelated}}
-use Rattle.x25_handshakes.{proofs.StretchLemmas.{FollowsFrom-from_Dir}, proofs.TextLemmas.{joining-append}, specs.laws.Arrivals.{HasArrived, AllArrives}}
+use Rattle.x25_handshakes.{proofs.StretchLemmas.{follows}, proofs.TextLemmas.{joining-append}, specs.laws.Arrivals.{HasArrived, AllArrives}}
 
 -- an end of which the stretch x is open on channel k
 pub record Opened (s : Side (At Channels)) (k : ℕ) (x : Stretch) : Type 0 where
@@ -101,8 +101,8 @@ arrived {r} {w} {k} {x} {y} stands o p same none =
     p.circuit ∙ ap (λ n. live n.clears (record { phase = Talking p.sends p.takes (live n.resets y); made = p.made; indicated = p.indicated })) (sym same) in
     let got = open_stretch r o.sends o.takes p.sends p.takes o.restarts o.clears o.resets o.channels p.channels k o.made o.indicated p.made p.indicated x y
     o.circuit there top in
-    let all = FollowsFrom-from_Dir got.1.there in
-    record { messages = λ waits. all.all refl (nothing_waits x.sent x.rest got.1.there.text.whole waits); interrupts = all.int_all refl }
+    let all = follows got.1 in
+    record { messages = λ waits. all.all refl (nothing_waits x.sent x.rest got.1.own.text.whole waits); interrupts = all.int_all refl }
 
 pub all_arrives : Laws → AllArrives
 all_arrives laws events k x y near far same =

@@ -1,22 +1,25 @@
--- What is kept of two circuits between two clears. The first of the two ends is the DTE, the second the DCE.
-use Rattle.x25_handshakes.proofs.Names.{◌≡◌, ◌⊎◌, ℕ, List, [], ◌∷◌, ◌++◌, None, true, Params, may_propose, may_answer, said_in, CallRequest, At, OwnStep}
-use Rattle.x25_handshakes.proofs.Names.{Packet, Call, Accept, Stretch, fresh, fresh_transfer, Phase, Unused, Waiting, Offered, Crossed, Talking, Connection}
-use Rattle.x25_handshakes.proofs.{Names.{Stage, Terms, called_terms, calling_terms}, StretchRelation.{StretchesRelated}, TermsLemmas.{IsSound}}
-use Rattle.x25_handshakes.proofs.TransferRelation.{OwnTransfer}
+-- What is kept of two ends between two clears. The first of the two ends is the DTE, the second the DCE.
+use Rattle.x25_handshakes.proofs.Names.{◌≡◌, ◌⊎◌, ℕ, List, [], ◌∷◌, true, Params, may_propose, may_answer, said_in, CallRequest, At}
+use Rattle.x25_handshakes.proofs.Names.{Packet, Call, Accept, Stretch, PeerStretch, fresh_peer_transfer, state_of, Phase, Unused, Waiting, Offered, Crossed, Talking}
+use Rattle.x25_handshakes.proofs.{Names.{Stage, Terms, called_terms, calling_terms}, StretchRelation.{Own}, TermsLemmas.{IsSound}}
+use Rattle.x25_handshakes.proofs.TransferRelation.{TwoTransfers, TransfersRelated}
 
--- our own end and the other one in p4, of whatever kind: what the one sends by, the other takes by; R is kept in a
--- stretch, and y₀ is the other end as one begins
-pub record TalkOf {T : Type 0} (R : Terms → Terms → Stretch → List Packet → List Packet → T → Type 0) (y₀ : T) (t b : Terms) (x : At Stretch)
-    (u v : List Packet) (t₂ b₂ : Terms) (y : At T) : Type 0 where
+-- two ends in p4, of whatever kinds: what the one sends by, the other takes by, and R is kept of them
+pub record TalkOf {A B : Type 0} (R : Terms → Terms → A → List Packet → List Packet → B → Type 0) (t b : Terms) (x : A) (u v : List Packet)
+    (t₂ b₂ : Terms) (y : B) : Type 0 where
   pub there : b₂ ≡ t
   pub back : t₂ ≡ b
   pub sound : IsSound t
   pub sound_back : IsSound b
-  pub related : OwnTransfer (R t b) y₀ x u v y
+  pub related : R t b x u v y
+
+-- any two ends that keep the rules
+abbrev pub TwoTalks : Terms → Terms → At PeerStretch → List Packet → List Packet → Terms → Terms → At PeerStretch → Type 0
+TwoTalks t b x u v t₂ b₂ y = TalkOf TwoTransfers t b x u v t₂ b₂ y
 
 -- both are our own
 abbrev pub TalksRelated : Terms → Terms → At Stretch → List Packet → List Packet → Terms → Terms → At Stretch → Type 0
-TalksRelated t b x u v t₂ b₂ y = TalkOf StretchesRelated fresh t b x u v t₂ b₂ y
+TalksRelated t b x u v t₂ b₂ y = TalkOf TransfersRelated t b x u v t₂ b₂ y
 
 -- nothing is on the way
 abbrev pub Nil : List Packet → Type 0
@@ -96,14 +99,15 @@ JointOf R a b (Talking t k x) (Waiting q) ma ia mb ib u v = Accepted q t k (λ w
 JointOf R a b (Talking t k x) (Talking t₂ k₂ y) ma ia mb ib u v = R t k x u v t₂ k₂ y × (((ia ≡ []) × (ib ≡ ma)) ⊎ ((ia ≡ mb) × (ib ≡ [])))
 JointOf R a b stage other ma ia mb ib u v = ⊥
 
--- both ends are our own
-abbrev pub Joint : Phase → Phase → List CallRequest → List CallRequest → List CallRequest → List CallRequest → List Packet → List Packet → Type 0
-Joint a b ma ia mb ib u v = JointOf TalksRelated fresh_transfer fresh_transfer a b ma ia mb ib u v
+-- any two ends that keep the rules
+abbrev pub TwoJoint : Stage (At PeerStretch) → Stage (At PeerStretch)
+    → List CallRequest → List CallRequest → List CallRequest → List CallRequest → List Packet → List Packet → Type 0
+TwoJoint a b ma ia mb ib u v = JointOf TwoTalks fresh_peer_transfer fresh_peer_transfer a b ma ia mb ib u v
 
--- a step of our own end that is no error, and keeps what R says of it and the other end
-abbrev pub GoodCall : {T : Type 0} → (Connection → List Packet → List Packet → T → Type 0) → OwnStep Connection Packet → List Packet → List Packet → T → Type 0
-GoodCall R s u v y = (s.error ≡ None) × R s.next (u ++ s.out) v y
-
--- where an end is not in p1
-abbrev pub IsCalled : Connection → Type 0
-IsCalled x = x.phase ≡ Unused → ⊥
+-- what our own end keeps by itself: what is proposed may be, its terms are sound, and what it keeps in p4
+abbrev pub OwnPhase : Phase → Type 0
+OwnPhase Unused = Unit {0}
+OwnPhase (Waiting mine) = may_propose mine ≡ true
+OwnPhase (Offered theirs) = may_propose theirs ≡ true
+OwnPhase (Crossed mine) = may_propose mine ≡ true
+OwnPhase (Talking t b at) = IsSound t × Own t (state_of at.side)

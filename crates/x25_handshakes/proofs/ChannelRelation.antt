@@ -1,6 +1,8 @@
--- What is kept of the two ends of a channel.
-use Rattle.x25_handshakes.proofs.Names.{List, Mark, Inner, Request, Confirm, At, Packet, Clear, ClearConf, Connection, fresh_call, Role, Dte, Dce}
-use Rattle.x25_handshakes.proofs.{CallsRelation.{Joint, IsCalled}, HandshakeRelation.{Level, Handshaken}}
+-- What is kept of two ends of a call, and of a channel.
+use Rattle.x25_handshakes.proofs.Names.{List, Mark, Inner, Request, Confirm, At, Packet, Clear, ClearConf, Connection, Role, Dte, Dce, PeerCall, fresh_peer_call}
+use Rattle.x25_handshakes.proofs.Names.{◌≡◌, Unused, state_of}
+use Rattle.x25_handshakes.specs.laws.LayerPeers.{as_peer_call}
+use Rattle.x25_handshakes.proofs.{CallsRelation.{TwoJoint, OwnPhase}, HandshakeRelation.{Level, Handshaken}}
 
 -- what a packet is to the handshake of CLEAR
 abbrev pub clear_mark : Packet → Mark
@@ -8,20 +10,31 @@ clear_mark Clear = Request
 clear_mark ClearConf = Confirm
 clear_mark other = Inner
 
--- the relation of the calls, seen from the end of this role
-abbrev pub Seen : Role → Connection → List Packet → List Packet → Connection → Type 0
-Seen Dte x u v y = Joint x.phase y.phase x.made x.indicated y.made y.indicated u v
-Seen Dce x u v y = Joint y.phase x.phase y.made y.indicated x.made x.indicated v u
+-- what is kept of any two ends in a call, seen from the end of this role
+abbrev pub TwoCalls : Role → PeerCall → List Packet → List Packet → PeerCall → Type 0
+TwoCalls Dte x u v y = TwoJoint x.stage y.stage x.made x.indicated y.made y.indicated u v
+TwoCalls Dce x u v y = TwoJoint y.stage x.stage y.made y.indicated x.made x.indicated v u
 
--- our own end and the other one, of whatever kind: R is kept between two clears, y₀ is the other end as one begins, and `left` is so of an end that sent CLEAR
-abbrev pub own_call_level : {T : Type 0} → (Connection → Type 0) → (T → Type 0) → (Connection → List Packet → List Packet → T → Type 0) → T
-    → Level Connection T Packet
-own_call_level left left_there R y₀ = record { mark = clear_mark; fresh = fresh_call; fresh_there = y₀; gone = left; gone_there = left_there; related = R }
+-- two of our own
+pub record Seen (r : Role) (x : Connection) (u v : List Packet) (y : Connection) : Type 0 where
+  pub own : OwnPhase x.phase
+  pub own_there : OwnPhase y.phase
+  pub two : TwoCalls r (as_peer_call x) u v (as_peer_call y)
 
--- two ends that are our own, with a call inside
-abbrev pub connection_level : Role → Level Connection Connection Packet
-connection_level r = own_call_level IsCalled IsCalled (Seen r) fresh_call
+-- what is asked of an end as it sends CLEAR: that it isn't in p1, as of ours; or nothing
+abbrev pub IsCalled : PeerCall → Type 0
+IsCalled x = x.stage ≡ Unused → ⊥
 
--- the two ends of a channel keep step over CLEARs
-abbrev pub ChannelRelated : Role → At Connection → List Packet → List Packet → At Connection → Type 0
-ChannelRelated r x L K y = Handshaken (connection_level r) x L K y
+abbrev pub IsAny : PeerCall → Type 0
+IsAny x = Unit {0}
+
+-- two ends of a channel that keep the rules, over CLEARs; G and H are asked of them
+abbrev pub two_call_level : (PeerCall → Type 0) → (PeerCall → Type 0) → Role → Level PeerCall PeerCall Packet
+two_call_level G H r = record { mark = clear_mark; fresh = fresh_peer_call; fresh_there = fresh_peer_call; gone = G; gone_there = H; related = TwoCalls r }
+
+abbrev pub TwoChannels : (PeerCall → Type 0) → (PeerCall → Type 0) → Role → At PeerCall → List Packet → List Packet → At PeerCall → Type 0
+TwoChannels G H r x L K y = Handshaken (two_call_level G H r) x L K y
+
+-- what our own end keeps by itself
+abbrev pub OwnChannel : At Connection → Type 0
+OwnChannel x = OwnPhase (state_of x.side).phase

@@ -4,8 +4,11 @@ use Rattle.x25_handshakes.proofs.Names.{ap, subst, ◌∙◌, arith, true≢fals
 use Rattle.x25_handshakes.proofs.Names.{Data, Stretch, Pull, stretch_does, pulls, Packet, Inside, lifted, Phase, Waiting, Crossed, Talking, Connection, Talks}
 use Rattle.x25_handshakes.proofs.Names.{Within, lifted_call, channel_acts, LayerPacket, Channels, addressed, Pair, pair_run, pair_start, messages, resets_in}
 use Rattle.std.proofs.lemmas.Bool.{lt-ltb}
-use Rattle.x25_handshakes.proofs.{ArrivalLemmas.{Opened, opened, name_opened}, CallLemmas.{TalksRelated-flip}, CallsRelation.{Joint}}
-use Rattle.x25_handshakes.proofs.{ChannelRelation.{Seen, ChannelRelated}, ClaimLemmas.{BothTalk}, HandshakeLemmas.{cons≢nil}}
+use Rattle.x25_handshakes.proofs.{Names.{as_peer_stretch, as_side}, StretchRelation.{Kept}}
+use Rattle.x25_handshakes.proofs.{Names.{as_at}, LayersRelation.{OwnChannels}, ViewLemmas.{live_is}}
+use Rattle.x25_handshakes.proofs.{ArrivalLemmas.{Opened, opened, name_opened}, CallLemmas.{both_talk}, CallsRelation.{TwoJoint, OwnPhase}, PeerCallLemmas.{TwoTalks-flip}}
+use Rattle.x25_handshakes.specs.laws.LayerPeers.{as_stage, as_peer_call, as_peer_channels}
+use Rattle.x25_handshakes.proofs.{ChannelRelation.{Seen, TwoCalls, TwoChannels, IsCalled, OwnChannel}, ClaimLemmas.{BothTalk}, HandshakeLemmas.{cons≢nil}}
 use Rattle.x25_handshakes.proofs.{HandshakeRelation.{Level, Handshake}, LayerLemmas.{Stands, Stands-turned, Stands-run, Stands-start}}
 use Rattle.x25_handshakes.proofs.{LayersRelation.{EndsRelated}, Names.{name_at, open_in, open_phase, open_call, open_channel, open_at, Laws, Terms}}
 use Rattle.x25_handshakes.{proofs.PartLemmas.{Line-le}, specs.laws.Calls.{in_transfer}, specs.laws.Drained.{is_up, pulled_at, IsOpenThere, AllIsKnown}}
@@ -25,21 +28,24 @@ at_rest x y (inr (inr later)) = absurd later.back
 
 -- an end in p4 with nothing on the way: the other is in p4 too
 
-rest_a : (t b : Terms) (x : At Stretch) (c : Phase) (ma ia mb ib : List CallRequest) → Joint (Talking t b x) c ma ia mb ib [] [] → BothTalk t b x [] [] c
-rest_a t b x (Talking t₂ b₂ y) ma ia mb ib h = record { sends = t₂; takes = b₂; other = y; phase = refl; talks = h.0 }
-rest_a t b x (Waiting q) ma ia mb ib h = absurd h.0
-rest_a t b x other ma ia mb ib h = absurd h
+rest_a : (t b : Terms) (x : At Stretch) (c : Phase) (ma ia mb ib : List CallRequest) → OwnPhase (Talking t b x) → OwnPhase c
+    → TwoJoint (as_stage (Talking t b x)) (as_stage c) ma ia mb ib [] [] → BothTalk t b x [] [] c
+rest_a t b x (Talking t₂ b₂ y) ma ia mb ib own there h = record { sends = t₂; takes = b₂; other = y; phase = refl; talks = both_talk own there h.0 }
+rest_a t b x (Waiting q) ma ia mb ib own there h = absurd h.0
+rest_a t b x other ma ia mb ib own there h = absurd h
 
-rest_b : (t b : Terms) (a : Phase) (y : At Stretch) (ma ia mb ib : List CallRequest) → Joint a (Talking t b y) ma ia mb ib [] [] → BothTalk t b y [] [] a
-rest_b t b (Talking t₂ b₂ x) y ma ia mb ib h = record { sends = t₂; takes = b₂; other = x; phase = refl; talks = TalksRelated-flip h.0 }
-rest_b t b (Waiting q) y ma ia mb ib h = absurd h.1
-rest_b t b (Crossed q) y ma ia mb ib h = absurd h.1
-rest_b t b a y ma ia mb ib h = absurd h
+rest_b : (t b : Terms) (a : Phase) (y : At Stretch) (ma ia mb ib : List CallRequest) → OwnPhase (Talking t b y) → OwnPhase a
+    → TwoJoint (as_stage a) (as_stage (Talking t b y)) ma ia mb ib [] [] → BothTalk t b y [] [] a
+rest_b t b (Talking t₂ b₂ x) y ma ia mb ib own there h =
+    record { sends = t₂; takes = b₂; other = x; phase = refl; talks = both_talk own there (TwoTalks-flip h.0) }
+rest_b t b (Waiting q) y ma ia mb ib own there h = absurd h.1
+rest_b t b (Crossed q) y ma ia mb ib own there h = absurd h.1
+rest_b t b a y ma ia mb ib own there h = absurd h
 
 rest_seen : (r : Role) (t b : Terms) (m i : List CallRequest) (x : At Stretch) (y : Connection)
     → Seen r (record { phase = Talking t b x; made = m; indicated = i }) [] [] y → BothTalk t b x [] [] y.phase
-rest_seen Dte t b m i x y h = rest_a t b x y.phase m i y.made y.indicated h
-rest_seen Dce t b m i x y h = rest_b t b y.phase x y.made y.indicated m i h
+rest_seen Dte t b m i x y h = rest_a t b x y.phase m i y.made y.indicated h.own h.own_there h.two
+rest_seen Dce t b m i x y h = rest_b t b y.phase x y.made y.indicated m i h.own h.own_there h.two
 
 -- what a pull sends in a stretch, on its channel
 abbrev sent_by : ℕ → ℕ → Terms → Terms → List CallRequest → List CallRequest → ℕ → OwnStep Stretch Packet → List LayerPacket
@@ -88,26 +94,37 @@ known {r} {w} {k} {x} stands o z up out back =
     subst (λ s. EndsRelated r (Live (live o.restarts o.channels)) [] [] s) up
     (rw (sym o.end) (subst (λ l. EndsRelated r w.near [] l w.far) back
     (subst (λ l. EndsRelated r w.near l w.back w.far) out stands.top))) in
-    let one = at_rest o.channels z.side top.hand in
-    let y = one.state in
-    let chan : ChannelRelated r (live o.clears a) [] [] (y k) = subst (λ c. ChannelRelated r c [] [] (y k)) o.circuit (one.related.each k) in
-    let two = at_rest a (y k).side chan.hand in
-    let talk = rest_seen r o.sends o.takes o.made o.indicated (live o.resets x) two.state two.related in
+    let one = at_rest (as_peer_channels o.channels) (as_side as_peer_channels z.side) top.near.two.hand in
+    let up_there = live_is as_peer_channels z.side one.state one.side in
+    let y = up_there.0 in
+    let chan : TwoChannels IsCalled IsCalled r (live o.clears (as_peer_call a)) [] [] (as_at as_peer_call (y k)) =
+    subst (λ c. TwoChannels IsCalled IsCalled r (as_at as_peer_call c) [] [] (as_at as_peer_call (y k))) o.circuit
+    (subst (λ g. TwoChannels IsCalled IsCalled r (as_at as_peer_call (o.channels k)) [] [] (g k)) (sym up_there.2) (one.related.each k)) in
+    let two = at_rest (as_peer_call a) (as_side as_peer_call (y k).side) chan.hand in
+    let called = live_is as_peer_call (y k).side two.state two.side in
+    let c = called.0 in
+    let seen : Seen r a [] [] c = record {
+      own = subst OwnChannel o.circuit (top.near.own k);
+      two = subst (λ s. TwoCalls r (as_peer_call a) [] [] s) (sym called.2) two.related;
+      own_there = subst (λ (s : Side Connection). OwnPhase (state_of s).phase) called.1 (subst (λ s. OwnChannels (state_of s)) up_there.1 top.own_there k);
+    } in
+    let talk = rest_seen r o.sends o.takes o.made o.indicated (live o.resets x) c seen in
     let at = talk.other in
-    let three = at_rest x at.side talk.talks.related.hand in
-    let q = three.state in
-    let both = three.related in
-    let acked : x.acked ≡ length x.sent = omega (arith, Line-le both.there.line, both.told.acks) in
+    let three = at_rest (as_peer_stretch x) (as_side as_peer_stretch at.side) talk.talks.related.two.hand.hand in
+    let live_there = live_is as_peer_stretch at.side three.state three.side in
+    let q = live_there.0 in
+    let there = (subst (λ s. Kept o.sends o.takes (as_peer_stretch x) [] [] s) (sym live_there.2) three.related).there in
+    let acked : x.acked ≡ length x.sent = omega (arith, Line-le there.line, there.acks.acks) in
     record {
       stretch = q;
-      opened = ap (λ s. open_at s k) up ∙ ap (λ s. open_channel s k) one.side ∙ ap open_call two.side ∙ ap open_phase talk.phase ∙ ap open_in three.side;
+      opened = ap (λ s. open_at s k) up ∙ ap (λ s. open_channel s k) up_there.1 ∙ ap open_call called.1 ∙ ap open_phase talk.phase ∙ ap open_in live_there.1;
       same_name = name_opened o ∙ ap (λ n. record { restarts = n; clears = o.clears; resets = o.resets }) one.epochs
           ∙ ap (λ n. record { restarts = z.epoch; clears = n; resets = o.resets }) two.epochs
           ∙ ap (λ n. record { restarts = z.epoch; clears = (y k).epoch; resets = n }) three.epochs
-          ∙ sym (named_by z k w.far y two.state talk.sends talk.takes at up one.side two.side talk.phase);
+          ∙ sym (named_by z k w.far y c talk.sends talk.takes at up up_there.1 called.1 talk.phase);
       acked = acked;
-      ready = both.told.ready;
-      waits = λ none. not_ready x q both.told.ready (held_back k o.clears o.sends o.takes o.made o.indicated o.resets x talk.talks.sound.least acked
+      ready = there.ready;
+      waits = λ none. not_ready x q there.ready (held_back k o.clears o.sends o.takes o.made o.indicated o.resets x talk.talks.sound.least acked
           (subst (λ c. addressed k (channel_acts c (Within (Talks (Inside Pull)))).out ≡ []) o.circuit
           (subst (λ s. pulled_at s k ≡ []) o.end none)));
     }

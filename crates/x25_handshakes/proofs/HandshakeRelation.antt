@@ -1,6 +1,6 @@
 -- What a handshake keeps of two ends and the two lines between them, over any relation of the states within an epoch. The two ends may be of two
 -- kinds: ours, and any peer.
-use Rattle.x25_handshakes.proofs.Names.{◌≡◌, ◌⊎◌, ℕ, suc, List, [], ◌∷◌, ◌++◌, Option, None, Bool, true, false, Mark, Inner, Request, Confirm, Side, Live, Left}
+use Rattle.x25_handshakes.proofs.Names.{◌≡◌, ◌⊎◌, ℕ, suc, List, [], ◌∷◌, Bool, true, false, Mark, Inner, Request, Confirm, Side, Live, Left}
 use Rattle.x25_handshakes.{proofs.Names.{At}, specs.laws.Handshake.{has_left}}
 
 abbrev pub kept_before : {P : Type 0} → Mark → P → List P → List P
@@ -88,11 +88,6 @@ Handshake l ex ey x y L K = Same l ex ey x y L K ⊎ Ahead l ex ey x y L K ⊎ L
 -- of two ends, each in its epoch
 pub record Handshaken {S T P : Type 0} (l : Level S T P) (x : At S) (L K : List P) (y : At T) : Type 0 where
   pub hand : Handshake l x.epoch y.epoch x.side y.side L K
-
--- a step of the first that is no error, and keeps this
-pub record GoodStep {S T P : Type 0} (l : Level S T P) (error : Option ℕ) (next : At S) (out L K : List P) (y : At T) : Type 0 where
-  pub quiet : error ≡ None
-  pub kept : Handshaken l next (L ++ out) K y
 
 -- each of these packets
 abbrev pub Each : {P : Type 0} → (P → Type 0) → List P → Type 0

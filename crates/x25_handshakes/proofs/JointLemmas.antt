@@ -4,8 +4,9 @@ use Rattle.x25_handshakes.proofs.Names.{◌≡◌, inl, inr, List, [], ◌∷◌
 use Rattle.x25_handshakes.proofs.Names.{Stage, Unused, Waiting, Offered, Crossed, Talking, Terms, Params, CallRequest}
 use Rattle.x25_handshakes.proofs.{CallsRelation.{Nil, OneCall, MaybeCall, Accepted, CallAccepted, TalksOf, JointOf}, ChannelRelation.{clear_mark}}
 use Rattle.x25_handshakes.proofs.{HandshakeLemmas.{each_map}, HandshakeRelation.{AllInner}}
-use Rattle.x25_handshakes.proofs.{OwnCallLemmas.{Accepted-some, CallAccepted-some}, TransferRelation.{InTransfer, AllInTransfer}}
+use Rattle.x25_handshakes.proofs.{StageLemmas.{Accepted-some, CallAccepted-some}, TransferRelation.{AllInTransfer}}
 use Rattle.x25_handshakes.specs.laws.PeerClaims.{in_stage}
+use Rattle.x25_handshakes.specs.laws.TwoPeers.{IsOfTransfer}
 
 -- ---- no CLEAR and no confirmation of it is on the way between two clears
 
@@ -15,9 +16,9 @@ Quiet u = AllInner clear_mark u
 
 -- packets of p4 are neither CLEAR nor its confirmation
 pub quiet_transfer : (u : List Packet) → AllInTransfer u → Quiet u
-quiet_transfer u h = each_map InTransfer (λ p. clear_mark p ≡ Inner) inner u h
+quiet_transfer u h = each_map IsOfTransfer (λ p. clear_mark p ≡ Inner) inner u h
   where
-    inner : (p : Packet) → InTransfer p → clear_mark p ≡ Inner
+    inner : (p : Packet) → IsOfTransfer p → clear_mark p ≡ Inner
     inner Clear is = absurd is
     inner ClearConf is = absurd is
     inner p is = refl

@@ -1,83 +1,31 @@
--- Two channels of ours between two restarts, where no CLEAR comes in p1, and two layers keep their relation, and no run has a procedure error.
-use Rattle.x25_handshakes.proofs.Names.{ℕ, List, [], Option, refl, ◌≡◌, ◌∷◌, None, Bool, true, false, if◌then◌else◌, ap, ◌∙◌, At, Side, Live, Left, first_error}
-use Rattle.x25_handshakes.proofs.Names.{Packet, Stretch, Connection, fresh_call, fresh_channel, fresh_transfer, Laws, other_role, LayerPacket, Restart}
-use Rattle.x25_handshakes.proofs.Names.{Channels, all_fresh, layer_takes, LayerAct, layer_acts, Pair, Move, Acts, Takes, LinkDown, pair_moves, LayerEvent}
-use Rattle.x25_handshakes.proofs.Names.{pair_run, pair_start, Terms, Role, Dte, Dce}
-use Rattle.x25_handshakes.proofs.{CallLemmas.{Seen-takes, Seen-acts, Seen-fresh, Seen-free}, CallsRelation.{TalksRelated, IsCalled}}
-use Rattle.x25_handshakes.proofs.ChannelRelation.{Seen, connection_level, ChannelRelated}
-use Rattle.x25_handshakes.proofs.{HandshakeLemmas.{hand_flip, both_fresh, hand_map, ext_step, both_requests}, JointLemmas.{Quiet, quiet_transfer, quiet_joint}}
-use Rattle.x25_handshakes.proofs.LayersRelation.{OnEach, channels_level, LayersRelated, GoodLayer, EndsRelated}
-use Rattle.x25_handshakes.proofs.OwnChannelLemmas.{OwnCalls, not_p1, channel_takes_good, channel_acts_good}
-use Rattle.x25_handshakes.{proofs.OwnLayerLemmas.{OwnChannels, layer_takes_good, layer_acts_good}, specs.laws.Layers.{turned}}
-
-Seen-flip : (r : Role) (x : Connection) (u v : List Packet) (y : Connection) → Seen r x u v y → Seen (other_role r) y v u x
-Seen-flip Dte x u v y h = h
-Seen-flip Dce x u v y h = h
-
-talk_quiet : (t b : Terms) (x : At Stretch) (u v : List Packet) (t₂ b₂ : Terms) (y : At Stretch) → TalksRelated t b x u v t₂ b₂ y → Quiet u × Quiet v
-talk_quiet t b x u v t₂ b₂ y h = (quiet_transfer u h.related.there, quiet_transfer v h.related.back)
-
-Seen-quiet : (r : Role) (x : Connection) (u v : List Packet) (y : Connection) → Seen r x u v y → Quiet u × Quiet v
-Seen-quiet Dte x u v y h = quiet_joint TalksRelated fresh_transfer fresh_transfer talk_quiet x.phase y.phase x.made x.indicated y.made y.indicated u v h
-Seen-quiet Dce x u v y h =
-    let k = quiet_joint TalksRelated fresh_transfer fresh_transfer talk_quiet y.phase x.phase y.made y.indicated x.made x.indicated v u h in
-    (k.1, k.0)
-
-pub ChannelRelated-flip : (r : Role) {x : At Connection} {L K : List Packet} {y : At Connection} → ChannelRelated r x L K y
-    → ChannelRelated (other_role r) y K L x
-ChannelRelated-flip r {x} {L} {K} {y} h = record {
-  hand = hand_flip
-      (hand_map (λ x u v y. Seen (other_role r) y v u x) (λ x u v y k. Seen-flip r x u v y k) h.hand);
-}
-
-pub ChannelRelated-fresh : (r : Role) → ChannelRelated r fresh_channel [] [] fresh_channel
-ChannelRelated-fresh r = record { hand = both_fresh (connection_level r) (Seen-fresh r) 0 }
-
--- ---- an end beside another of ours
-
--- of an error that is found
-abbrev pub call_found : Packet → Option ℕ → Option ℕ
-call_found p e = e
-
-pub own_calls : Laws → (r : Role) → OwnCalls IsCalled IsCalled (Seen r) fresh_call r call_found
-own_calls laws r = record {
-  empty = Seen-fresh r;
-  quiet = λ x u v y h. Seen-quiet r x u v y h;
-  acts = λ x u v y a h. Seen-acts laws r x u v y a h;
-  takes = λ x u p v y h. Seen-takes r x u p v y h;
-  called = λ x is. is;
-  none = λ p. refl;
-  clear = λ x u y left h. not_p1 x.phase (λ is. Seen-free r x y u is left h);
-}
-
--- ---- a layer beside another of ours
-
--- of an error that is found
-abbrev pub as_found : LayerPacket → Option ℕ → Option ℕ
-as_found p e = e
-
-own_channels : Laws → (r : Role) → OwnChannels (ChannelRelated r) all_fresh r as_found
-own_channels laws r = record {
-  empty = λ h. ChannelRelated-fresh r;
-  acts = λ x L K y a h. (let good = channel_acts_good IsCalled IsCalled (Seen r) fresh_call r call_found (own_calls laws r) a h in (good.quiet, good.kept));
-  takes = λ k x L p K y h. (let good = channel_takes_good IsCalled IsCalled (Seen r) fresh_call r call_found (own_calls laws r) p K h in
-      (good.quiet, good.kept));
-  none = λ p. refl;
-}
+-- Two layers of ours keep what is kept of any two that keep the rules, and no run has a procedure error.
+use Rattle.x25_handshakes.proofs.Names.{◌≡◌, ℕ, List, [], ◌∷◌, Option, refl, None, Bool, true, false, if◌then◌else◌, ap, ◌∙◌, At, Side, Live, Left}
+use Rattle.x25_handshakes.proofs.Names.{first_error, Laws, other_role, LayerPacket, Restart, Channels, layer_takes, LayerAct, layer_acts, Pair, Move, Acts}
+use Rattle.x25_handshakes.proofs.Names.{Takes, LinkDown, pair_moves, LayerEvent, pair_run, pair_start, Role, Dte, as_side}
+use Rattle.x25_handshakes.proofs.{ChannelRelation.{IsCalled}, HandshakeLemmas.{ext_step, both_requests}}
+use Rattle.x25_handshakes.proofs.LayersRelation.{two_layers_level, LayersRelated, GoodLayer, EndsRelated}
+use Rattle.x25_handshakes.proofs.{OwnLayerLemmas.{layer_quiet, own_layer_acts, own_layer_takes}, PeerLayerLemmas.{two_layers_flip, all_channels_fresh}}
+use Rattle.x25_handshakes.proofs.PeerLayerLemmas.{layer_next}
+use Rattle.x25_handshakes.specs.laws.{LayerPeers.{as_peer, as_peer_channels}, Layers.{turned}}
 
 pub GoodLayer-takes : Laws → (r : Role) {x : At Channels} {L : List LayerPacket} (p : LayerPacket) (K : List LayerPacket) {y : At Channels}
     → LayersRelated r x L (p ∷ K) y → GoodLayer r (layer_takes r x p) L K y
-GoodLayer-takes laws r {x} {L} p K {y} h = layer_takes_good (ChannelRelated r) all_fresh r as_found (own_channels laws r) p K h
+GoodLayer-takes laws r {x} {L} p K {y} h =
+    let good = own_layer_takes laws IsCalled r K (as_peer y) x L p h.near in
+    record {
+      quiet = layer_quiet r x.epoch x.side p
+          (layer_next IsCalled IsCalled r x.epoch (as_side as_peer_channels x.side) p L K (as_peer y) h.near.two) good.0;
+      kept = record { near = good.1; own_there = h.own_there };
+    }
 
 pub GoodLayer-acts : Laws → (r : Role) {x : At Channels} {L K : List LayerPacket} {y : At Channels} (a : LayerAct) → LayersRelated r x L K y
     → GoodLayer r (layer_acts x a) L K y
-GoodLayer-acts laws r {x} {L} {K} {y} a h = layer_acts_good (ChannelRelated r) all_fresh r as_found (own_channels laws r) a h
+GoodLayer-acts laws r {x} {L} {K} {y} a h =
+    let good = own_layer_acts laws IsCalled r K (as_peer y) x L a h.near in
+    record { quiet = good.0; kept = record { near = good.1; own_there = h.own_there } }
 
 LayersRelated-flip : (r : Role) {x : At Channels} {L K : List LayerPacket} {y : At Channels} → LayersRelated r x L K y → LayersRelated (other_role r) y K L x
-LayersRelated-flip r {x} {L} {K} {y} h = record {
-  hand = hand_flip
-      (hand_map (λ x u v y. OnEach (ChannelRelated (other_role r)) y v u x) (λ x u v y k. record { each = λ h. ChannelRelated-flip r (k.each h) }) h.hand);
-}
+LayersRelated-flip r h = record { near = record { own = h.own_there; two = two_layers_flip r h.near.two }; own_there = h.near.own }
 
 -- both links up: Top
 
@@ -145,5 +93,11 @@ Stands-run laws (e ∷ events) {w} h =
 pub Stands-start : Stands Dte pair_start
 Stands-start = record {
   quiet = refl;
-  top = record { hand = both_requests (channels_level Dte) (record { each = λ h. ChannelRelated-fresh Dte }) Restart refl 0 };
+  top = record {
+    near = record {
+      own = λ h. tt;
+      two = record { hand = both_requests (two_layers_level IsCalled IsCalled Dte) (all_channels_fresh IsCalled IsCalled Dte) Restart refl 0 };
+    };
+    own_there = λ h. tt;
+  };
 }

@@ -1,13 +1,13 @@
 -- One more packet at the back of a line.
 use Rattle.x25_handshakes.proofs.Names.{◌≡◌, ℕ, ◌+◌, ◌%◌, ◌<◌, ◌≤◌, List, [], ◌∷◌, ◌++◌, length, Option, Some, None, refl, sym, ap, subst, ◌∙◌, arith}
-use Rattle.x25_handshakes.proofs.{Names.{append_assoc, length-append, append-nil, resolved, Packet}, StretchRelation.{confs}}
+use Rattle.x25_handshakes.proofs.{Names.{append_assoc, length-append, append-nil, resolved, Packet, Bool}, StretchRelation.{confs, readied, all_readied}}
 use Rattle.x25_handshakes.proofs.StretchRelation.{Numbering, numbering, ack_in, int_in, conf_in, piece_of, pieces, number_at, Numbered, hears, heard, ints}
 
 -- the number stands for itself
 pub resolved_is : (a n : ℕ) → a ≤ n → n < a + 8 → resolved a (n % 8) ≡ n
 resolved_is a n low high = omega arith
 
-hears_least : (a : ℕ) (r : Option ℕ) → a ≤ hears a r
+pub hears_least : (a : ℕ) (r : Option ℕ) → a ≤ hears a r
 hears_least a None = omega arith
 hears_least a (Some r) = omega arith
 
@@ -20,6 +20,11 @@ heard_least a (p ∷ v) = omega (arith, hears_least a (ack_in p), heard_least (h
 pub heard_push : (a : ℕ) (v : List Packet) (p : Packet) → heard a (v ++ p ∷ []) ≡ hears (heard a v) (ack_in p)
 heard_push a [] p = refl
 heard_push a (q ∷ v) p = heard_push (hears a (ack_in q)) v p
+
+-- whether the other end is ready, too
+pub readied_push : (b : Bool) (v : List Packet) (p : Packet) → all_readied b (v ++ p ∷ []) ≡ readied (all_readied b v) p
+readied_push b [] p = refl
+readied_push b (q ∷ v) p = readied_push (readied b q) v p
 
 pub pieces_push : (u : List Packet) (p : Packet) → pieces (u ++ p ∷ []) ≡ pieces u ++ piece_of (numbering p)
 pieces_push [] p = append-nil (piece_of (numbering p))

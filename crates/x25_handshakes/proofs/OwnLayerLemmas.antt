@@ -1,116 +1,150 @@
--- What our own layer does keeps what is kept of it and the other end, whatever kind of end that is.
-use Rattle.x25_handshakes.proofs.Names.{◌≡◌, ℕ, List, [], ◌∷◌, ◌++◌, Option, None, Bool, true, false, if◌then◌else◌, refl, sym, ap, subst, ◌∙◌, ◌==◌, eq-eqb}
-use Rattle.x25_handshakes.proofs.Names.{eqb-true, append-nil, Side, Live, Left, At, OwnStep, live, Packet, Connection, fresh_channel, channel_takes, ChannelAct}
-use Rattle.x25_handshakes.proofs.Names.{channel_acts, LayerPacket, On, Restart, RestartConf, Channels, put, addressed, layer_side_takes, layer_takes, LayerAct}
-use Rattle.x25_handshakes.proofs.Names.{OnChannel, SendsRestart, layer_side_acts, layer_acts, Role}
-use Rattle.x25_handshakes.proofs.HandshakeRelation.{Level, Handshaken, GoodStep, AllInner}
-use Rattle.x25_handshakes.proofs.HandshakeSteps.{Any, Inside, Answers, acts_inside, leaves, stays, answered}
-use Rattle.x25_handshakes.proofs.LayersRelation.{kept_on, on, OnEach, restart_mark, own_channels_level}
+-- Our own layer is one that keeps the rules, step by step, and what it expects is no procedure error.
+use Rattle.x25_handshakes.proofs.Names.{◌≡◌, ℕ, List, [], ◌∷◌, ◌++◌, Option, None, Bool, true, false, if◌then◌else◌, ◌==◌, refl, sym, ap, ◌∙◌, subst}
+use Rattle.x25_handshakes.proofs.Names.{eq-eqb, eqb-true, cond_both, Side, Live, Left, At, OwnStep, live, Packet, Connection, channel_acts}
+use Rattle.x25_handshakes.proofs.Names.{channel_takes, LayerPacket, On, Restart, RestartConf, Channels, put, addressed, layer_side_takes, layer_takes, LayerAct}
+use Rattle.x25_handshakes.proofs.Names.{OnChannel, SendsRestart, layer_side_acts, layer_acts, Role, Laws, PeerCall, InChannel, does_channel, channel_packet_of}
+use Rattle.x25_handshakes.proofs.Names.{as_side, as_at, state_of}
+use Rattle.std.proofs.Math.Path.{fun_ext}
+use Rattle.x25_handshakes.proofs.{ChannelRelation.{IsCalled, OwnChannel}, LayersRelation.{TwoLayers, OwnChannels, OwnLayers}}
+use Rattle.x25_handshakes.proofs.DeedLemmas.{Deeds, Did, Nothing, Something, Heard, Steps, none, deed, at_once, acts_keep, heard_keeps}
+use Rattle.x25_handshakes.proofs.OwnChannelLemmas.{channel_deeds, found_none, channel_did, channel_took, channel_quiet}
+use Rattle.x25_handshakes.proofs.PeerLayerLemmas.{MayLeaveIn, LayerNext, two_layers_takes, two_layers_does, layer_next}
+use Rattle.x25_handshakes.specs.laws.LayerPeers.{as_peer_call, as_peer_channels, as_peer}
+use Rattle.x25_handshakes.specs.laws.PeerLayer.{PeerChannels, put_peer, LayerDeed, Restarts, MayDoLayer, does_layer, layer_packet_of, layer_taking}
+use Rattle.x25_handshakes.specs.laws.PeerLayers.{layer_found}
 
-pub on-append : (h : ℕ) (L o : List LayerPacket) → on h (L ++ o) ≡ on h L ++ on h o
-on-append h [] o = refl
-on-append h (On k p ∷ L) o = kept (h == k) p (on h (L ++ o)) (on h L) (on h o) (on-append h L o)
+abbrev pub layer_deeds : Deeds (At PeerChannels) LayerDeed LayerPacket
+layer_deeds = record {
+  may = λ y d. MayDoLayer y.side d × MayLeaveIn IsCalled y.side d;
+  does = λ y d. does_layer y.epoch y.side d;
+  packet = λ y d. layer_packet_of y.side d;
+}
+
+abbrev pub LayerSteps : At PeerChannels → List LayerPacket → Option ℕ → OwnStep (At Channels) LayerPacket → Type 0
+LayerSteps y first error s = Steps layer_deeds as_peer (λ x. OwnChannels (state_of x.side)) y first error s
+
+-- ---- a step of a channel
+
+-- one channel was put anew, as a peer's and as ours
+put_as : (e : ℕ) (x : Channels) (h : ℕ) (z : At PeerCall) (c : At Connection) → z ≡ as_at as_peer_call c → live e (put_peer (as_peer_channels x) h z)
+    ≡ as_peer (live e (put x h c))
+put_as e x h z c is = ap (λ f. live e f) (fun_ext (λ k. by k (k == h)))
   where
-    kept : (c : Bool) (p : Packet) (a b d : List Packet) → a ≡ b ++ d → kept_on c p a ≡ kept_on c p b ++ d
-    kept true p a b d e = ap (λ l. p ∷ l) e
-    kept false p a b d e = e
-on-append h (Restart ∷ L) o = on-append h L o
-on-append h (RestartConf ∷ L) o = on-append h L o
+    by : (k : ℕ) (b : Bool) → (if b then z else as_at as_peer_call (x k)) ≡ as_at as_peer_call (if b then c else x k)
+    by k true = is
+    by k false = refl
 
-on-same : (h : ℕ) (o : List Packet) → on h (addressed h o) ≡ o
-on-same h [] = refl
-on-same h (p ∷ o) = rw (eq-eqb h h refl) (ap (λ l. p ∷ l) (on-same h o))
-
-on-other : (k h : ℕ) (o : List Packet) → (k == h) ≡ false → on k (addressed h o) ≡ []
-on-other k h [] not = refl
-on-other k h (p ∷ o) not = rw not (on-other k h o not)
-
-pub inner_addressed : (h : ℕ) (o : List Packet) → AllInner restart_mark (addressed h o)
-inner_addressed h [] = tt
-inner_addressed h (p ∷ o) = (refl, inner_addressed h o)
-
--- a step on channel h leaves the others as they are
-pub put_kept : {X Y : Type 0} (R : X → List Packet → List Packet → Y → Type 0) (x : ℕ → X) (x₂ : X) (o : List Packet) (L K M : List LayerPacket) (y : ℕ → Y)
-    (h : ℕ)
-    → ((k : ℕ) → R (x k) (on k L) (on k M) (y k)) → ((k : ℕ) → (k == h) ≡ false → on k M ≡ on k K) → R x₂ (on h L ++ o) (on h K) (y h)
-    → (k : ℕ) → R (if k == h then x₂ else x k) (on k (L ++ addressed h o)) (on k K) (y k)
-put_kept {X} R x x₂ o L K M y h each others here k = at (k == h) refl
+-- as it stood
+put_self : (e : ℕ) (x : Channels) (h : ℕ) → live e (put_peer (as_peer_channels x) h (as_at as_peer_call (x h))) ≡ as_peer (live e x)
+put_self e x h = ap (λ f. live e f) (fun_ext (λ k. by k (k == h) refl))
   where
-    at : (c : Bool) → (k == h) ≡ c → R (if k == h then x₂ else x k) (on k (L ++ addressed h o)) (on k K) (y k)
-    at true is =
-        subst (λ j. R (if j == h then x₂ else x j) (on j (L ++ addressed h o)) (on j K) (y j)) (sym (eqb-true k h is))
-        (rw (eq-eqb h h refl) (subst (λ l. R x₂ l (on h K) (y h)) (sym (on-append h L (addressed h o) ∙ ap (λ l. on h L ++ l) (on-same h o))) here))
-    at false is =
-        rw is (subst (λ l. R (x k) l (on k K) (y k)) (sym (on-append k L (addressed h o) ∙ ap (λ l. on k L ++ l) (on-other k h o is) ∙ append-nil (on k L)))
-        (subst (λ l. R (x k) (on k L) l (y k)) (others k is) (each k)))
+    by : (k : ℕ) (b : Bool) → (k == h) ≡ b → (if b then as_at as_peer_call (x h) else as_at as_peer_call (x k)) ≡ as_at as_peer_call (x k)
+    by k true at = ap (λ j. as_at as_peer_call (x j)) (sym (eqb-true k h at))
+    by k false at = refl
 
--- the first packet, where it is on this channel
-pub on-front : (h : ℕ) (p : Packet) (K : List LayerPacket) → on h (On h p ∷ K) ≡ p ∷ on h K
-on-front h p K = rw (eq-eqb h h refl) refl
+addressed-append : (h : ℕ) (o q : List Packet) → addressed h o ++ addressed h q ≡ addressed h (o ++ q)
+addressed-append h [] q = refl
+addressed-append h (p ∷ o) q = ap (λ l. On h p ∷ l) (addressed-append h o q)
 
-pub on-past : (k h : ℕ) (p : Packet) (K : List LayerPacket) → (k == h) ≡ false → on k (On h p ∷ K) ≡ on k K
-on-past k h p K not = rw not refl
+-- what is put at a place is there
+there : {A : Type 0} (h : ℕ) (z w : A) → (if h == h then z else w) ≡ z
+there h z w = rw (eq-eqb h h refl) refl
 
--- what has to be known of a channel; `finds` says what of an error is counted as a packet is taken
-pub record OwnChannels {Z : Type 0} (R : At Connection → List Packet → List Packet → Z → Type 0) (y₀ : ℕ → Z) (r : Role)
-    (finds : LayerPacket → Option ℕ → Option ℕ) : Type 0 where
-  pub empty : (h : ℕ) → R fresh_channel [] [] (y₀ h)
-  pub acts : (x : At Connection) (L K : List Packet) (y : Z) (a : ChannelAct) → R x L K y → ((channel_acts x a).error ≡ None)
-      × R (channel_acts x a).next (L ++ (channel_acts x a).out) K y
-  pub takes : (h : ℕ) (x : At Connection) (L : List Packet) (p : Packet) (K : List Packet) (y : Z) → R x L (p ∷ K) y
-      → (finds (On h p) (channel_takes r x p).error ≡ None) × R (channel_takes r x p).next (L ++ (channel_takes r x p).out) K y
-  pub none : (p : LayerPacket) → finds p None ≡ None
+-- the channel did something behind what it heard
+behind_did : (e : ℕ) (x : Channels) (h : ℕ) {z : At PeerCall} (c : At Connection) {o : List Packet} → Did channel_deeds z (as_at as_peer_call c) o
+    → Did layer_deeds (live e (put_peer (as_peer_channels x) h z)) (as_peer (live e (put x h c))) (addressed h o)
+behind_did e x h {z} c (Nothing same none) = Nothing (put_as e x h z c same) (ap (addressed h) none)
+behind_did e x h {z} c (Something d may next out) =
+    let y = put_peer (as_peer_channels x) h z in
+    let at = there h z (as_at as_peer_call (x h)) in
+    Something (InChannel h d) (rw at may.0, rw at may.1)
+    (twice y at
+    ∙ put_as e x h (does_channel z.epoch z.side d) c next)
+    (ap (λ w. On h (channel_packet_of w.side d) ∷ []) at ∙ ap (addressed h) out)
+  where
+    twice : (y : PeerChannels) → y h ≡ z → live e (put_peer (put_peer (as_peer_channels x) h z) h (does_channel (y h).epoch (y h).side d))
+        ≡ live e (put_peer (as_peer_channels x) h (does_channel z.epoch z.side d))
+    twice y at =
+        ap (λ w. live e (put_peer (put_peer (as_peer_channels x) h z) h (does_channel w.epoch w.side d))) at
+        ∙ ap (λ f. live e f) (fun_ext (λ k. by k (k == h)))
+      where
+        by : (k : ℕ) (b : Bool) → (if b then does_channel z.epoch z.side d else (if b then z else as_at as_peer_call (x k)))
+            ≡ (if b then does_channel z.epoch z.side d else as_at as_peer_call (x k))
+        by k true = refl
+        by k false = refl
 
-module _ {Z : Type 0} (R : At Connection → List Packet → List Packet → Z → Type 0) (y₀ : ℕ → Z) (r : Role) (finds : LayerPacket → Option ℕ → Option ℕ)
-    (own : OwnChannels R y₀ r finds) where
-  abbrev level : Level Channels (ℕ → Z) LayerPacket
-  level = own_channels_level R y₀
+on_channel : (e : ℕ) (x : Channels) (h : ℕ) {z : At PeerCall} {first : List Packet} (c : At Connection) {o : List Packet}
+    → Heard channel_deeds z first (as_at as_peer_call c) o
+    → Heard layer_deeds (live e (put_peer (as_peer_channels x) h z)) (addressed h first) (as_peer (live e (put x h c))) (addressed h o)
+on_channel e x h {first} c g =
+    record { rest = addressed h g.rest; split = addressed-append h first g.rest ∙ ap (addressed h) g.split; did = behind_did e x h c g.did }
 
-  abbrev Good : Option ℕ → OwnStep (At Channels) LayerPacket → List LayerPacket → List LayerPacket → At (ℕ → Z) → Type 0
-  Good e s L K y = GoodStep level e s.next s.out L K y
+own_put : (x : Channels) (h : ℕ) (z : At Connection) → OwnChannels x → OwnChannel z → OwnChannels (put x h z)
+own_put x h z all own k = cond_both (k == h) z (x k) OwnChannel (λ is. own) (λ not. all k)
 
-  -- a step of channel h that is no error, with these packets taken
-  inside : (e : ℕ) (x : Channels) (h : ℕ) (s : OwnStep (At Connection) Packet) (taken : List LayerPacket) (error : Option ℕ)
-      → ((k : ℕ) (K : List LayerPacket) → (k == h) ≡ false → on k (taken ++ K) ≡ on k K)
-      → ((L K : List LayerPacket) (y : ℕ → Z) → OnEach R x L (taken ++ K) y → (error ≡ None) × R s.next (on h L ++ s.out) (on h K) (y h))
-      → Inside level Any e x taken (live e (put x h s.next)) (addressed h s.out) error
-  inside e x h s taken error others good = record {
-    after = put x h s.next;
-    goes = λ L K y all. record {
-      quiet = (good L K y all).0;
-      at = refl;
-      inner = inner_addressed h s.out;
-      passes = tt;
-      kept = record { each = put_kept R x s.next s.out L K (taken ++ K) y h all.each (λ k not. others k K not) (good L K y all).1 };
-    };
-  }
+-- ---- it acts
 
-  answers : (e : ℕ) (x : Side Channels) (p : LayerPacket)
-      → (let s = layer_side_takes r e x p in Answers level Any e x p (restart_mark p) s.next s.out (finds p s.error))
-  answers e (Live x) (On h p) =
-      inside e x h (channel_takes r (x h) p) (On h p ∷ []) _ (λ k K not. on-past k h p K not)
-      (λ L K y all. own.takes h (x h) (on h L) p (on h K) (y h) (rw (sym (on-front h p K)) (all.each h)))
-  answers e (Live x) Restart = record { confirm = RestartConf; is = refl; at = refl; sent = refl; passes = tt; quiet = λ w z gone h. own.none Restart }
-  answers e (Live x) RestartConf = tt
-  answers e (Left x) Restart = (refl, refl, own.none Restart)
-  answers e (Left x) p = (refl, refl, own.none p)
+pub layer_did : Laws → (e : ℕ) (x : Side Channels) (a : LayerAct) → OwnChannels (state_of x)
+    → (let s = layer_side_acts e x a in LayerSteps (as_peer (record { epoch = e; side = x })) [] s.error s)
+layer_did laws e (Live x) (OnChannel h a) own =
+    let s = channel_did laws (x h).epoch (x h).side a (own h) in
+    let k = channel_acts (x h) a in
+    record {
+      quiet = s.quiet;
+      own = own_put x h k.next own s.own;
+      heard = subst (λ y. Heard layer_deeds y [] (as_peer (live e (put x h k.next))) (addressed h k.out)) (put_self e x h) (on_channel e x h k.next s.heard);
+    }
+layer_did laws e (Live x) SendsRestart own = record { quiet = refl; own = own; heard = deed Restarts (tt, tt) refl refl }
+layer_did laws e (Left x) a own = record { quiet = refl; own = own; heard = none refl }
 
-  -- our own layer takes a packet, and keeps step with one of whatever kind
-  pub layer_takes_good : {x : At Channels} {L : List LayerPacket} (p : LayerPacket) (K : List LayerPacket) {y : At (ℕ → Z)} → Handshaken level x L (p ∷ K) y
-      → Good (finds p (layer_takes r x p).error) (layer_takes r x p) L K y
-  layer_takes_good {x} {L} p K {y} h =
-      let s = layer_takes r x p in
-      (answered level Any tt (record { each = own.empty }) (answers x.epoch x.side p) K h).0
+-- ---- it takes a packet
 
-  own_side_acts : (e : ℕ) (x : Side Channels) (L K : List LayerPacket) (y : At (ℕ → Z)) (a : LayerAct)
-      → Handshaken level (record { epoch = e; side = x }) L K y → Good (layer_side_acts e x a).error (layer_side_acts e x a) L K y
-  own_side_acts e (Live x) L K y (OnChannel h a) k =
-      (acts_inside level Any e x _ _ _ (inside e x h (channel_acts (x h) a) [] _ (λ k K not. refl)
-      (λ L K y all. own.acts (x h) (on h L) (on h K) (y h) a (all.each h))) L K y k).0
-  own_side_acts e (Live x) L K y SendsRestart k = leaves level Any Restart refl e x tt k
-  own_side_acts e (Left x) L K y a k = stays level Any k
+pub layer_found_none : (p : LayerPacket) → layer_found p None ≡ None
+layer_found_none (On h p) = found_none p
+layer_found_none p = refl
 
-  -- an act of the layer keeps the handshake and finds no fault
-  pub layer_acts_good : {x : At Channels} {L K : List LayerPacket} {y : At (ℕ → Z)} (a : LayerAct) → Handshaken level x L K y
-      → Good (layer_acts x a).error (layer_acts x a) L K y
-  layer_acts_good {x} {L} {K} {y} a h = own_side_acts x.epoch x.side L K y a h
+-- what is expected
+pub layer_took : Laws → (H : PeerCall → Type 0) (r : Role) (e : ℕ) (x : Side Channels) (p : LayerPacket) → LayerNext H r (as_side as_peer_channels x) p
+    → OwnChannels (state_of x) → (let k = layer_taking r e (as_side as_peer_channels x) p in
+    let s = layer_side_takes r e x p in LayerSteps k.next k.out (layer_found p s.error) s)
+layer_took laws H r e (Live x) (On h p) next own =
+    let s = channel_took laws H r (x h).epoch (x h).side p next (own h) in
+    let k = channel_takes r (x h) p in
+    record { quiet = s.quiet; own = own_put x h k.next own s.own; heard = on_channel e x h k.next s.heard }
+layer_took laws H r e (Live x) Restart next own = record { quiet = refl; own = λ h. tt; heard = at_once layer_deeds _ _ _ _ refl refl }
+layer_took laws H r e (Live x) RestartConf next own = absurd next
+layer_took laws H r e (Left x) (On h p) next own = record { quiet = found_none p; own = own; heard = none refl }
+layer_took laws H r e (Left x) Restart next own = record { quiet = refl; own = λ h. tt; heard = none refl }
+layer_took laws H r e (Left x) RestartConf next own = record { quiet = refl; own = λ h. tt; heard = none refl }
+
+-- and beside another of ours nothing is
+pub layer_quiet : (r : Role) (e : ℕ) (x : Side Channels) (p : LayerPacket) → LayerNext IsCalled r (as_side as_peer_channels x) p
+    → layer_found p (layer_side_takes r e x p).error ≡ None → (layer_side_takes r e x p).error ≡ None
+layer_quiet r e (Live x) (On h p) next quiet = channel_quiet r (x h).epoch (x h).side p next quiet
+layer_quiet r e (Left x) (On h p) next quiet = refl
+layer_quiet r e x p next quiet = quiet
+
+-- ---- beside any
+
+module _ (laws : Laws) (H : PeerCall → Type 0) (r : Role) (K : List LayerPacket) (y : At PeerChannels) where
+  abbrev Beside : At PeerChannels → List LayerPacket → Type 0
+  Beside z u = TwoLayers IsCalled H r z u K y
+
+  does : (z : At PeerChannels) (d : LayerDeed) (u : List LayerPacket) → MayDoLayer z.side d × MayLeaveIn IsCalled z.side d → Beside z u
+      → Beside (does_layer z.epoch z.side d) (u ++ layer_packet_of z.side d ∷ [])
+  does z d u may h = two_layers_does IsCalled H r laws z.epoch z.side d may.0 may.1 u K y h
+
+  -- our own layer acts
+  pub own_layer_acts : (x : At Channels) (L : List LayerPacket) (a : LayerAct) → OwnLayers H r x L K y
+      → (let s = layer_acts x a in (s.error ≡ None) × OwnLayers H r s.next (L ++ s.out) K y)
+  own_layer_acts x L a h =
+      let s = layer_did laws x.epoch x.side a h.own in
+      (s.quiet, record { own = s.own; two = acts_keep Beside does s.heard L h.two })
+
+  -- it takes the packet in front
+  pub own_layer_takes : (x : At Channels) (L : List LayerPacket) (p : LayerPacket) → OwnLayers H r x L (p ∷ K) y
+      → (let s = layer_takes r x p in (layer_found p s.error ≡ None) × OwnLayers H r s.next (L ++ s.out) K y)
+  own_layer_takes x L p h =
+      let z = as_side as_peer_channels x.side in
+      let s = layer_took laws H r x.epoch x.side p (layer_next IsCalled H r x.epoch z p L K y h.two) h.own in
+      (s.quiet, record { own = s.own; two = heard_keeps Beside does s.heard L (two_layers_takes IsCalled H r x.epoch z p L K y h.two) })

@@ -1,11 +1,11 @@
 -- What each step does to the parts of the relation of two stretches.
-use Rattle.x25_handshakes.proofs.Names.{◌≡◌, ℕ, ◌+◌, ◌%◌, ◌≤◌, List, [], ◌∷◌, ◌++◌, length, Some, None, Bool, true, false, refl, sym, ap, subst, ◌∙◌, arith}
+use Rattle.x25_handshakes.proofs.Names.{◌≡◌, ℕ, ◌+◌, ◌%◌, ◌<◌, ◌≤◌, List, [], ◌∷◌, ◌++◌, length, Some, None, Bool, true, false, refl, sym, ap, subst, ◌∙◌, arith}
 use Rattle.x25_handshakes.proofs.Names.{append_assoc, length-append, length_push, append-nil, Marks, Message, Piece, no_part, joining, carried_from, carried}
 use Rattle.std.proofs.Common.{◌-◌}
 use Rattle.x25_circuit.specs.Message.{completed}
 use Rattle.x25_handshakes.proofs.HandshakeLemmas.{each_append}
-use Rattle.x25_handshakes.proofs.LineLemmas.{resolved_is, heard_least, heard_push, pieces_push, ints_push, confs_push, Numbered_push}
-use Rattle.x25_handshakes.proofs.{Names.{AreSound, cut, resolved, Packet, Data, Int, IntConf}, StretchRelation.{InFlowControl, Line, Acks, Ints, Text}}
+use Rattle.x25_handshakes.proofs.LineLemmas.{resolved_is, hears_least, heard_least, heard_push, pieces_push, ints_push, confs_push, Numbered_push}
+use Rattle.x25_handshakes.proofs.{Names.{AreSound, cut, Packet, Data, Int, IntConf}, StretchRelation.{InFlowControl, Line, Acks, Ints, Text}}
 use Rattle.x25_handshakes.proofs.StretchRelation.{numbering, ack_in, int_in, conf_in, piece_of, pieces, number_at, Numbered, hears, heard, ints, confs}
 use Rattle.x25_handshakes.proofs.TextLemmas.{joining-append, carried-append, AreSound-append, AreSound-cut, joining-cut, carried-cut}
 
@@ -51,41 +51,45 @@ Line-skip {sent} {taken} u q none h = record {
 
 -- the window, and the numbers P(R) on the way back
 
-pub Acks-push : {k acked sent : ℕ} {v : List Packet} {taken : ℕ} (q : Packet) → k ≤ 7 → taken ≤ sent → ack_in q ≡ Some (taken % 8) → Acks k acked sent v taken
-    → Acks k acked sent (v ++ q ∷ []) taken
-Acks-push {k} {acked} {sent} {v} {taken} q small le is h =
+-- the other end acknowledges so many
+pub Acks-told : {acked sent : ℕ} {v : List Packet} {told taken : ℕ} (n : ℕ) (q : Packet) → told ≤ n → n ≤ taken → taken ≤ sent
+    → ack_in q ≡ Some (n % 8) → Acks acked sent v told taken → Acks acked sent (v ++ q ∷ []) n taken
+Acks-told {acked} {sent} {v} {told} {taken} n q rising le few is h =
     let least = heard_least acked v in
-    let low = h.acks in
     let room = h.room in
-    let end = heard_push acked v q ∙ ap (λ r. hears (heard acked v) r) is in
-    let same = resolved_is (heard acked v) taken low (omega arith) in
-    record { room = room; acks = subst (λ n. n ≤ taken) (sym (end ∙ same)) (let e : taken ≤ taken = omega arith in e) }
+    let now = h.acks in
+    let low : heard acked v ≤ n = omega arith in
+    let high : n < heard acked v + 8 = omega arith in
+    record { room = room; acks = heard_push acked v q ∙ ap (λ r. hears (heard acked v) r) is ∙ resolved_is (heard acked v) n low high; late = le }
 
--- the other end sends a packet without P(R)
-pub Acks-pass : {k acked sent : ℕ} {v : List Packet} {taken : ℕ} (q : Packet) → ack_in q ≡ None → Acks k acked sent v taken
-    → Acks k acked sent (v ++ q ∷ []) taken
-Acks-pass {acked} {v} {taken} q is h =
-    let end = heard_push acked v q ∙ ap (λ r. hears (heard acked v) r) is in
-    record { room = h.room; acks = subst (λ n. n ≤ taken) (sym end) h.acks }
+-- it sends a packet without P(R)
+pub Acks-pass : {acked sent : ℕ} {v : List Packet} {told taken : ℕ} (q : Packet) → ack_in q ≡ None → Acks acked sent v told taken
+    → Acks acked sent (v ++ q ∷ []) told taken
+Acks-pass {acked} {v} q is h = record { room = h.room; acks = heard_push acked v q ∙ ap (λ r. hears (heard acked v) r) is ∙ h.acks; late = h.late }
 
 -- more is sent, within the window
-pub Acks-more : {k acked sent : ℕ} (more : ℕ) {v : List Packet} {taken : ℕ} → more ≤ acked + k → Acks k acked sent v taken → Acks k acked more v taken
-Acks-more more room h = record { room = room; acks = h.acks }
+pub Acks-more : {acked sent : ℕ} (more : ℕ) {v : List Packet} {told taken : ℕ} → more ≤ acked + 7 → Acks acked sent v told taken → Acks acked more v told taken
+Acks-more more room h = record { room = room; acks = h.acks; late = h.late }
 
-pub Acks-taken : {k acked sent : ℕ} {v : List Packet} {taken : ℕ} (more : ℕ) → taken ≤ more → Acks k acked sent v taken → Acks k acked sent v more
-Acks-taken more le h = record { room = h.room; acks = omega arith }
+-- more is taken
+pub Acks-taken : {acked sent : ℕ} {v : List Packet} {told taken : ℕ} (more : ℕ) → taken ≤ more → Acks acked sent v told taken → Acks acked sent v told more
+Acks-taken more le h = let late = h.late in record { room = h.room; acks = h.acks; late = omega arith }
 
-pub Acks-told : {k acked sent : ℕ} {v : List Packet} {told : ℕ} (n : ℕ) (q : Packet) → k ≤ 7 → told ≤ n → n ≤ sent → ack_in q ≡ Some (n % 8)
-    → Acks k acked sent v told → Acks k acked sent (v ++ q ∷ []) n
-Acks-told {k} {acked} {sent} {v} {told} n q small rising le is h = Acks-push q small le is (Acks-taken n rising h)
+-- the packet in front is taken, with its P(R) or without
+pub Acks-hear : {acked sent : ℕ} {p : Packet} (v : List Packet) {told taken : ℕ} → Acks acked sent (p ∷ v) told taken
+    → Acks (hears acked (ack_in p)) sent v told taken
+Acks-hear {acked} {p} v h =
+    let room = h.room in
+    let more = hears_least acked (ack_in p) in
+    record { room = omega arith; acks = h.acks; late = h.late }
 
--- the P(R) in front is taken
-pub Acks-hear : (k acked sent : ℕ) (v : List Packet) (r taken : ℕ) → sent ≤ acked + k → heard (resolved acked r) v ≤ taken
-    → Acks k (resolved acked r) sent v taken
-Acks-hear k acked sent v r taken room acks = record { room = omega arith; acks = acks }
-
-pub heard_below : (acked sent : ℕ) (v : List Packet) (r taken : ℕ) → taken ≤ sent → heard (resolved acked r) v ≤ taken → resolved acked r ≤ sent
-heard_below acked sent v r taken le acks = omega (arith, heard_least (resolved acked r) v)
+-- that P(R) is valid
+pub heard_below : {acked sent : ℕ} {p : Packet} {v : List Packet} {told taken : ℕ} → taken ≤ sent → Acks acked sent (p ∷ v) told taken
+    → hears acked (ack_in p) ≤ sent
+heard_below {acked} {p} {v} few h =
+    let now = h.acks in
+    let late = h.late in
+    omega (arith, heard_least (hears acked (ack_in p)) v)
 
 -- interrupts and their confirmations
 

@@ -1,106 +1,91 @@
--- What is kept of a channel of ours and a peer between two restarts, and that each step keeps it and is no procedure error.
-use Rattle.x25_handshakes.proofs.Names.{◌≡◌, ℕ, List, [], ◌∷◌, ◌++◌, None, refl, Inner, Side, Live, Left, At, Packet, Clear, ClearConf, Connection}
-use Rattle.x25_handshakes.proofs.Names.{fresh_channel, PeerCall, fresh_peer_call, does_call, call_packet_of, call_taking, InCall, does_channel}
-use Rattle.x25_handshakes.proofs.Names.{channel_packet_of, channel_taking, other_role, Laws, fresh_transfer, fresh_peer_transfer, Role, Dte, Dce}
-use Rattle.x25_handshakes.proofs.{ChannelRelation.{clear_mark, own_call_level}, HandshakeLemmas.{each_back, flip, both_fresh}}
-use Rattle.x25_handshakes.proofs.{HandshakeRelation.{Level, Handshaken, GoodStep}, HandshakeSteps.{Any, Answers, acts_inside, leaves, answered, there}}
-use Rattle.x25_handshakes.proofs.JointLemmas.{Quiet, quiet_transfer, quiet_joint}
-use Rattle.x25_handshakes.proofs.OwnChannelLemmas.{OwnCalls}
-use Rattle.x25_handshakes.proofs.PeerCallLemmas.{PeerTalks, TalksPeer, PeerSeen, PeerSeen-takes, PeerSeen-acts, PeerSeen-taking, PeerSeen-does, PeerSeen-fresh}
-use Rattle.x25_handshakes.specs.laws.{PeerChannel.{fresh_peer_channel, ChannelDeed, Clears, MayDoChannel}, PeerLayers.{found}}
+-- What an end of a channel that keeps the rules does between two restarts, and what it makes of what comes, keeps what is kept of it and another such end;
+-- and what it expects.
+use Rattle.x25_handshakes.proofs.Names.{◌≡◌, ℕ, List, [], ◌∷◌, ◌++◌, refl, Inner, Side, Live, Left, At, Packet, Clear, ClearConf, PeerCall}
+use Rattle.x25_handshakes.proofs.Names.{does_call, call_packet_of, call_taking, InCall, does_channel, channel_packet_of, channel_taking, other_role, Laws}
+use Rattle.x25_handshakes.proofs.Names.{Role, Dte, Dce}
+use Rattle.x25_handshakes.proofs.ChannelRelation.{clear_mark, TwoCalls, two_call_level, TwoChannels}
+use Rattle.x25_handshakes.proofs.HandshakeLemmas.{each_back, hand_flip, hand_map, both_fresh, request_gone, confirm_never, live_front}
+use Rattle.x25_handshakes.proofs.{HandshakeRelation.{Level}, HandshakeSteps.{Any, Answers, acts_inside, leaves, answered}}
+use Rattle.x25_handshakes.proofs.PeerCallLemmas.{Next, two_calls_takes, two_calls_does, two_calls_quiet, TwoCalls-fresh}
+use Rattle.x25_handshakes.proofs.StageLemmas.{MayCome}
+use Rattle.x25_handshakes.specs.laws.PeerChannel.{fresh_peer_channel, ChannelDeed, Clears, MayDoChannel}
 
-abbrev pub peer_call_level : Role → Level Connection PeerCall Packet
-peer_call_level r = own_call_level (λ x. Unit {0}) (λ y. Unit {0}) (PeerSeen r) fresh_peer_call
+-- what is asked of an end as it sends CLEAR
+abbrev pub MayLeave : (PeerCall → Type 0) → Side PeerCall → ChannelDeed → Type 0
+MayLeave G (Live x) Clears = G x
+MayLeave G side d = Unit {0}
 
--- r is the role of our end
-abbrev pub PeerChannelRelated : Role → At Connection → List Packet → List Packet → At PeerCall → Type 0
-PeerChannelRelated r x L K y = Handshaken (peer_call_level r) x L K y
+-- what it expects of the other, of which H is asked
+abbrev pub ChannelNext : (PeerCall → Type 0) → Role → Side PeerCall → Packet → Type 0
+ChannelNext H r (Live x) Clear = (w : List Packet) × (z : PeerCall) × H z × TwoCalls r x w [] z
+ChannelNext H r (Live x) ClearConf = ⊥
+ChannelNext H r (Live x) p = MayCome r Next x.stage p
+ChannelNext H r (Left x) p = Unit {0}
 
-pub PeerChannelRelated-fresh : (r : Role) → PeerChannelRelated r fresh_channel [] [] fresh_peer_channel
-PeerChannelRelated-fresh r = record { hand = both_fresh (peer_call_level r) (PeerSeen-fresh r) 0 }
+-- seen from the other end
+TwoCalls-flip : (r : Role) (x : PeerCall) (u v : List Packet) (y : PeerCall) → TwoCalls r x u v y → TwoCalls (other_role r) y v u x
+TwoCalls-flip Dte x u v y h = h
+TwoCalls-flip Dce x u v y h = h
 
-quiet : (r : Role) (x : Connection) (u v : List Packet) (y : PeerCall) → PeerSeen r x u v y → Quiet u × Quiet v
-quiet Dte x u v y h = quiet_joint PeerTalks fresh_transfer fresh_peer_transfer
-    (λ t b x u v t₂ b₂ y h. (quiet_transfer u h.related.there, quiet_transfer v h.related.back)) x.phase y.stage x.made x.indicated y.made y.indicated u v h
-quiet Dce x u v y h =
-    let k = quiet_joint TalksPeer fresh_peer_transfer fresh_transfer
-    (λ t b y u v t₂ b₂ x h. (quiet_transfer u h.related.back, quiet_transfer v h.related.there)) y.stage x.phase y.made y.indicated x.made x.indicated v u
-    h in
-    (k.1, k.0)
+pub two_channel_flip : {G H : PeerCall → Type 0} (r : Role) {x : At PeerCall} {L K : List Packet} {y : At PeerCall} → TwoChannels G H r x L K y
+    → TwoChannels H G (other_role r) y K L x
+two_channel_flip r h = record { hand = hand_flip (hand_map (λ x u v y. TwoCalls (other_role r) y v u x) (TwoCalls-flip r) h.hand) }
 
--- ---- our end
+module _ (G H : PeerCall → Type 0) (r : Role) where
+  abbrev level : Level PeerCall PeerCall Packet
+  level = two_call_level G H r
 
-pub found_none : (p : Packet) → found p None ≡ None
-found_none Clear = refl
-found_none p = refl
+  pub two_channel_fresh : TwoChannels G H r fresh_peer_channel [] [] fresh_peer_channel
+  two_channel_fresh = record { hand = both_fresh level (TwoCalls-fresh r) 0 }
 
-pub peer_calls : Laws → (r : Role) → OwnCalls (λ x. Unit {0}) (λ y. Unit {0}) (PeerSeen r) fresh_peer_call r found
-peer_calls laws r = record {
-  empty = PeerSeen-fresh r;
-  quiet = λ x u v y h. quiet r x u v y h;
-  acts = λ x u v y a h. PeerSeen-acts laws r x u v y a h;
-  takes = λ x u p v y h. PeerSeen-takes r x u p v y h;
-  called = λ x is. tt;
-  none = found_none;
-  clear = λ x u y left h. refl;
-}
-
--- ---- the peer
-
-module _ (r : Role) where
-  -- seen from the peer
-  abbrev level : Level PeerCall Connection Packet
-  level = flip (peer_call_level r)
-
-  answers : (e : ℕ) (y : Side PeerCall) (p : Packet) → (let s = channel_taking (other_role r) e y p in Answers level Any e y p (clear_mark p) s.next s.out None)
-  answers e (Live y) Clear = record { confirm = ClearConf; is = refl; at = refl; sent = refl; passes = tt; quiet = λ w z gone h. refl }
-  answers e (Live y) ClearConf = tt
-  answers e (Live y) p =
-      let s = call_taking (other_role r) y.stage y.made y.indicated p in
+  answers : (e : ℕ) (x : Side PeerCall) (p : Packet) → (let s = channel_taking r e x p in Answers level Any e x p (clear_mark p) s.next s.out)
+  answers e (Live x) Clear = record { confirm = ClearConf; is = refl; at = refl; sent = refl; passes = tt }
+  answers e (Live x) ClearConf = tt
+  answers e (Live x) p =
+      let s = call_taking r x.stage x.made x.indicated p in
       record {
         after = s.next;
-        goes = λ w v z k. (let kept = PeerSeen-taking r z v p w y k in
+        goes = λ w v z k. (let kept = (two_calls_takes r x w p v z k).1 in
             record {
-              quiet = refl;
               at = refl;
-              inner = each_back (λ p. clear_mark p ≡ Inner) w s.out (quiet r z v (w ++ s.out) s.next kept).1;
+              inner = each_back (λ p. clear_mark p ≡ Inner) w s.out (two_calls_quiet r s.next (w ++ s.out) v z kept).0;
               passes = tt;
               kept = kept;
             });
       }
-  answers e (Left y) Clear = (refl, refl, refl)
-  answers e (Left y) p = (refl, refl, refl)
+  answers e (Left x) Clear = (refl, refl)
+  answers e (Left x) p = (refl, refl)
 
-  pub channel_taking_kept : (x : At Connection) (p : Packet) (L K : List Packet) (e : ℕ) (y : Side PeerCall)
-      → PeerChannelRelated r x (p ∷ L) K (record { epoch = e; side = y })
-      → (let s = channel_taking (other_role r) e y p in PeerChannelRelated r x L (K ++ s.out) s.next)
-  channel_taking_kept x p L K e y h =
-      let s = channel_taking (other_role r) e y p in
-      there (peer_call_level r) x (p ∷ L) L K s.out (record { epoch = e; side = y }) s.next
-      (λ k. (answered level Any tt (PeerSeen-fresh r) (answers e y p) L k).0) h
+  -- what it makes of the packet in front
+  pub two_channel_takes : (e : ℕ) (x : Side PeerCall) (p : Packet) (L K : List Packet) (y : At PeerCall)
+      → TwoChannels G H r (record { epoch = e; side = x }) L (p ∷ K) y
+      → (let s = channel_taking r e x p in TwoChannels G H r s.next (L ++ s.out) K y)
+  two_channel_takes e x p L K y h = (answered level Any tt (TwoCalls-fresh r) (answers e x p) K h).0
 
-  does_good : Laws → (x : At Connection) (L K : List Packet) (e : ℕ) (y : Side PeerCall) (d : ChannelDeed) → MayDoChannel y d
-      → Handshaken level (record { epoch = e; side = y }) K L x
-      → GoodStep level None (does_channel e y d) (channel_packet_of y d ∷ []) K L x
-  does_good laws x L K e (Live y) (InCall d) may h =
-      let p = call_packet_of y.stage d in
-      let next = does_call y.stage y.made y.indicated d in
-      (acts_inside level Any e y _ _ _ (record {
+  -- what it may do of its own accord
+  pub two_channel_does : Laws → (e : ℕ) (x : Side PeerCall) (d : ChannelDeed) → MayDoChannel x d → MayLeave G x d → (L K : List Packet) (y : At PeerCall)
+      → TwoChannels G H r (record { epoch = e; side = x }) L K y
+      → TwoChannels G H r (does_channel e x d) (L ++ channel_packet_of x d ∷ []) K y
+  two_channel_does laws e (Live x) (InCall d) may leave L K y h =
+      let p = call_packet_of x.stage d in
+      let next = does_call x.stage x.made x.indicated d in
+      (acts_inside level Any e x _ _ (record {
         after = next;
-        goes = λ w v z k. (let kept = PeerSeen-does laws r z v w y d may k in
+        goes = λ w v z k. (let kept = two_calls_does laws r x w v z d may k in
             record {
-              quiet = refl;
               at = refl;
-              inner = each_back (λ p. clear_mark p ≡ Inner) w (p ∷ []) (quiet r z v (w ++ p ∷ []) next kept).1;
+              inner = each_back (λ p. clear_mark p ≡ Inner) w (p ∷ []) (two_calls_quiet r next (w ++ p ∷ []) v z kept).0;
               passes = tt;
               kept = kept;
             });
-      }) K L x h).0
-  does_good laws x L K e (Live y) Clears may h = leaves level Any Clear refl e y tt h
-  does_good laws x L K e (Left y) d may h = absurd may
+      }) L K y h).0
+  two_channel_does laws e (Live x) Clears may leave L K y h = (leaves level Any Clear refl e x leave h)
+  two_channel_does laws e (Left x) d may leave L K y h = absurd may
 
-  pub channel_does_kept : Laws → {x : At Connection} {L K : List Packet} (e : ℕ) {y : Side PeerCall} (d : ChannelDeed) → MayDoChannel y d
-      → PeerChannelRelated r x L K (record { epoch = e; side = y })
-      → PeerChannelRelated r x L (K ++ channel_packet_of y d ∷ []) (does_channel e y d)
-  channel_does_kept laws {x} {L} {K} e {y} d may h = there (peer_call_level r) x L L K (channel_packet_of y d ∷ []) (record { epoch = e; side = y })
-      (does_channel e y d) (λ k. does_good laws x L K e y d may k) h
+  -- what is in front is expected
+  pub channel_next : (e : ℕ) (x : Side PeerCall) (p : Packet) (L K : List Packet) (y : At PeerCall)
+      → TwoChannels G H r (record { epoch = e; side = x }) L (p ∷ K) y → ChannelNext H r x p
+  channel_next e (Live x) Clear L K y h = request_gone level Clear refl e y.epoch x y.side L K h.hand
+  channel_next e (Live x) ClearConf L K y h = absurd (confirm_never ClearConf refl x K h.hand)
+  channel_next e (Live x) p L K y h = (let m = live_front level p refl e y.epoch x y.side L K h.hand in (two_calls_takes r x m.0 p m.1 m.2 m.3).0)
+  channel_next e (Left x) p L K y h = tt

@@ -1,40 +1,74 @@
--- All that happens to a circuit of ours in p4 and a peer keeps what is kept of them.
-use Rattle.x25_handshakes.proofs.Names.{◌≡◌, ℕ, ◌≤◌, List, None, refl, ap, ◌∙◌, sym, Packet, Stretch, transfer_acts, transfer_takes, OwnStep, At, first_error}
-use Rattle.x25_handshakes.proofs.{HandshakeLemmas.{both_fresh}, Names.{Terms}, PeerOrder.{stretches_order}, PeerRelation.{Kept-start}}
-use Rattle.x25_handshakes.proofs.PeerTransferLemmas.{peer_level, KeptTransfer, GoodTransfer, GoodTransfer-acts, GoodTransfer-takes, done_kept, takes_kept}
-use Rattle.x25_handshakes.{proofs.PeerTransferLemmas.{skips_kept}, specs.laws.Handshake.{near_stepped}}
-use Rattle.x25_handshakes.specs.laws.PeerClaims.{WithAnyPeer, KeepsStretches, FindsNoError}
+-- Our circuit in p4 and any peer are two ends that keep the rules: in each run, step by step, with no line in it.
+use Rattle.x25_handshakes.proofs.Names.{◌≡◌, ℕ, ◌≤◌, List, [], ◌∷◌, ◌++◌, None, refl, ap, ◌∙◌, subst}
+use Rattle.x25_handshakes.proofs.Names.{At, OwnStep, state_of, first_error, Packet, Stretch}
+use Rattle.x25_handshakes.proofs.Names.{transfer_takes, transfer_acts}
+use Rattle.x25_handshakes.proofs.Names.{PeerStretch, as_peer_stretch, as_side, as_at, Terms}
+use Rattle.x25_handshakes.proofs.DeedLemmas.{acts_keep, heard_keeps}
+use Rattle.x25_handshakes.proofs.Names.{TransferDeed, MayDoTransfer, does_transfer, transfer_packet_of}
+use Rattle.x25_handshakes.proofs.{OwnStretchLemmas.{Own-fresh}, PeerOrder.{peer_epochs}, StretchRelation.{Own}}
+use Rattle.x25_handshakes.proofs.OwnTransferLemmas.{TransferSteps, transfer_did, transfer_took}
+use Rattle.x25_handshakes.specs.laws.{Handshake.{near_stepped}, PeerClaims.{WithAnyPeer, KeepsStretches, FindsNoError}}
 use Rattle.x25_handshakes.specs.laws.PeerJoined.{JoinedCall, HappensInCall, Acts, Takes, Does, Hears, Skips, ReachedInCall, at_start, goes_on}
+use Rattle.x25_handshakes.specs.laws.TwoPeers.{TwoEnds, IsReached, near_moves, far_moves, BothInOrder, Expects, ExpectsFront, KeepOrder, OfAnyTwoPeers}
+use Rattle.x25_handshakes.specs.laws.TwoPeers as two
 
-record Holds (t : Terms) (longest size : ℕ) (w : JoinedCall) : Type 0 where
-  pub quiet : w.error ≡ None
-  pub kept : KeptTransfer t longest size w.near w.out w.back w.peer
+-- ---- every run is one of two ends
 
-stepped_holds : {t : Terms} {longest size : ℕ} (w : JoinedCall) {back : List Packet} (s : OwnStep (At Stretch) Packet) → w.error ≡ None
-    → GoodTransfer t longest size s w.out back w.peer → Holds t longest size (near_stepped w back s s.error)
-stepped_holds w s none good = record { quiet = ap (λ e. first_error e s.error) none ∙ good.quiet; kept = good.kept }
+abbrev as_two : JoinedCall → TwoEnds
+as_two w = record { near = as_at as_peer_stretch w.near; far = w.peer; out = w.out; back = w.back }
 
-happens_holds : (t : Terms) (longest size : ℕ) → t.window ≤ 7 → 1 ≤ t.size → (w v : JoinedCall) → HappensInCall t longest size w v → Holds t longest size w
-    → Holds t longest size v
-happens_holds t longest size small one w v (Acts act) h = stepped_holds w (transfer_acts t w.near act) h.quiet (GoodTransfer-acts one act h.kept)
-happens_holds t longest size small one w v (Takes packet rest is) h =
-    stepped_holds w (transfer_takes longest size w.near packet) h.quiet
-    (GoodTransfer-takes one packet rest (rw (sym is) h.kept))
-happens_holds t longest size small one w v (Does deed may) h = record { quiet = h.quiet; kept = done_kept t longest size small w.peer.epoch deed may h.kept }
-happens_holds t longest size small one w v (Hears packet rest is) h =
-    record { quiet = h.quiet; kept = takes_kept t longest size w.near packet rest w.back w.peer.epoch w.peer.side (rw (sym is) h.kept) }
-happens_holds t longest size small one w v (Skips y dropped rest none live is) h =
-    record { quiet = h.quiet; kept = skips_kept t longest size w.near dropped rest w.back w.peer.epoch w.peer.side y none live (rw (sym is) h.kept) }
+record Holds (t b : Terms) (w : JoinedCall) : Type 0 where
+  quiet : w.error ≡ None
+  own : Own t (state_of w.near.side)
+  reached : IsReached t b (as_two w)
 
-reached_holds : {t : Terms} {longest size : ℕ} → t.window ≤ 7 → 1 ≤ t.size → {w : JoinedCall} → ReachedInCall t longest size w → Holds t longest size w
-reached_holds {t} {longest} {size} small one at_start = record {
-  quiet = refl;
-  kept = record { hand = both_fresh (peer_level t longest size) (Kept-start t longest size) 0; there = tt; back = tt };
-}
-reached_holds {t} {longest} {size} small one {w} (goes_on v u h event) = happens_holds t longest size small one v w event (reached_holds small one h)
+-- what is reached by the near end's deeds
+abbrev at : Terms → Terms → At PeerStretch → List Packet → At PeerStretch → List Packet → Type 0
+at t b far back near out = IsReached t b (record { near = near; far = far; out = out; back = back })
 
-pub keeps_stretches : WithAnyPeer KeepsStretches
-keeps_stretches t longest size small one w reached = stretches_order t longest size w.near w.peer (reached_holds small one reached).kept.hand
+deed : (t b : Terms) (far : At PeerStretch) (back : List Packet) (z : At PeerStretch) (d : TransferDeed) (u : List Packet)
+    → MayDoTransfer t.longest t.size z.side d
+    → at t b far back z u → at t b far back (does_transfer z.epoch z.side d) (u ++ transfer_packet_of z.side d ∷ [])
+deed t b far back z d u may reached = near_moves _ _ reached (two.Does d may)
 
-pub finds_no_error : WithAnyPeer FindsNoError
-finds_no_error t longest size small one w reached = (reached_holds small one reached).quiet
+stepped : {t b : Terms} (w : JoinedCall) (back : List Packet) (s : OwnStep (At Stretch) Packet) {y : At PeerStretch} {first : List Packet}
+    → w.error ≡ None → TransferSteps t y first s
+    → IsReached t b (record (as_two w) { near = as_at as_peer_stretch s.next; out = w.out ++ s.out; back = back })
+    → Holds t b (near_stepped w back s s.error)
+stepped w back s none h reached = record { quiet = ap (λ e. first_error e s.error) none ∙ h.quiet; own = h.own; reached = reached }
+
+module _ (keep_order : OfAnyTwoPeers KeepOrder) where
+  happens : {t b : Terms} → t.window ≤ 7 → 1 ≤ t.size → (w v : JoinedCall) → HappensInCall t b.longest b.size w v → Holds t b w → Holds t b v
+  happens {t} {b} small one w v (Acts act) h =
+      let s = transfer_did small one w.near.epoch w.near.side act h.own in
+      stepped w w.back (transfer_acts t w.near act) h.quiet s
+      (acts_keep (at t b w.peer w.back) (deed t b w.peer w.back) s.heard w.out h.reached)
+  happens {t} {b} small one w v (Takes p rest is) h =
+      let front = subst (λ K. ExpectsFront b (as_side as_peer_stretch w.near.side) K) is (keep_order t b (as_two w) h.reached).near_expects in
+      let s = transfer_took b w.near.epoch w.near.side p front h.own in
+      stepped w rest (transfer_takes b.longest b.size w.near p) h.quiet s
+      (heard_keeps (at t b w.peer rest) (deed t b w.peer rest) s.heard w.out
+      (near_moves (as_two w) _ h.reached (two.Hears p rest is)))
+  happens small one w v (Does deed may) h = record { quiet = h.quiet; own = h.own; reached = far_moves (as_two w) _ h.reached (two.Does deed may) }
+  happens small one w v (Hears p rest is) h = record { quiet = h.quiet; own = h.own; reached = far_moves (as_two w) _ h.reached (two.Hears p rest is) }
+  happens small one w v (Skips y dropped rest none live is) h = record {
+    quiet = h.quiet;
+    own = h.own;
+    reached = far_moves (as_two w) _ h.reached (two.Skips y dropped rest none live is);
+  }
+
+  holds : {t b : Terms} → t.window ≤ 7 → 1 ≤ t.size → {w : JoinedCall} → ReachedInCall t b.longest b.size w → Holds t b w
+  holds {t} small one at_start = record { quiet = refl; own = Own-fresh t; reached = two.at_start }
+  holds {t} {b} small one {w} (goes_on v u h event) = happens small one v w event (holds small one h)
+
+  -- what a peer sends by
+  abbrev peers : ℕ → ℕ → Terms
+  peers longest size = record { window = 7; size = size; longest = longest }
+
+  pub finds_no_error : WithAnyPeer FindsNoError
+  finds_no_error t longest size small one w reached = (holds {b = peers longest size} small one reached).quiet
+
+  pub keeps_stretches : WithAnyPeer KeepsStretches
+  keeps_stretches t longest size small one w reached =
+      let h = holds {b = peers longest size} small one reached in
+      peer_epochs h.own (keep_order t (peers longest size) (as_two w) h.reached).order

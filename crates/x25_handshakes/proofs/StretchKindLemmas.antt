@@ -9,9 +9,11 @@ use Rattle.x25_handshakes.proofs.Names.{SendsReset, transfer_side_acts, Phase, U
 use Rattle.x25_handshakes.proofs.Names.{calling_talk, called_talk, is_answered, accepts, phase_takes, call_takes, CallAct, PlacesCall, AcceptsCall, Talks}
 use Rattle.x25_handshakes.proofs.{ChannelRelation.{clear_mark, Seen}, ClaimLemmas.{Seen-joint}, HandshakeLemmas.{meets}}
 use Rattle.x25_handshakes.proofs.HistoryLemmas.{Change, Stays, MoreResets, IsPrefix-refl}
-use Rattle.x25_handshakes.proofs.{Names.{phase_acts, Lists, none, resets_in, messages, IsPrefix, Terms}, OwnTransferLemmas.{inner_mark}}
-use Rattle.x25_handshakes.proofs.{StretchLemmas.{GoodStretch-takes, FollowsFrom-from_Dir}, StretchRelation.{InFlowControl, FollowsFrom}, TermsLemmas.{IsSound}}
-use Rattle.x25_handshakes.proofs.{TransferRelation.{stretch_level, TransfersRelated}, TurnLemmas.{MayIndicate, WithinCall, IsHandled}}
+use Rattle.x25_handshakes.proofs.{Names.{phase_acts, Lists, none, resets_in, messages, IsPrefix, Terms}, PeerTransferLemmas.{inner_mark}}
+use Rattle.x25_handshakes.proofs.{StretchLemmas.{follows}, StretchRelation.{InFlowControl, FollowsFrom, Kept}}
+use Rattle.x25_handshakes.proofs.{OwnStretchLemmas.{stretch_took, did_kept}, PeerDeeds.{Kept-flip, taking_kept, expects}}
+use Rattle.x25_handshakes.proofs.{ViewLemmas.{same_state}, Names.{as_peer_stretch, as_side}}
+use Rattle.x25_handshakes.proofs.{TransferRelation.{two_level, TransfersRelated}, TurnLemmas.{MayIndicate, WithinCall, IsHandled}}
 use Rattle.x25_handshakes.specs.laws.{Handshake.{left}, Histories.{held_in, of_stretch, interrupts}}
 
 -- what has to be known of two lists of a stretch
@@ -61,19 +63,22 @@ transfer_taken down up k A longest size e s (Left x) ResetConf f = MoreResets re
 transfer_taken down up k A longest size e s (Left x) other f = still down up A e (left s x)
 
 -- in p4: the packet is taken in the stretch in which the other end is, or which it left
-in_its_stretch : {M : Type 0} {down up : Stretch → List M} → IsKept down up → {t b : Terms} → IsSound b
-    → (e : ℕ) {x : At Stretch} {u : List Packet} (p : Packet) (v : List Packet) {z : At Stretch}
+in_its_stretch : {M : Type 0} {down up : Stretch → List M} → IsKept down up → {t b : Terms} (e : ℕ) {x : At Stretch}
+    {u : List Packet} (p : Packet) (v : List Packet) {z : At Stretch}
     → TransfersRelated t b x u (p ∷ v) z
     → TransferChange down up (λ l. (z.epoch ≡ x.epoch) × IsPrefix l (down (state_of z.side))) e x (transfer_takes b.longest b.size x p).next
-in_its_stretch {down} {up} k {t} {b} sound e {x} {u} p v {z} h =
+in_its_stretch {down} {up} k {t} {b} e {x} {u} p v {z} h =
     transfer_taken down up k (λ l. (z.epoch ≡ x.epoch) × IsPrefix l (down (state_of z.side))) b.longest b.size e x.epoch x.side p
     (λ a is open_p.
     let hand = subst (λ s. TransfersRelated t b (record { epoch = x.epoch; side = s }) u (p ∷ v) z) is h in
-    let inside = meets (stretch_level t b) p (inner_mark p open_p) x.epoch z.epoch a z.side u v hand.hand in
-    let good = GoodStretch-takes sound p inside.2 inside.3 in (
+    let inside = meets (two_level t b) p (inner_mark p open_p) x.epoch z.epoch (as_peer_stretch a) (as_side as_peer_stretch z.side) u v
+    hand.two.hand.hand in
+    let kept = subst (λ s. Kept t b (as_peer_stretch a) inside.1 (p ∷ inside.2) s) (same_state as_peer_stretch z.side) inside.3 in
+    let took = stretch_took b p (expects p kept) hand.own in
+    let after = did_kept took.heard (taking_kept p inside.2 kept) in (
       sym inside.0,
       k.begins (state_of z.side) inside.2 (stretch_takes b.longest b.size a p).next
-          (FollowsFrom-from_Dir good.kept.back),
+          (follows (record { own = hand.own_there; own_there = took.own; kept = Kept-flip after })),
     ))
 
 -- outside of p4 nothing is held
@@ -113,7 +118,7 @@ phase_taken {M} down up k r e (Talking t b x) m i u p v y h =
     subst (λ a. Change (λ l. (resets_in a ≡ x.epoch) × IsPrefix l (held_in down up a).down) e x.epoch (held_of down up x) e
     (transfer_takes b.longest b.size x p).next.epoch
     (held_of down up (transfer_takes b.longest b.size x p).next)) (sym joint.phase)
-    (in_its_stretch k joint.talks.sound_back e p v joint.talks.related)
+    (in_its_stretch k e p v joint.talks.related)
 
 call_taken : {M : Type 0} (down up : Stretch → List M) → IsKept down up
     → (r : Role) (e : ℕ) (c : Connection) (u : List Packet) (p : Packet) (v : List Packet) (y : Connection)

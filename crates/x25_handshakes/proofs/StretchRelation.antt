@@ -1,6 +1,7 @@
--- What is kept of two circuits in d1 of one stretch, and the lines between them.
+-- What is kept of two ends in d1 of one stretch, whatever stations they are, and the lines between them; and of our own circuits there.
 use Rattle.x25_handshakes.proofs.Names.{◌≡◌, ℕ, ◌+◌, ◌%◌, ◌≤◌, List, [], ◌∷◌, ◌++◌, length, Option, Some, None, Bool, true, false, Message, Piece, no_part}
-use Rattle.x25_handshakes.proofs.Names.{joining, carried, AreSound, resolved, Packet, Data, Rr, Rnr, Int, IntConf, Stretch, IsPrefix, OwnStep, Terms}
+use Rattle.x25_handshakes.proofs.Names.{joining, carried, AreSound, resolved, Packet, Data, Rr, Rnr, Int, IntConf, Stretch, IsPrefix, Terms}
+use Rattle.x25_handshakes.proofs.Names.{PeerStretch, as_peer_stretch}
 use Rattle.x25_handshakes.proofs.HandshakeRelation.{Each}
 
 -- a data packet's number and what it carries
@@ -92,10 +93,11 @@ pub record Line (sent taken : List Piece) (u : List Packet) : Type 0 where
   pub numbers : Numbered (length taken) u
   pub kinds : AllInFlowControl u
 
--- the window, and the numbers P(R) on the way back
-pub record Acks (k acked sent : ℕ) (v : List Packet) (taken : ℕ) : Type 0 where
-  pub room : sent ≤ acked + k
-  pub acks : heard acked v ≤ taken
+-- the window; the last of the numbers P(R) on the way back is the one that was told last, and none is more than was taken
+pub record Acks (acked sent : ℕ) (v : List Packet) (told taken : ℕ) : Type 0 where
+  pub room : sent ≤ acked + 7
+  pub acks : heard acked v ≡ told
+  pub late : told ≤ taken
 
 -- at most one interrupt is out: it is on the way, or its confirmation is owed, or that is on the way; and those handed
 -- down are those handed up and those on the way
@@ -109,14 +111,6 @@ pub record Text (longest size : ℕ) (sent rest : List Piece) (down : List Messa
   pub whole : joining no_part (sent ++ rest) ≡ no_part
   pub messages : down ≡ carried (sent ++ rest)
 
--- the direction from x to y; u is on the way there, v on the way back
-pub record Direction (t : Terms) (x : Stretch) (u v : List Packet) (y : Stretch) : Type 0 where
-  pub line : Line x.sent y.taken u
-  pub acks : Acks t.window x.acked (length x.sent) v (length y.taken)
-  pub ints : Ints x.int_out x.int_down y.int_up u v 0
-  pub text : Text t.longest t.size x.sent x.rest x.down
-  pub up : y.up ≡ carried y.taken
-
 -- whether the other end is ready, once this packet has come
 abbrev pub readied : Bool → Packet → Bool
 readied b (Rr r) = true
@@ -128,22 +122,30 @@ abbrev pub all_readied : Bool → List Packet → Bool
 all_readied b [] = b
 all_readied b (p ∷ v) = all_readied (readied b p) v
 
--- Once all of v has come, x knows how far y has taken, and whether y is ready: each is told as soon as it changes.
-pub record Told (x : Stretch) (v : List Packet) (y : Stretch) : Type 0 where
-  pub acks : heard x.acked v ≡ length y.taken
+-- From one end to another, each of which keeps the rules: x sends by these terms; u is on the way there, v on the way back.
+pub record OneWay (t : Terms) (x : PeerStretch) (u v : List Packet) (y : PeerStretch) : Type 0 where
+  pub line : Line x.sent y.taken u
+  pub acks : Acks x.acked (length x.sent) v y.told (length y.taken)
+  pub ints : Ints x.int_out x.int_down y.int_up u v y.owed
+  pub sound : AreSound t.longest t.size no_part x.sent
   pub ready : all_readied x.peer_ready v ≡ y.own_ready
 
-pub record StretchesRelated (t b : Terms) (x : Stretch) (u v : List Packet) (y : Stretch) : Type 0 where
-  pub there : Direction t x u v y
-  pub back : Direction b y v u x
-  pub told : Told x v y
-  pub told_back : Told y u x
+-- what is kept of the two, whatever stations they are
+pub record Kept (t b : Terms) (x : PeerStretch) (u v : List Packet) (y : PeerStretch) : Type 0 where
+  pub there : OneWay t x u v y
+  pub back : OneWay b y v u x
 
--- a step that is no error, and keeps the relation to the other end, of whatever kind
-pub record GoodStretch {T : Type 0} (R : Stretch → List Packet → List Packet → T → Type 0) (s : OwnStep Stretch Packet) (u v : List Packet)
-    (y : T) : Type 0 where
-  pub quiet : s.error ≡ None
-  pub kept : R s.next (u ++ s.out) v y
+-- what our own circuit keeps by itself, which sends by these terms: what it was handed down it sent or it waits, and it
+-- handed up what it took
+pub record Own (t : Terms) (x : Stretch) : Type 0 where
+  pub text : Text t.longest t.size x.sent x.rest x.down
+  pub up : x.up ≡ carried x.taken
+
+-- two circuits of ours, each of which is a peer of the other
+pub record StretchesRelated (t b : Terms) (x : Stretch) (u v : List Packet) (y : Stretch) : Type 0 where
+  pub own : Own t x
+  pub own_there : Own b y
+  pub kept : Kept t b (as_peer_stretch x) u v (as_peer_stretch y)
 
 -- what is claimed of one direction
 pub record FollowsFrom (giver : Stretch) (u : List Packet) (taker : Stretch) : Type 0 where

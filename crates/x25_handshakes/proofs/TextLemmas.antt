@@ -18,10 +18,6 @@ carried-append j (p ∷ a) b =
     ap (λ l. completed j p ++ l) (carried-append (joined j p) a b)
     ∙ sym (append_assoc (completed j p) (carried_from (joined j p) a) (carried_from (joining (joined j p) a) b))
 
-pub AreSound-front : (longest size : ℕ) (j : Partial) (a b : List Piece) → AreSound longest size j (a ++ b) → AreSound longest size j a
-AreSound-front longest size j [] b h = tt
-AreSound-front longest size j (p ∷ a) b h = (h.0, AreSound-front longest size (joined j p) a b h.1)
-
 -- the later pieces are sound behind the first
 pub AreSound-back : (longest size : ℕ) (j : Partial) (a b : List Piece) → AreSound longest size j (a ++ b) → AreSound longest size (joining j a) b
 AreSound-back longest size j [] b h = h

@@ -5,10 +5,11 @@ use Rattle.x25_handshakes.proofs.Names.{arith, eqb-true, Role, Inner, Side, Live
 use Rattle.x25_handshakes.proofs.Names.{Connection, call_takes, CallAct, call_acts, fresh_call, lifted_call, channel_side_takes, channel_takes, ChannelAct}
 use Rattle.x25_handshakes.proofs.Names.{Within, SendsClear, clears, channel_side_acts, channel_acts, LayerPacket, On, RestartConf, Channels, put}
 use Rattle.x25_handshakes.proofs.Names.{layer_side_takes, LayerAct, OnChannel, SendsRestart, layer_side_acts, Name, Lists, none, Kind, name_at, channel_view}
-use Rattle.x25_handshakes.proofs.{ChannelRelation.{clear_mark, Seen, connection_level, ChannelRelated}, HandshakeLemmas.{meets}}
+use Rattle.x25_handshakes.proofs.{ChannelRelation.{clear_mark, Seen, TwoCalls, two_call_level, TwoChannels, IsCalled}, CallsRelation.{OwnPhase}, ViewLemmas.{same_state}, HandshakeLemmas.{meets}}
 use Rattle.x25_handshakes.proofs.HistoryLemmas.{Change, Stays, MoreResets, MoreClears, Turn, Remained, Restarted, MayHandUp, IsPrefix-refl}
-use Rattle.x25_handshakes.proofs.{LayersRelation.{on, channels_level, LayersRelated, EndsRelated}, NameLemmas.{name_eq}, Names.{IsPrefix}}
-use Rattle.x25_handshakes.{proofs.OwnLayerLemmas.{on-front}, specs.laws.Histories.{circuit_at}}
+use Rattle.x25_handshakes.proofs.{LayersRelation.{on, OnEach, two_layers_level, LayersRelated, EndsRelated}, NameLemmas.{name_eq}, Names.{IsPrefix}}
+use Rattle.x25_handshakes.{proofs.PeerLayerLemmas.{on-front}, specs.laws.Histories.{circuit_at}, specs.laws.LayerPeers.{as_peer_call, as_peer_channels}}
+use Rattle.x25_handshakes.proofs.Names.{as_at, as_side}
 
 -- what may be handed up in a call, where the other end stands in y
 abbrev pub MayIndicate : {M : Type 0} → Kind M → Connection → Connection → List M → Type 0
@@ -114,17 +115,26 @@ pub taken_in_its_epoch : {M : Type 0} (kind : Kind M) → IsHandled kind
 taken_in_its_epoch kind handled r rs x k c p L K far history inner side top =
     let layers = Ends-meet r (live rs x) L far top in
     let y = state_of far in
-    let channels = meets (channels_level r) (On k p) refl rs y.epoch x y.side layers.0 K layers.1.hand in
+    let channels = meets (two_layers_level IsCalled IsCalled r) (On k p) refl rs y.epoch (as_peer_channels x) (as_side as_peer_channels y.side) layers.0 K
+    layers.1.near.two.hand in
     let v = on k channels.2 in
     let u = on k channels.1 in
     let z = circuit_at y k in
+    let there = subst (λ s. OnEach (TwoChannels IsCalled IsCalled r) (as_peer_channels x) channels.1 (On k p ∷ channels.2) s)
+    (same_state as_peer_channels y.side) channels.3 in
     let is_x : x k ≡ live (x k).epoch c = ap (λ s. record { epoch = (x k).epoch; side = s }) side in
-    let channel : ChannelRelated r (live (x k).epoch c) u (p ∷ v) z =
-    subst (λ j. ChannelRelated r j u (p ∷ v) z) is_x (rw (sym (on-front k p channels.2)) (channels.3.each k)) in
-    let call = meets (connection_level r) p inner (x k).epoch z.epoch c z.side u v channel.hand in
+    let channel : TwoChannels IsCalled IsCalled r (live (x k).epoch (as_peer_call c)) u (p ∷ v) (as_at as_peer_call z) =
+    subst (λ j. TwoChannels IsCalled IsCalled r (as_at as_peer_call j) u (p ∷ v) (as_at as_peer_call z)) is_x
+    (subst (λ l. TwoChannels IsCalled IsCalled r (as_at as_peer_call (x k)) u l (as_at as_peer_call z)) (on-front k p channels.2) (there.each k)) in
+    let call = meets (two_call_level IsCalled IsCalled r) p inner (x k).epoch z.epoch (as_peer_call c) (as_side as_peer_call z.side) u v channel.hand in
+    let seen : Seen r c call.1 (p ∷ call.2) (state_of z.side) = record {
+      own = subst (λ (s : Side Connection). OwnPhase (state_of s).phase) side (layers.1.near.own k);
+      own_there = layers.1.own_there k;
+      two = subst (λ s. TwoCalls r (as_peer_call c) call.1 (p ∷ call.2) s) (same_state as_peer_call z.side) call.3;
+    } in
     let counted : kind.resets c ≡ kind.resets (state_of (x k).side) = ap (λ s. kind.resets (state_of s)) (sym side) in
     let n : Connection = (call_takes r c p).next in
     change_map (MayIndicate kind c (state_of z.side)) (MayHandUp (name_at kind (live rs x) k) (channel_view kind (state_of far) k history))
     (x k).epoch (kind.resets c) (kind.held c) (x k).epoch (kind.resets n) (kind.held n)
     (λ may. (name_eq (name_at kind y k) (name_at kind (live rs x) k) (sym channels.0) (sym call.0) (may.0 ∙ counted), may.1))
-    (handled.takes r (x k).epoch c call.1 p call.2 (state_of z.side) inner call.3)
+    (handled.takes r (x k).epoch c call.1 p call.2 (state_of z.side) inner seen)

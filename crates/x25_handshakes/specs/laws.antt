@@ -21,3 +21,5 @@ pub mod PeerTransfer
 pub mod Stretch
 pub mod Terms
 pub mod Transfer
+pub mod TwoLayers
+pub mod TwoPeers

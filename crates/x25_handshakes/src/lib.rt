@@ -8,5 +8,5 @@ mod law;
 
 pub use law::{
     acknowledged_are_handed_up, any_peer_keeps_layers, any_peer_keeps_stretches, drained_ends_know,
-    keeps_order, layers_are_peers, peers_move,
+    keeps_order, layers_are_peers, peers_move, two_layers_keep_order, two_peers_keep_order,
 };

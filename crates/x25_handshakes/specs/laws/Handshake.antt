@@ -42,6 +42,17 @@ abbrev pub first_error : Option ℕ → Option ℕ → Option ℕ
 first_error None e = e
 first_error (Some n) e = Some n
 
+-- two ends that keep the rules, and the packets on the way from the near one and to it, front first
+pub record Two (S P : Type 0) : Type 0 where
+  pub near : At S
+  pub far : At S
+  pub out : List P
+  pub back : List P
+
+-- seen from the far end
+abbrev pub swapped : {S P : Type 0} → Two S P → Two S P
+swapped w = record { near = w.far; far = w.near; out = w.back; back = w.out }
+
 -- Our end, a peer, the packets on the way from our end and to it, front first, and the number of the first error of
 -- procedure that our end found, if there was one.
 pub record Beside (S T P : Type 0) : Type 0 where

@@ -19,6 +19,8 @@ as_peer_stretch x = record {
   owed = 0;
   int_down = x.int_down;
   int_up = x.int_up;
+  own_ready = x.own_ready;
+  peer_ready = x.peer_ready;
 }
 
 abbrev pub as_side : {S T : Type 0} → (S → T) → Side S → Side T

@@ -8,7 +8,8 @@ use Rattle.x25_window.specs.code.Modulo.{resolved}
 use Rattle.x25_handshakes.specs.laws.Stretch.{Packet, Data, Rr, Rnr, Int, IntConf, status}
 
 -- All data packets that it sent and took; how many of the first are acknowledged to it, and how many of the second it
--- acknowledged last; whether an interrupt of its own is out, and how many it has to confirm; and all interrupts.
+-- acknowledged last; whether an interrupt of its own is out, and how many it has to confirm; all interrupts; and by the
+-- last RR or RNR whether it is ready and the other end is, which no rule asks.
 pub record PeerStretch : Type 0 where
   pub sent : List Piece
   pub taken : List Piece
@@ -18,6 +19,8 @@ pub record PeerStretch : Type 0 where
   pub owed : ℕ
   pub int_down : List (List ℕ)
   pub int_up : List (List ℕ)
+  pub own_ready : Bool
+  pub peer_ready : Bool
 
 abbrev pub fresh_peer : PeerStretch
 fresh_peer = record {
@@ -29,6 +32,8 @@ fresh_peer = record {
   owed = 0;
   int_down = [];
   int_up = [];
+  own_ready = true;
+  peer_ready = true;
 }
 
 -- ---- what it sends
@@ -60,7 +65,7 @@ MayDo longest size y Confirms = 1 ≤ y.owed
 
 abbrev pub does : PeerStretch → Deed → PeerStretch
 does y (Sends p n) = record y { sent = y.sent ++ p ∷ []; told = n }
-does y (Says ready n) = record y { told = n }
+does y (Says ready n) = record y { told = n; own_ready = ready }
 does y (Interrupts xs) = record y { int_out = true; int_down = y.int_down ++ xs ∷ [] }
 does y Confirms = record y { owed = y.owed - 1 }
 
@@ -80,8 +85,8 @@ taking y (Data s r p) = record y {
   acked = resolved y.acked r;
   taken = if s == length y.taken % 8 then y.taken ++ p ∷ [] else y.taken;
 }
-taking y (Rr r) = record y { acked = resolved y.acked r }
-taking y (Rnr r) = record y { acked = resolved y.acked r }
+taking y (Rr r) = record y { acked = resolved y.acked r; peer_ready = true }
+taking y (Rnr r) = record y { acked = resolved y.acked r; peer_ready = false }
 taking y (Int xs) = record y { owed = y.owed + 1; int_up = y.int_up ++ xs ∷ [] }
 taking y IntConf = record y { int_out = false }
 taking y other = y

@@ -1,4 +1,4 @@
-use Rattle.x25_handshakes.proofs.PeerLayerLemmas.{keeps_layers, layer_finds_no_error, layer_has_arrived}
+use Rattle.x25_handshakes.proofs.PeerLayerRuns.{keeps_layers, layer_finds_no_error, layer_has_arrived}
 use Rattle.x25_handshakes.proofs.law.any_peer_keeps_layers.Goals as goal
 
 pub returns : goal.returns

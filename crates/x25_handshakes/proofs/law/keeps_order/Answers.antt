@@ -7,6 +7,6 @@ returns c = record {
   quiet = λ events. (Stands-run c.laws_below.ensures events Stands-start).quiet;
   messages = in_order messages_handled c.laws_below.ensures;
   interrupts = in_order interrupts_handled c.laws_below.ensures;
-  calls = in_order calls_handled c.laws_below.ensures;
+  calls = in_order (calls_handled c.laws_below.ensures) c.laws_below.ensures;
   arrived = all_arrives c.laws_below.ensures;
 }
