@@ -97,8 +97,8 @@ typedef struct {
     uint32_t t21; /* a call is accepted */
     uint32_t t22; /* a reset is confirmed */
     uint32_t t23; /* clearing is confirmed */
-    uint32_t later; /* 0: room for times of later versions, as is `more` */
-    uint32_t more;
+    uint32_t t26; /* an interrupt is confirmed */
+    uint32_t more; /* 0: room for a time of a later version */
 } x25_times;
 
 /* An item of an answer: its kind, and what the kinds below have; what one doesn't have is 0. */
@@ -136,7 +136,8 @@ enum {
     X25_AWAITS_NOTHING = 0,
     X25_AWAITS_ACCEPTANCE = 1,
     X25_AWAITS_RESET_DONE = 2,
-    X25_AWAITS_CLEAR_DONE = 3
+    X25_AWAITS_CLEAR_DONE = 3,
+    X25_AWAITS_INTERRUPT_DONE = 4
 };
 
 /* The kinds of items, and what each has but its kind. docs/FORMATS.md has the entries of the transcript that they are. */
@@ -172,8 +173,8 @@ enum {
     X25_EVENT_READY_ASKED = 29,
     X25_EVENT_NOT_READY_ASKED = 30,
     X25_EVENT_RELINK_ASKED = 31,   /* no channel */
-    X25_EVENT_TIMEOUT = 32,        /* a timer passed, the first event of the answer: reason is its number, 1, 3, or 20 to 23, of a DCE
-                                      10 to 13; channel, 0 where it is of none */
+    X25_EVENT_TIMEOUT = 32,        /* a timer passed, the first event of the answer: reason is its number, 1, 3, 26, or 20 to 23, of a
+                                      DCE 10 to 13; channel, 0 where it is of none */
     X25_EVENT_CONFIRMED = 33       /* so many messages more are confirmed, of those of x25_send_asking of this stretch, in their order:
                                       channel, stretch, confirmed */
 };
@@ -278,15 +279,15 @@ uint32_t x25_send_asking(x25_station *station, uint16_t channel, bool q, const u
    answers. */
 uint32_t x25_command(x25_station *station, const char *text, size_t text_count);
 
-/* Writes the times of Annex D for an end, and 3 and 60 seconds for T1 and T3. 14. */
+/* Writes the times of Annex D for an end, which has none for an interrupt of a DCE, and 3 and 60 seconds for T1 and T3. 14. */
 uint32_t x25_standard_times(uint8_t end, x25_times *times);
 /* Gives the station a clock with these times, in place of the one that it has. From then on the time of each answer begins as it
    is awaited, and of those that are awaited already it begins at once. */
 uint32_t x25_set_times(x25_station *station, x25_times times);
 /* The time is now, in milliseconds from any beginning, until it is said again; 0 before it is said, and as it is said first the
    time of all that is awaited begins. The first of what is due by the clock is asked for, as the program would ask: T1 fires; no
-   answer to a call or to a reset (T21, T22): x25_clear; none to that (T23): x25_restart; none to that (T20), and in place of
-   these two where 256 packets wait: x25_relink; an idle link (T3): x25_probe. Its time begins anew, also where it is refused.
+   answer to an interrupt (T26): x25_reset; none to a call or to a reset (T21, T22): x25_clear; none to that (T23): x25_restart;
+   none to that (T20), and in place of these three where 256 packets wait: x25_relink; an idle link (T3): x25_probe. Its time begins anew, also where it is refused.
    Where nothing is due nothing is answered. 34 for a time before the last one, and what the call asked for answers. */
 uint32_t x25_time(x25_station *station, uint64_t now);
 /* Whether something is due at some moment, where nothing happens before: then that is written to at, which is else as it was. */
@@ -331,6 +332,9 @@ size_t x25_room(const x25_station *station, uint16_t channel);
 size_t x25_unconfirmed(const x25_station *station, uint16_t channel);
 /* What this end awaits on a channel: X25_AWAITS_NOTHING .. */
 uint32_t x25_awaits(const x25_station *station, uint16_t channel);
+/* On how many channels there is a call: one is up, or this end awaits an answer there. A call that came and that this end has
+   neither accepted nor cleared isn't counted. */
+size_t x25_open_calls(const x25_station *station);
 /* Whether a restart is under way: this end awaits that it be confirmed. */
 bool x25_is_restarting(const x25_station *station);
 /* Whether a stretch is open on a channel: a call is up there, and no reset is under way. Then its name is written, which else is

@@ -4,10 +4,13 @@
 
 Either end is `x25 station --clock`, in time that is counted, not waited for. From some moment on some kinds of answers of one end never come
 to the other: in frames of packets stands RR on a channel that isn't there, and UA, supervisory frames or all frames are lost. The line loses
-frames besides. Whatever is left out, at either end:
+frames besides. In some runs noise comes from then on: single octets, damaged frames, frames of other addresses. In some there is a flood:
+each frame comes up to five times, and the user of the other end asks for a dozen things at once. Whatever comes or doesn't, at either end:
 
-  - a channel awaits an answer no longer than the times of a call, a clearing and a restart add up to, unless the link comes up or goes down
-  - while the link is set up, or is up and nothing comes, it comes up or goes down within N2 + 1 times T1, and T3 before where it is up
+  - a channel awaits an answer no longer than the times of a call, a clearing and a restart add up to, or of an interrupt those of an
+    interrupt, a reset, a clearing and a restart, unless the link comes up or goes down
+  - while the link is set up, or is up and nothing but noise comes, it comes up or goes down within N2 + 1 times T1, and T3 before where it
+    is up
   - at the mark of the station stands `due` where it awaits an answer, and only there, and no timer runs without end
 
 At the end all answers come again: a call has to be connected and cleared within the same time.
@@ -23,7 +26,7 @@ import sys
 
 import runs
 from peer_runs import Failed
-from runs import ACCEPTED, CLEAR, CLEAR_CONFIRMATION, RESET_CONFIRMATION, RESTART_CONFIRMATION
+from runs import ACCEPTED, CLEAR, CLEAR_CONFIRMATION, INTERRUPT_CONFIRMATION, RESET_CONFIRMATION, RESTART_CONFIRMATION
 
 from x25tools import piped  # where runs finds it
 from x25tools.x25lines import BadInput, fcs, is_sealed
@@ -32,19 +35,25 @@ ENDS = ("dte", "dce")
 OTHER = {"dte": "dce", "dce": "dte"}
 DIRECTION = {"dte": ">", "dce": "<"}
 # Kinds of answers: those of packets by their octet, and of frames that bring none.
-PACKETS = (ACCEPTED, CLEAR, CLEAR_CONFIRMATION, RESET_CONFIRMATION, RESTART_CONFIRMATION)
+PACKETS = (ACCEPTED, CLEAR, CLEAR_CONFIRMATION, RESET_CONFIRMATION, RESTART_CONFIRMATION, INTERRUPT_CONFIRMATION)
 UA, SUPERVISORY, ALL = "UA", "supervisory frames", "all frames"
 KINDS = (*PACKETS, UA, SUPERVISORY, ALL)
 CALLS = {end: f"{end} call 12 34 -" for end in ENDS}
 CHANNELS, N2 = 3, 4
 # All times are in milliseconds.
 LATENCY = 100
-TIMES = {"t1": 1000, "t3": 7000, "t20": 20_000, "t21": 31_000, "t22": 24_000, "t23": 17_000}
-# How long a channel may await an answer.
+TIMES = {"t1": 1000, "t3": 7000, "t20": 20_000, "t21": 31_000, "t22": 24_000, "t23": 17_000, "t26": 13_000}
+# How long a channel may await an answer, and that to an interrupt.
 WAIT = TIMES["t21"] + TIMES["t23"] + TIMES["t20"]
+INTERRUPT_WAIT = TIMES["t26"] + TIMES["t22"] + TIMES["t23"] + TIMES["t20"]
 # That, and a link that is set up, or isn't; what is lost is sent again by T1.
-BOUND = WAIT + 3 * (N2 + 1) * TIMES["t1"]
+BOUND = max(WAIT, INTERRUPT_WAIT) + 3 * (N2 + 1) * TIMES["t1"]
 LASTS, LOSSES = 300_000, (0.02, 0.1)
+NOISE, FLOOD = "noise", "a flood"
+MANNERS = ("", "", NOISE, FLOOD)
+# How long it is between two of noise, and how often a frame comes and what the other user asks for at once, in a flood.
+PAUSE, COPIES, BURST = 2000, 5, 12
+LONG = 80_000
 # RR on a channel that the stations don't have.
 NOTHING = bytes([0x10, 0xFF, 0x01])
 # The event of an entry, and its channel.
@@ -75,10 +84,10 @@ class Told:
             self.awaited = {0: "restart"}
         elif event in ("restarted", "restartdone"):
             self.awaited = {}
-        elif event in ("call", "clear", "reset", "fault"):
+        elif event in ("call", "clear", "reset", "fault", "int"):
             # After a fault the station clears or resets.
             self.awaited[channel] = event
-        elif event in ("connected", "incoming", "cleared", "cleardone", "collided", "wasreset", "resetdone"):
+        elif event in ("connected", "incoming", "cleared", "cleardone", "collided", "wasreset", "resetdone", "intdone"):
             self.awaited.pop(channel, None)
         return False
 
@@ -95,8 +104,8 @@ class End:
 
     def odd(self, now):
         """What lasts for too long; nothing where nothing does."""
-        for channel, since in self.since.items():
-            if now - since > (self.setting_up if channel == Told.LINK else WAIT):
+        for channel, (since, first) in self.since.items():
+            if now - since > (self.setting_up if channel == Told.LINK else INTERRUPT_WAIT if first == "int" else WAIT):
                 return f"{self.name} awaits {self.told.awaited[channel]} on channel {channel} since {since}"
         is_silent = self.told.is_up and now - self.heard > TIMES["t3"] + self.setting_up
         return f"{self.name} hears nothing since {self.heard}" if is_silent else ""
@@ -129,6 +138,7 @@ class Run:
         self.kinds = set(self.chance.sample(KINDS, self.chance.choice([0, 1, 1, 2, len(PACKETS)])))
         self.begins = self.chance.choice([0, self.chance.randrange(LASTS)])
         self.loss = self.chance.choice(LOSSES)
+        self.manner = self.chance.choice(MANNERS)
         self.ends = {end: End(program, end, self.TIMES, self.N2) for end in ENDS}
         self.line = []
 
@@ -152,7 +162,8 @@ class Run:
                 self.push(end, f"{end.name} accept {channel}")
         if is_anew:
             end.heard = self.now
-        end.since = {channel: self.now if is_anew else end.since.get(channel, self.now) for channel in end.told.awaited}
+        begun = {channel: (self.now, asked) for channel, asked in end.told.awaited.items()}
+        end.since = begun if is_anew else {channel: end.since.get(channel, first) for channel, first in begun.items()}
         for frame in answer.frames:
             self.sends(end, frame.octets)
         end.due = answer.due
@@ -161,8 +172,14 @@ class Run:
         if answer.is_idle and answer.awaits != bool(end.told.awaited):
             raise Failed(f"{end.name}: the mark says {'due' if answer.awaits else 'idle'}, and awaited is {end.told.awaited}, after {event}")
 
-    def push(self, end, event):
-        heapq.heappush(self.line, (self.now + LATENCY, next(self.count), end.name, event))
+    def push(self, end, event, later=LATENCY, is_noise=False):
+        heapq.heappush(self.line, (self.now + later, next(self.count), end.name, event, is_noise))
+
+    def disturbs(self):
+        """Noise that comes next to the end that hears less: nothing by which the other end sends."""
+        damaged, foreign = self.chance.randbytes(self.chance.choice([1, 3, 9])), bytes([self.chance.choice([0x00, 0x07, 0xFF]), 0x01])
+        noise = foreign + fcs(foreign) if is_sealed(damaged) else self.chance.choice([damaged, foreign + fcs(foreign)])
+        self.push(self.ends[self.deaf], f"{DIRECTION[OTHER[self.deaf]]} {noise.hex()}", int(self.chance.expovariate(1 / PAUSE)), True)
 
     def sends(self, end, octets):
         """A frame goes to the other end, unless it is lost; what its packet layer doesn't hear is another packet there."""
@@ -175,7 +192,9 @@ class Run:
             if ALL in self.kinds or kind in self.kinds and kind not in PACKETS:
                 return
             octets = without_packet(octets) if kind in self.kinds else octets
-        self.push(self.ends[to], f"{DIRECTION[end.name]} {octets.hex()}")
+        floods = self.manner == FLOOD and to == self.deaf and self.now >= self.begins
+        for _ in range(self.chance.randint(1, COPIES) if floods else 1):
+            self.push(self.ends[to], f"{DIRECTION[end.name]} {octets.hex()}")
 
     def step(self, until):
         """What comes next: a frame, or a timer; answers False where nothing does before that."""
@@ -187,10 +206,12 @@ class Run:
             return False
         self.now = when
         if end is None:
-            _, _, name, event = heapq.heappop(self.line)
+            _, _, name, event, is_noise = heapq.heappop(self.line)
             end = self.ends[name]
-            if event[0] in "<>":
+            if event[0] in "<>" and not is_noise:
                 end.heard = self.now
+            if is_noise and self.now >= self.begins:
+                self.disturbs()
             self.ask(end, event)
         else:
             self.heed(end, end.station.ask(f"@ {self.now}"), "the time")
@@ -207,8 +228,13 @@ class Run:
         raise Failed(f"the timers run without end, at {self.now}")
 
     def command(self):
-        """A command of either user."""
-        end = self.ends[self.chance.choice(ENDS)]
+        """A command of either user, in a flood many of that of the other end."""
+        if self.manner == FLOOD and self.now >= self.begins:
+            for _ in range(BURST):
+                self.commands(self.ends[OTHER[self.deaf]])
+        self.commands(self.ends[self.chance.choice(ENDS)])
+
+    def commands(self, end):
         channel = self.chance.randint(1, CHANNELS)
         words = ["clear {}", "clear {}", "reset {}", "reset {}", "send {} 0 414243", "int {} 01", "restart", "connect", "relink"]
         event = self.chance.choice([CALLS[end.name]] * 8 + [f"{end.name} {word}".format(channel) for word in words])
@@ -225,8 +251,11 @@ class Run:
 
     def plays(self):
         self.ask(self.ends["dte"], "dte connect")
+        if self.manner == NOISE:
+            self.push(self.ends[self.deaf], f"{DIRECTION[OTHER[self.deaf]]} 00", self.begins, True)
         while self.now < LASTS:
-            self.lasts(self.now + int(self.chance.expovariate(1 / 5000)))
+            # Now and then no user asks anything, for longer than an answer may be awaited.
+            self.lasts(self.now + (LONG if self.chance.random() < 0.05 else int(self.chance.expovariate(1 / 5000))))
             self.command()
         self.loss, self.begins = 0, self.now + 1_000_000
         self.recovers(self.ends[self.deaf])
@@ -257,7 +286,7 @@ def play(program, seed, kind=Run):
         run.play()
     except (Failed, BadInput) as failed:
         kinds = ", ".join(f"{kind:02x}" if kind in PACKETS else kind for kind in KINDS if kind in run.kinds)
-        return [f"{failed} (deaf: {run.deaf}, of {kinds}, from {run.begins} on)"], run.frames
+        return [f"{failed} (deaf: {run.deaf}, of {kinds}, from {run.begins} on; {run.manner})"], run.frames
     return [], run.frames
 
 

@@ -28,7 +28,7 @@ static struct circuit {
 } circuits[CHANNELS + 1];
 static x25_station station;
 static const x25_sizes kilobytes = {10, 10, 7, 7};
-static const x25_times times = {.t1 = T1, .t3 = T3, .t20 = 180000, .t21 = 200000, .t22 = 180000, .t23 = 180000};
+static const x25_times times = {.t1 = T1, .t3 = T3, .t20 = 180000, .t21 = 200000, .t22 = 180000, .t23 = 180000, .t26 = 180000};
 static struct sockaddr_in near = {.sin_family = AF_INET}, far, place;
 static int line, listener = -1, waiting = -1; /* waiting: a client whose call can't be made yet */
 static volatile sig_atomic_t ends;

@@ -17,7 +17,7 @@ import time
 from x25 import DCE, DTE, Kind, Refused, Sizes, Station, Times
 
 CHANNELS, PIECE, ROOM, MOST_WAIT = 16, 4096, 65536, 1000
-TIMES = Times(t1=200, t3=1000, t20=180_000, t21=200_000, t22=180_000, t23=180_000)
+TIMES = Times(t1=200, t3=1000, t20=180_000, t21=200_000, t22=180_000, t23=180_000, t26=180_000)
 KILOBYTES = Sizes(10, 10, 7, 7)
 
 

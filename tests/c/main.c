@@ -527,6 +527,36 @@ static void try_confirmed(bool wide)
     x25_free(&dce.station);
 }
 
+/* An interrupt that isn't confirmed has its call reset. */
+static void try_interrupt_timer(void)
+{
+    x25_times times = {.t26 = 500, .t22 = 900};
+    x25_event event;
+    uint64_t at;
+    expect("new", x25_new(&dte.station, X25_DTE, one_channel), 0);
+    expect("new", x25_new(&dce.station, X25_DCE, one_channel), 0);
+    expect("times", x25_set_times(&dte.station, times), 0);
+    expect("a time", x25_time(&dte.station, 1000), 0);
+    expect("connect", x25_connect(&dte.station), 0);
+    take(&dte);
+    deliver_all();
+    ask(&dte, "call 1 2 -");
+    deliver_all();
+    ask(&dce, "accept 1");
+    deliver_all();
+    ask(&dte, "int 1 07");
+    expect("what is awaited", x25_awaits(&dte.station, 1), X25_AWAITS_INTERRUPT_DONE);
+    expect("T26 begins", x25_next(&dte.station, &at) && at == 1500, true);
+    expect("T26", x25_time(&dte.station, 1500), 0);
+    size_t i = x25_frames(&dte.station);
+    expect("its event", x25_take(&dte.station, i, &event, NULL, 0) && event.kind == X25_EVENT_TIMEOUT && event.reason == 26 && event.channel == 1, true);
+    expect("what it asked", x25_take(&dte.station, i + 1, &event, NULL, 0) && event.kind == X25_EVENT_RESET_ASKED && event.channel == 1, true);
+    expect("what is awaited", x25_awaits(&dte.station, 1), X25_AWAITS_RESET_DONE);
+    expect("T22 begins", x25_next(&dte.station, &at) && at == 2400, true);
+    x25_free(&dte.station);
+    x25_free(&dce.station);
+}
+
 /* By a clock what isn't answered is asked for by itself, and the answer tells the timer: of a call that isn't accepted. */
 static void try_clock(void)
 {
@@ -539,8 +569,9 @@ static void try_clock(void)
     dce.first = dce.next;
     expect("times of no end", x25_standard_times(2, &times) == X25_BAD_SETTING && times.t1 == 7, true);
     expect("times of a DCE", x25_standard_times(X25_DCE, &times) == 0 && times.t1 == 3000 && times.t20 == 60000, true);
+    expect("times of a DCE's interrupt", times.t26, 0);
     expect("times of a DTE", x25_standard_times(X25_DTE, &times) == 0 && times.t21 == 200000 && times.t23 == 180000, true);
-    expect("times of later versions", times.later | times.more, 0);
+    expect("times of its interrupt, and of later versions", times.t26 == 180000 && times.more == 0, true);
     expect("none has times", x25_set_times(&none, times), X25_NO_STATION);
     expect("none has a time", x25_time(&none, 1), X25_NO_STATION);
     expect("how long where there is none", x25_next_timeout(&none, 3, 5) == 5, true);
@@ -577,6 +608,7 @@ static void try_clock(void)
     expect("T23 begins", x25_next(&dte.station, &at) && at == 206500, true);
     x25_free(&dte.station);
     x25_free(&dce.station);
+    try_interrupt_timer();
     /* What was begun before a time was said begins as it is said first. */
     expect("new", x25_new(&dte.station, X25_DTE, one_channel), 0);
     expect("times", x25_set_times(&dte.station, times), 0);
@@ -604,9 +636,11 @@ int main(void)
     take(&dte);
     deliver_all();
     try_stretch(1, false);
+    expect("a call that isn't accepted", x25_open_calls(&dte.station) == 1 && x25_open_calls(&dce.station) == 0, true);
     ask(&dce, "accept 1");
     deliver_all();
     try_stretch(1, true);
+    expect("a call that is up", x25_open_calls(&dte.station) == 1 && x25_open_calls(&dce.station) == 1, true);
     expect("room", (uint32_t)x25_room(&dte.station, 1), 8);
     expect("room where there is no channel", (uint32_t)x25_room(&dte.station, 2), 0);
     try_stretch(2, false);
@@ -617,9 +651,11 @@ int main(void)
     expect("deadlines", dte.has_deadline || dce.has_deadline, false);
     ask(&dte, "disconnect");
     deliver_all();
+    expect("calls that are gone", x25_open_calls(&dte.station) + x25_open_calls(&dce.station) == 0, true);
     x25_free(&dte.station);
     x25_free(&dce.station);
     x25_free(&dce.station);
+    expect("calls of none", x25_open_calls(&dce.station) == 0, true);
     expect("held", dte.station.is_open || dce.station.is_open, false);
     fwrite(dte.told, 1, dte.length, stdout);
     fwrite(dce.told, 1, dce.length, stdout);

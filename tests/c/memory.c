@@ -61,7 +61,8 @@ static void did(uint32_t number)
     deliver_all();
 }
 
-/* A DTE has on each channel as many of the longest messages to send as may wait, of which the DCE acknowledges none. */
+/* A DTE has on each channel as many of the longest messages to send as may wait, of which the DCE acknowledges none. As all calls
+   end each channel keeps the memory of one message. */
 static void fill(uint16_t channels)
 {
     static const uint8_t message[65535];
@@ -85,7 +86,10 @@ static void fill(uint16_t channels)
     expect("more than 470 kB", empty > 470000, false);
     expect("more than 11 MB", most[0] > 11000000, false);
     expect("less than these messages", most[0] < (size_t)8 * channels * sizeof message, false);
-    printf("%s%u channels: %zu kB new, %zu kB at most", channels > 1 ? ", " : "", channels, empty / 1000, most[0] / 1000);
+    dte.first = dte.next, dce.first = dce.next;
+    did(x25_relink(&dte.station));
+    expect("more than a message of each call that ended", held[0] > empty + channels * sizeof message + 250000, false);
+    printf("%s%u channels: %zu kB new, %zu kB at most, %zu kB after it", channels > 1 ? ", " : "", channels, empty / 1000, most[0] / 1000, held[0] / 1000);
     who = &dte, x25_free(&dte.station);
     who = &dce, x25_free(&dce.station);
     expect("what is left", (uint32_t)(held[0] + held[1]), 0);

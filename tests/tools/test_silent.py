@@ -8,7 +8,8 @@ import subprocess
 import sys
 import time
 import unittest
-from concurrent.futures import ThreadPoolExecutor
+from concurrent.futures import ProcessPoolExecutor, ThreadPoolExecutor
+from functools import partial
 
 import support
 
@@ -17,10 +18,11 @@ from silent_runs import ENDS, OTHER
 from x25tools.piped import Station
 from x25tools.x25lines import fcs
 
-RUNS = 4
+# Random runs of all, a second each with a program that isn't proved; and of those that are watched more closely.
+RUNS, FEW = 240 // (1 if support.SHARE == 1 else 20), 4
 # What leads to each state of a circuit, asked of the end that hears less, or of the other one; and what can be asked there.
 IN_A_CALL = ("call", "clear {}", "restart", "relink")
-OPEN = (*IN_A_CALL, "reset {}", "send {} 0 4142")
+OPEN = (*IN_A_CALL, "reset {}", "send {} 0 4142", "int {} 01")
 STATES = {
     "down": ((), ("connect",)),
     "free": (("connect",), ("call", "restart", "relink")),
@@ -74,6 +76,18 @@ class Leaves(silent_runs.Run):
         return self.ends[self.deaf].told.awaited
 
 
+def left(row):
+    """What is awaited at the end of a row, or what failed."""
+    try:
+        return Leaves(support.PROGRAM, *row).play()
+    except silent_runs.Failed as failed:
+        return str(failed)
+
+
+class NoT26(Leaves):
+    TIMES = {**silent_runs.TIMES, "t26": 0}
+
+
 class Heals(silent_runs.Run):
     """Frames alone are lost, and both users send: no one helps but the clocks."""
 
@@ -97,7 +111,7 @@ class Heals(silent_runs.Run):
 class Twins:
     """A station with a clock, and one without, whose user asks in the place of each time what is due then: both have to say the same."""
 
-    LINES = {"T1": "t1 {0}", "T3": "{0} probe", "T20": "{0} relink", "T10": "{0} relink", "T23": "{0} restart", "T13": "{0} restart"}
+    LINES = {"T1": "t1 {0}", "T3": "{0} probe", "T20": "{0} relink", "T10": "{0} relink", "T23": "{0} restart", "T13": "{0} restart", "T26": "{0} reset {1}"}
 
     def __init__(self, timed, plain):
         self.timed, self.plain, self.passed = timed, plain, []
@@ -144,17 +158,22 @@ class Twofold(silent_runs.Run):
 @support.needs_station
 class SilentPeers(unittest.TestCase):
     def test_nothing_is_awaited_for_ever(self):
-        self.assertEqual([silent_runs.play(support.PROGRAM, seed)[0] for seed in range(RUNS)], [[]] * RUNS)
+        with ProcessPoolExecutor() as pool:
+            told = list(pool.map(partial(silent_runs.play, support.PROGRAM), range(RUNS), chunksize=4))
+        self.assertEqual([lines for lines, _ in told], [[]] * RUNS)
+        self.assertTrue(all(frames for _, frames in told))
 
     def test_nothing_is_in_any_state_whatever_is_left_out(self):
-        for deaf, kind, state in itertools.product(ENDS, silent_runs.KINDS, STATES):
-            for asked in STATES[state][1]:
-                with self.subTest(deaf=deaf, kind=kind, state=state, asked=asked):
-                    self.assertEqual(Leaves(support.PROGRAM, deaf, kind, state, asked).play(), {})
+        places = itertools.product(ENDS, silent_runs.KINDS, STATES)
+        rows = [(deaf, kind, state, asked) for deaf, kind, state in places for asked in STATES[state][1]]
+        with ProcessPoolExecutor() as pool:
+            for row, end in zip(rows, pool.map(left, rows, chunksize=8)):
+                with self.subTest(row):
+                    self.assertEqual(end, {})
 
     def test_a_clock_asks_what_a_user_would(self):
         passed = set()
-        for seed in range(RUNS):
+        for seed in range(FEW):
             with self.subTest(seed):
                 run = Twofold(support.PROGRAM, seed)
                 run.play()
@@ -164,11 +183,16 @@ class SilentPeers(unittest.TestCase):
     def test_it_is_where_a_timer_is_for_ever(self):
         for kind, why in ((NoT1, "awaits link|hears nothing since"), (NoT3, "hears nothing since"), (AsksNothing, "awaits (restart|call|reset|clear|fault) on channel")):
             with self.subTest(kind.__name__):
-                self.assertRegex("\n".join(line for seed in range(RUNS) for line in silent_runs.play(support.PROGRAM, seed, kind)[0]), why)
+                with ProcessPoolExecutor() as pool:
+                    told = pool.map(partial(silent_runs.play, support.PROGRAM, kind=kind), range(4 * FEW))
+                    self.assertRegex("\n".join(line for lines, _ in told for line in lines), why)
+
+        with self.assertRaisesRegex(silent_runs.Failed, "awaits int on channel 3"):
+            NoT26(support.PROGRAM, "dte", silent_runs.INTERRUPT_CONFIRMATION, "open", "int {} 01").play()
 
     def test_losses_heal(self):
         messages = [f"{number:04x}" for number in range(Heals.MESSAGES)]
-        for seed in range(RUNS):
+        for seed in range(FEW):
             with self.subTest(seed):
                 run = Heals(support.PROGRAM, seed)
                 self.assertEqual(run.play(), [messages] * 2)
@@ -182,7 +206,7 @@ def sent(octets):
 
 # The answers to SABM, RESTART and polls; what sets the link up, so that a DTE is at rest.
 POLLED = sent(b"\x01\x31")
-SET_UP = ("dte connect", sent(b"\x01\x73"), sent(b"\x03\x00\x10\x00\xfb\x07\x00"), sent(b"\x01\x21"))
+SET_UP = ("@ 0", "dte connect", sent(b"\x01\x73"), sent(b"\x03\x00\x10\x00\xfb\x07\x00"), sent(b"\x01\x21"))
 NOISE = {"an octet": "< 03", "a damaged frame": "< 03010000", "another address": sent(b"\x07\x01"), "an answer to nothing": sent(b"\x01\x21")}
 
 
@@ -192,7 +216,8 @@ class OtherEnds(unittest.TestCase):
 
     @staticmethod
     def set_up(station):
-        return [station.ask(line) for line in SET_UP][-1]
+        # The clock begins with the first time that is said.
+        return [station.ask(line) for line in ("@ 0", *SET_UP)][-1]
 
     def test_a_full_queue_has_an_end(self):
         with Station(support.PROGRAM, "dte", ["--clock", "--channels", "300"]) as station:

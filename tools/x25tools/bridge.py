@@ -40,8 +40,9 @@ is answered or T1 has passed.
 
 T1 fires --t1 seconds after it began anew, where nothing that came is unread; let it be longer than the way to the other end and
 back. Where nothing came for --t3 seconds, the other end is asked whether it is there: by a poll of the link, which it has to answer, and
-of a connection over TCP by the system. Where a call or a reset isn't answered in --t21 or --t22 seconds it is cleared; where a clearing
-isn't in --t23, the station restarts; and where a restart isn't in --t20, the link is set up anew. A reader of notices may be slow: 256 KB are kept for him, then channels
+of a connection over TCP by the system. Where an interrupt isn't confirmed in --t26 seconds its call is reset; where a call or a reset
+isn't answered in --t21 or --t22 seconds it is cleared; where a clearing isn't in --t23, the station restarts; and where a restart isn't
+in --t20, the link is set up anew. A reader of notices may be slow: 256 KB are kept for him, then channels
 by which messages come are held (`notready`) until he has read half of it. The bridge ends when the commands have, nothing is left to
 do, and no frame went or came for --quiet seconds; with --stay only when the line does. CTRL-C, SIGTERM and SIGHUP end it too: it sends DISC,
 and waits no longer than T1 for the answer.
@@ -109,6 +110,7 @@ OVERDUE = {
     "1": "the call on channel {} isn't answered",
     "2": "the reset of channel {} isn't confirmed",
     "3": "the clearing of channel {} isn't confirmed",
+    "6": "the interrupt of channel {} isn't confirmed",
 }
 # The options of these timers.
 ANSWERS = {
@@ -116,6 +118,7 @@ ANSWERS = {
     "t21": "a call waits for its answer (200, at a DCE 180)",
     "t22": "a reset waits for its answer (180, at a DCE 60)",
     "t23": "a clearing waits for its answer (180, at a DCE 60)",
+    "t26": "an interrupt waits for its confirmation (180, at a DCE 0)",
 }
 READY = re.compile(r"\w+ (?:not)?ready (\d+)")
 
@@ -488,7 +491,8 @@ def add_station_words(parser: argparse.ArgumentParser) -> None:
     parser.add_argument("--t1", type=within(float, 0.001, 86_400), default=1, metavar="SECONDS", help="how long T1 is (1)")
     parser.add_argument("--t3", type=within(float, 0, 86_400), default=60, metavar="SECONDS", help="how long nothing comes before the other end is asked; 0 for never (60)")
     for name, what in ANSWERS.items():
-        parser.add_argument(f"--{name}", type=within(float, 0, 86_400), metavar="SECONDS", help=f"how long {what}, at a DCE T1{name[-1]}; 0 for ever")
+        of_dce = "" if name == "t26" else f", at a DCE T1{name[-1]}"
+        parser.add_argument(f"--{name}", type=within(float, 0, 86_400), metavar="SECONDS", help=f"how long {what}{of_dce}; 0 for ever")
     decoding.add_program(parser)
 
 

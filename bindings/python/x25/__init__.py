@@ -115,6 +115,7 @@ class Awaits(enum.IntEnum):
     ACCEPTANCE = 1
     RESET_DONE = 2
     CLEAR_DONE = 3
+    INTERRUPT_DONE = 4
 
 
 class Times(NamedTuple):
@@ -126,6 +127,7 @@ class Times(NamedTuple):
     t21: int
     t22: int
     t23: int
+    t26: int
 
 
 class Sizes(NamedTuple):
@@ -235,7 +237,7 @@ class _Given(ctypes.Structure):
 
 
 class _Times(ctypes.Structure):
-    _fields_ = [(name, ctypes.c_uint32) for name in (*Times._fields, "later", "more")]
+    _fields_ = [(name, ctypes.c_uint32) for name in (*Times._fields, "more")]
 
 
 _STATION, _ROOM, _SIZE = ctypes.c_void_p, ctypes.c_void_p, ctypes.c_size_t
@@ -288,6 +290,7 @@ _FUNCTIONS: dict[str, tuple[Any, Any]] = {
     "room": ([_STATION, ctypes.c_uint16], _SIZE),
     "unconfirmed": ([_STATION, ctypes.c_uint16], _SIZE),
     "awaits": ([_STATION, ctypes.c_uint16], ctypes.c_uint32),
+    "open_calls": ([_STATION], _SIZE),
     "is_restarting": ([_STATION], ctypes.c_bool),
     "stretch": ([_STATION, ctypes.c_uint16, ctypes.POINTER(_StretchName)], ctypes.c_bool),
     "refusal_text": ([ctypes.c_uint32, _ROOM, _SIZE], _SIZE),
@@ -551,6 +554,11 @@ class Station:
     def awaits(self, channel: int) -> Awaits:
         """What this end awaits on a channel."""
         return Awaits(self._alone(self._library.x25_awaits, self._slot, _channel(channel)))
+
+    @property
+    def open_calls(self) -> int:
+        """On how many channels a call is up, or this end awaits an answer."""
+        return int(self._alone(self._library.x25_open_calls, self._slot))
 
     @property
     def is_restarting(self) -> bool:

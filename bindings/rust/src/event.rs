@@ -41,6 +41,7 @@ pub struct Times {
     pub t21: u32,
     pub t22: u32,
     pub t23: u32,
+    pub t26: u32,
 }
 
 /// What is awaited on a channel.
@@ -50,6 +51,7 @@ pub enum Awaits {
     Acceptance,
     ResetDone,
     ClearDone,
+    InterruptDone,
 }
 
 impl Awaits {
@@ -58,7 +60,8 @@ impl Awaits {
             0 => Awaits::Nothing,
             1 => Awaits::Acceptance,
             2 => Awaits::ResetDone,
-            _ => Awaits::ClearDone,
+            3 => Awaits::ClearDone,
+            _ => Awaits::InterruptDone,
         }
     }
 }

@@ -113,6 +113,16 @@ pub struct Answer {
     pub timer: Timer,
 }
 
+impl Answer {
+    /// The channel that `call` chose; none of another call's answer.
+    pub fn channel(&self) -> Option<u16> {
+        self.events.iter().find_map(|event| match event {
+            Event::CallAsked { channel, .. } => Some(*channel),
+            _ => None,
+        })
+    }
+}
+
 /// What frames that came at once were answered: how many were taken, what is answered to all of these, and why the next was refused,
 /// where one was.
 #[derive(Clone, Debug, PartialEq, Eq)]
@@ -227,7 +237,7 @@ impl Station {
         self.answer(number)
     }
 
-    /// Calls the other end, from one address to another, each of at most 15 digits; answers the channel of the call too. Without
+    /// Calls the other end, from one address to another, each of at most 15 digits; the answer has the channel of the call. Without
     /// sizes it proposes packets of 128 octets and windows of 2.
     pub fn call(
         &mut self,
@@ -235,7 +245,7 @@ impl Station {
         calling: &str,
         user: &[u8],
         sizes: Option<Sizes>,
-    ) -> Result<(u16, Answer), Refused> {
+    ) -> Result<Answer, Refused> {
         let mut channel = 0;
         let number = unsafe {
             raw::x25_call(
@@ -250,7 +260,7 @@ impl Station {
                 &mut channel,
             )
         };
-        Ok((channel, self.answer(number)?))
+        self.answer(number)
     }
 
     /// Calls as `call` does, with what is given beside.
@@ -261,7 +271,7 @@ impl Station {
         user: &[u8],
         sizes: Option<Sizes>,
         given: Given<'_>,
-    ) -> Result<(u16, Answer), Refused> {
+    ) -> Result<Answer, Refused> {
         let mut channel = 0;
         let number = unsafe {
             raw::x25_call_with(
@@ -277,7 +287,7 @@ impl Station {
                 &mut channel,
             )
         };
-        Ok((channel, self.answer(number)?))
+        self.answer(number)
     }
 
     /// Accepts the call that came on a channel, without sizes with those that it proposes.
@@ -469,6 +479,11 @@ impl Station {
         Awaits::of(unsafe { raw::x25_awaits(self.slot.get(), channel) })
     }
 
+    /// On how many channels a call is up, or this end awaits an answer.
+    pub fn open_calls(&self) -> usize {
+        unsafe { raw::x25_open_calls(self.slot.get()) }
+    }
+
     /// Whether this end awaits that a restart be confirmed.
     pub fn is_restarting(&self) -> bool {
         unsafe { raw::x25_is_restarting(self.slot.get()) }
@@ -576,8 +591,10 @@ mod tests {
         let mut dte = Station::new(End::Dte, Settings::default()).unwrap();
         let mut dce = Station::new(End::Dce, Settings::default()).unwrap();
         let answer = dte.connect().unwrap();
+        assert_eq!((answer.channel(), dte.open_calls()), (None, 0));
         talk(answer, &mut dte, &mut dce);
-        let (channel, answer) = dte.call("123", "4567", b"A", None).unwrap();
+        let answer = dte.call("123", "4567", b"A", None).unwrap();
+        let channel = answer.channel().unwrap();
         let stretch = Stretch {
             restarts: 1,
             clears: 0,
@@ -593,8 +610,10 @@ mod tests {
             user: b"A".to_vec(),
         };
         assert_eq!(told[1], incoming);
+        assert_eq!((dte.open_calls(), dce.open_calls()), (1, 0));
         let answer = dce.accept(channel, None).unwrap();
         talk(answer, &mut dce, &mut dte);
+        assert_eq!((dte.open_calls(), dce.open_calls()), (1, 1));
         let answer = dte.send(channel, true, b"hi").unwrap();
         assert_eq!(
             dte.lines().unwrap(),
@@ -673,10 +692,12 @@ mod tests {
         let waits = [(1_500, 9_000), (1_500, 100), (9_000, 100)];
         assert_eq!(waits.map(|(now, most)| dte.next_timeout(now, most)), [2_500, 100, 0]);
         talk(answer, &mut dte, &mut dce);
-        let (channel, answer) = dte.call("1", "2", b"", None).unwrap();
+        let answer = dte.call("1", "2", b"", None).unwrap();
+        let channel = answer.channel().unwrap();
         talk(answer, &mut dte, &mut dce);
         assert_eq!(dte.awaits(channel), Awaits::Acceptance);
         assert!(!dte.is_restarting());
+        assert_eq!((Times::standard(End::Dte).t26, Times::standard(End::Dce).t26), (180_000, 0));
         let timed = Times { t3: 0, ..Times::standard(End::Dte) };
         dte.set_times(timed).unwrap();
         assert_eq!(dte.next(), Some(201_000));
@@ -729,7 +750,8 @@ mod tests {
         };
         assert_eq!(dte.call_with("1", "2", b"A", None, said), Err(Refused(34)));
         let given = Given { d: true, ..charged };
-        let (channel, answer) = dte.call_with("1", "2", b"A", None, given).unwrap();
+        let answer = dte.call_with("1", "2", b"A", None, given).unwrap();
+        let channel = answer.channel().unwrap();
         let packet = [0x50, 1, 0x0b, 0x11, 0x12, 2, 1, 1, 0x41];
         assert_eq!(answer.frames[0][2..11], packet);
         let beside = |facilities: &[u8], user: &[u8]| Event::Beside {
@@ -766,7 +788,8 @@ mod tests {
         let mut dce = Station::new(End::Dce, settings).unwrap();
         let answer = dte.connect().unwrap();
         talk(answer, &mut dte, &mut dce);
-        let (channel, answer) = dte.call("1", "2", b"", None).unwrap();
+        let answer = dte.call("1", "2", b"", None).unwrap();
+        let channel = answer.channel().unwrap();
         talk(answer, &mut dte, &mut dce);
         let answer = dce.accept(channel, None).unwrap();
         talk(answer, &mut dce, &mut dte);

@@ -85,7 +85,7 @@ pub struct Times {
     t21: u32,
     t22: u32,
     t23: u32,
-    later: u32,
+    t26: u32,
     more: u32,
 }
 
@@ -98,6 +98,7 @@ impl Times {
             t21,
             t22,
             t23,
+            t26,
         } = times;
         Times {
             t1,
@@ -106,7 +107,7 @@ impl Times {
             t21,
             t22,
             t23,
-            later: 0,
+            t26,
             more: 0,
         }
     }
@@ -119,6 +120,7 @@ impl Times {
             t21: self.t21,
             t22: self.t22,
             t23: self.t23,
+            t26: self.t26,
         }
     }
 }
@@ -238,6 +240,7 @@ extern "C" {
     pub fn x25_room(slot: *const Slot, channel: u16) -> usize;
     pub fn x25_unconfirmed(slot: *const Slot, channel: u16) -> usize;
     pub fn x25_awaits(slot: *const Slot, channel: u16) -> u32;
+    pub fn x25_open_calls(slot: *const Slot) -> usize;
     pub fn x25_is_restarting(slot: *const Slot) -> bool;
     pub fn x25_stretch(slot: *const Slot, channel: u16, name: *mut Stretch) -> bool;
     pub fn x25_refusal_text(number: u32, text: *mut u8, size: usize) -> usize;

@@ -11,10 +11,27 @@ use Rattle.x25_station.specs.declared.station.Station as code
 use Rattle.x25_c.specs.declared.times.Times.{Times}
 
 abbrev pub times_in : Times → clock.Times
-times_in t = record { t1 = t.t1; t3 = t.t3; t20 = t.t20; t21 = t.t21; t22 = t.t22; t23 = t.t23 }
+times_in t = record {
+  t1 = t.t1;
+  t3 = t.t3;
+  t20 = t.t20;
+  t21 = t.t21;
+  t22 = t.t22;
+  t23 = t.t23;
+  t26 = t.t26;
+}
 
 abbrev pub times_told : clock.Times → Times
-times_told t = record { t1 = t.t1; t3 = t.t3; t20 = t.t20; t21 = t.t21; t22 = t.t22; t23 = t.t23; later = 0; more = 0 }
+times_told t = record {
+  t1 = t.t1;
+  t3 = t.t3;
+  t20 = t.t20;
+  t21 = t.t21;
+  t22 = t.t22;
+  t23 = t.t23;
+  t26 = t.t26;
+  more = 0;
+}
 
 -- the deadlines are what a step makes of them, by the same times
 abbrev pub Heeds : ℕ → Seen → Option Clock → Option Clock → Type 0

@@ -12,6 +12,7 @@ pub mod RefusalText
 pub mod Settings
 pub mod Sizes
 pub mod Slot
+pub mod Standing
 pub mod StretchName
 pub mod Timing
 pub mod code

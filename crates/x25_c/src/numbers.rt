@@ -42,6 +42,7 @@ pub(crate) fn number_awaited(awaits: Awaits) -> u32
         Awaits::Acceptance => 1,
         Awaits::ResetConfirmation => 2,
         Awaits::ClearConfirmation => 3,
+        Awaits::InterruptConfirmation => 4,
     }
 }
 

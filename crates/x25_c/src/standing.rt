@@ -7,6 +7,7 @@ ghost use Rattle.x25_station.specs.Config.{Settings as StationSettings, layer_se
 ghost use Rattle.x25_station.specs.Station.{Station as State};
 ghost use Rattle.x25_station.specs.Station.Told.{is_idle, room, stretch};
 ghost use Rattle.x25_station.specs.code.FitsStation.{FitsStation};
+ghost use Rattle.x25_c.specs.Standing.{has_call, open_calls};
 ghost use Rattle.x25_c.specs.StretchName.{Names};
 
 use crate::clocked::awaited;
@@ -14,6 +15,7 @@ use crate::numbers::number_awaited;
 use crate::slot::Slot;
 use crate::stretch_name::{StretchName, tell_name};
 use std::alloc::Global;
+use x25_station::Station;
 
 /// Whether the link is up, and all that was asked was sent and acknowledged.
 #[unsafe(no_mangle)]
@@ -64,8 +66,8 @@ pub extern "C" fn x25_unconfirmed(alloc: Global, slot: &mut Slot, channel: u16) 
     count
 }
 
-/// What this end awaits on a channel: 0 nothing, 1 that a call is accepted, 2 that a reset and 3 that clearing is
-/// confirmed.
+/// What this end awaits on a channel: 0 nothing, 1 that a call is accepted, 2 that a reset, 3 that clearing and 4 that
+/// an interrupt is confirmed.
 #[unsafe(no_mangle)]
 pub extern "C" fn x25_awaits(alloc: Global, slot: &mut Slot, channel: u16) -> u32
     ensures kept { slot.new.handle.held ≡ slot.old.handle.held }
@@ -79,6 +81,41 @@ pub extern "C" fn x25_awaits(alloc: Global, slot: &mut Slot, channel: u16) -> u3
     let number = number_awaited(awaited(&held.station, channel));
     slot.put(held);
     number
+}
+
+// Whether a stretch is open on a channel, or an answer is awaited there.
+fn has_call(station: &Station, channel: u16) -> bool
+    ensures { (c : StationSettings) (s : State) → FitsStation c station.now s → result ≡ has_call c s channel }
+{
+    let at = station.channel(channel);
+    at.stretch.is_some() || at.awaits.is_any()
+}
+
+// On how many channels that is so.
+fn open_calls(station: &Station) -> usize
+    ensures { (c : StationSettings) (s : State) → FitsStation c station.now s → result ≡ open_calls c s }
+{
+    let mut count = 0;
+    for channel in 0..station.channels() {
+        count += usize::from(has_call(station, channel + 1));
+    }
+    count
+}
+
+/// On how many channels a stretch is open, or this end awaits an answer.
+#[unsafe(no_mangle)]
+pub extern "C" fn x25_open_calls(alloc: Global, slot: &mut Slot) -> usize
+    ensures kept { slot.new.handle.held ≡ slot.old.handle.held }
+    ensures count { (c : StationSettings) (s : State) →
+        IfSome slot.old.handle.held (λ h. FitsStation c h.station s → result ≡ open_calls c s) }
+    ensures none { IfNone slot.old.handle.held (result ≡ 0) }
+{
+    let Some(held) = slot.take(alloc) else {
+        return 0;
+    };
+    let count = open_calls(&held.station);
+    slot.put(held);
+    count
 }
 
 /// Whether a restart is under way: this end awaits that it be confirmed.

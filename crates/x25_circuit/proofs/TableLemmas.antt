@@ -1,7 +1,7 @@
 -- The rows of the table for the states that a packet has in common.
-use Rattle.x25_circuit.proofs.Names.{◌≡◌, ◌≢◌, ℕ, [], ◌∷◌, List, length, Option, Some, None, refl, sym, ap, ◌∙◌, Bool, true, false, ◌<◌, ◌≤◌, ◌++◌, not, ◌&&◌}
-use Rattle.x25_circuit.proofs.Names.{◌==◌, le-leb, PacketError, Marks, State, Open, Params, CircuitSettings, Circuit, outgoing, with_rest, cut, Refused, lt-ltb}
-use Rattle.x25_circuit.proofs.Names.{Role, awaited_in, is_any, call_in, waits, row_undecoded, row_clear, collided, Proposal, may_answer, said_in, Says}
+use Rattle.x25_circuit.proofs.Names.{◌≡◌, ◌≢◌, ℕ, [], ◌∷◌, List, length, Option, Some, None, refl, sym, ap, ◌∙◌, Bool, true, false, ◌<◌, ◌≤◌, ◌++◌}
+use Rattle.x25_circuit.proofs.Names.{le-leb, PacketError, Marks, State, Open, Params, CircuitSettings, Circuit, outgoing, with_rest, cut, Refused, lt-ltb}
+use Rattle.x25_circuit.proofs.Names.{Role, call_in, waits, row_undecoded, row_clear, collided, Proposal, may_answer, said_in, Says}
 use Rattle.x25_circuit.proofs.Names.{notices_of, Calling, Arriving, Collision}
 use Rattle.std.proofs.lemmas.Bool.{lt-leb}
 use Rattle.x25_bits.specs.declared.role.Role.TheVariants.{Dte, Dce}
@@ -144,18 +144,3 @@ send_full c x marks user short e = rw (le-leb _ _ short, e) refl
 pub send_waits : (c : CircuitSettings) (x : Circuit) (marks : Marks) (user : List ℕ) → length user ≤ c.longest → waits x < 8
     → send_open c x x.talk marks user ≡ keeps_on x (with_rest (x.talk.rest ++ cut (outgoing x).size marks user) x.talk) None
 send_waits c x marks user short e = rw (le-leb _ _ short, lt-ltb _ _ e) refl
-
--- ---- what is under way
-
-pub idle_by : (s : State) (n : ℕ) → is_any (awaited_in s) ≡ false → (not (is_any (awaited_in s)) && (n == 0)) ≡ (n == 0)
-idle_by s n e = ap (λ (b : Bool). not b && (n == 0)) e
-
-pub busy_by : (s : State) (n : ℕ) → is_any (awaited_in s) ≡ true → (not (is_any (awaited_in s)) && (n == 0)) ≡ false
-busy_by s n e = ap (λ (b : Bool). not b && (n == 0)) e
-
--- in all states but these an answer is awaited
-pub awaited : (s : State) → s ≢ Free → s ≢ Arriving → s ≢ Open → is_any (awaited_in s) ≡ true
-awaited Free free arriving d1 = absurd (free refl)
-awaited Arriving free arriving d1 = absurd (arriving refl)
-awaited Open free arriving d1 = absurd (d1 refl)
-awaited s free arriving d1 = refl

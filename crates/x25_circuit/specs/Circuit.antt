@@ -4,6 +4,7 @@ use Rattle.x25_bits.specs.declared.role.Role.{Role}
 use Rattle.x25_circuit.specs.declared.state.State.{State}
 use Rattle.x25_circuit.specs.declared.state.State.TheVariants.{Free, Open}
 use Rattle.x25_circuit.specs.declared.params.Params.{Params}
+use Rattle.x25_circuit.specs.declared.awaits.Awaits.{Awaits}
 use Rattle.x25_circuit.specs.Awaits.{awaited_in, is_any}
 use Rattle.x25_circuit.specs.Params.{Terms, default_params, called_terms, calling_terms}
 use Rattle.x25_circuit.specs.Message.{Piece, wholes, asked_in}
@@ -109,9 +110,13 @@ is_open x = is_open_in x.state
 abbrev pub waits : Circuit → ℕ
 waits x = wholes x.talk.rest
 
+-- the answer that this end awaits
+abbrev pub awaited_by : Circuit → Awaits
+awaited_by x = awaited_in x.state x.talk.int_out
+
 -- nothing is under way: no answer is awaited, and no message waits
 abbrev pub is_idle : Circuit → Bool
-is_idle x = not (is_any (awaited_in x.state)) && (waits x == 0)
+is_idle x = not (is_any (awaited_by x)) && (waits x == 0)
 
 -- how many messages haven't the confirmation yet that was asked of them: they wait, or their last packet isn't
 -- acknowledged (section 4.4.1.4)

@@ -12,6 +12,8 @@ pub enum Awaits {
     ResetConfirmation,
     /// That its clearing be confirmed: T23, or T13.
     ClearConfirmation,
+    /// That its interrupt be confirmed: T26 of a DTE.
+    InterruptConfirmation,
 }
 
 impl Awaits {
@@ -19,9 +21,6 @@ impl Awaits {
     pub fn is_any(self) -> bool
         ensures { result ≡ is_any self }
     {
-        match self {
-            Awaits::Nothing => false,
-            Awaits::Acceptance | Awaits::ResetConfirmation | Awaits::ClearConfirmation => true,
-        }
+        !matches!(self, Awaits::Nothing)
     }
 }

@@ -1,10 +1,9 @@
 ghost use Rattle.std.specs.Prelude.{◌≡◌, ℕ, ◌<◌, ◌≤◌, true, false, length, IfOk, IfErr};
 ghost use Rattle.x25_circuit.specs.declared.state.State.{State};
-ghost use Rattle.x25_circuit.specs.Awaits.{awaited_in};
 ghost use Rattle.x25_circuit.specs.Params.{default_params};
 ghost use Rattle.x25_circuit.specs.Calling.{pulled, pulls_nothing};
 ghost use Rattle.x25_circuit.specs.Circuit.{CircuitSettings, begun, entered, forgotten, zeroed, is_free, is_open};
-ghost use Rattle.x25_circuit.specs.Circuit.{waits, is_idle};
+ghost use Rattle.x25_circuit.specs.Circuit.{awaited_by, waits, is_idle};
 ghost use Rattle.x25_circuit.specs.Circuit.{message_room, unconfirmed, outgoing};
 ghost use Rattle.x25_circuit.specs.code.CallMemory.{has_memory};
 ghost use Rattle.x25_circuit.specs.Circuit.{Circuit as Channel};
@@ -132,11 +131,17 @@ impl Circuit {
 
     /// The answer that this end awaits.
     pub fn awaits(&self) -> Awaits
-        ensures { (c : CircuitSettings) (x : Channel) → FitsCircuit c self.now x → result ≡ awaited_in x.state }
+        ensures { (c : CircuitSettings) (x : Channel) → FitsCircuit c self.now x → result ≡ awaited_by x }
     {
         match self.state {
-            State::Free | State::Arriving | State::Open => Awaits::Nothing,
+            State::Free | State::Arriving => Awaits::Nothing,
             State::Calling | State::Collision => Awaits::Acceptance,
+            State::Open => {
+                if self.transfer.interrupt_out {
+                    return Awaits::InterruptConfirmation;
+                }
+                Awaits::Nothing
+            }
             State::Resetting => Awaits::ResetConfirmation,
             State::Clearing => Awaits::ClearConfirmation,
         }
@@ -147,10 +152,10 @@ impl Circuit {
         ensures value { (c : CircuitSettings) (x : Channel) → FitsCircuit c self.now x → result ≡ is_idle x }
         ensures none { result ≡ true → waits_of self.now ≡ 0 }
     {
-        match self.state {
-            State::Free | State::Arriving | State::Open => self.transfer.queue.len() == 0,
-            _ => false,
+        if self.awaits().is_any() {
+            return false;
         }
+        self.waits() == 0
     }
 
     /// How many messages wait, at most 8. None has more octets than the longest.

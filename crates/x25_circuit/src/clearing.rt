@@ -1,6 +1,5 @@
 //! Clears and resets: those that errors of procedure cause, and those that are done. ITU-T X.25 (10/96), sections 4.1.7
-//! to
-//! 4.1.9, 4.4.3 and Annex C.
+//! to 4.1.9, 4.4.3 and Annex C.
 ghost use Rattle.std.specs.Prelude.{◌≡◌, ℕ, suc, ◌^◌, ◌-◌, ◌<◌, true, false, None, Some, [], ◌∷◌};
 ghost use Rattle.x25_circuit.specs.Circuit.{CircuitSettings};
 ghost use Rattle.x25_circuit.specs.Circuit.{Circuit as Channel};

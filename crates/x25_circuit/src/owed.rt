@@ -6,7 +6,7 @@ use x25_packet::{Packet, Seq};
 
 /// A packet that a circuit sends for one that came: what it says beside its channel.
 ///
-/// It is small, as only such packets are owed: a `Packet` has place for a CALL.
+/// It owns what it says: a `Packet` views octets.
 #[derive(Debug, Drop)]
 pub enum Owed {
     Clear { cause: u8, diagnostic: u8 },

@@ -2,7 +2,7 @@
 use Rattle.x25_clock.proofs.Names.{◌≡◌, ℕ, ◌≤◌, ◌⊎◌, inl, inr, List, [], ◌∷◌, Bool, true, false, refl, sym, ap, subst, ◌∙◌, true≢false, Awaits, awaited_at, Up}
 use Rattle.x25_clock.proofs.Names.{is_up, Settings, layer_settings, Station, Outcome, Did, Refused, rank_of, rank, AwaitsStill, Times, Watched, watched, Deed}
 use Rattle.std.specs.List.{list_any}
-use Rattle.x25_clock.proofs.{Names.{Happens, IsAsked, event_of, found_by, outcome_of, done, AwaitsAll, NothingWaits}, WaitLemmas.{is_up_high, rank_up}}
+use Rattle.x25_clock.proofs.{Names.{Happens, IsAsked, event_of, found_by, outcome_of, done, AwaitsAll, NothingWaits}, WaitLemmas.{still_rank}}
 use Rattle.x25_clock.specs.laws.AnswerLaw.{answers, IsUntold, AnswerIsTold}
 use Rattle.x25_station.specs.laws.EndLaw.{is_answered_on, is_left_on, IsTold, EndIsTold}
 use Rattle.x25_station.specs.laws.TimerLaw as timer
@@ -12,14 +12,7 @@ module _ (c : Settings) (h : ℕ) where
   awaited s = awaited_at (layer_settings c) s.layer h
 
   same_rank : (s next : Station) → 2 ≤ rank c s h → AwaitsStill c s next h → 2 ≤ rank c next h
-  same_rank s next high still =
-      let up : is_up s.link.phase ≡ true = is_up_high s.link.phase s.layer.restarting (awaited s) high in
-      let is : rank c next h ≡ rank c s h =
-      rank_up next.link.phase next.layer.restarting (awaited next) still.up
-      ∙ ap (λ (r : Bool). rank_of Up r (awaited next)) still.restarting
-      ∙ ap (λ (a : Awaits). rank_of Up s.layer.restarting a) still.awaits
-      ∙ sym (rank_up s.link.phase s.layer.restarting (awaited s) up) in
-      subst (λ (n : ℕ). 2 ≤ n) (sym is) high
+  same_rank s next high still = subst (λ (n : ℕ). 2 ≤ n) (sym (still_rank c s next h high still)) high
 
   -- behind a step that tells no answer one is awaited
   behind : (s : Station) (o : Outcome) → 2 ≤ rank c s h → IsTold c s h o → answers c h s o ≡ false → 2 ≤ rank c (timer.after s o) h

@@ -20,6 +20,7 @@ never_lacks d command is = ap or_none is ∙ by d
     by : (d : Due) → or_none (command_for d) ≡ false
     by due.T1 = refl
     by due.Probe = refl
+    by (due.Reset h) = refl
     by (due.Clear h) = refl
     by (due.Restart h) = refl
     by due.Relink = refl

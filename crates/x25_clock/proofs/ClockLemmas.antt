@@ -1,6 +1,6 @@
 -- Deadlines stand for what is awaited.
 use Rattle.x25_clock.proofs.Names.{◌≡◌, ℕ, zero, suc, ◌+◌, ◌==◌, List, [], ◌∷◌, map, Bool, true, false, not, ◌||◌, if◌then◌else◌, Option, Some, None, refl, sym}
-use Rattle.x25_clock.proofs.Names.{ap, ◌∙◌, arith, true≢false, none-some, Awaits, Nothing, Acceptance, ResetConfirmation, ClearConfirmation, awaited_at}
+use Rattle.x25_clock.proofs.Names.{ap, ◌∙◌, arith, true≢false, none-some, Awaits, Nothing, Acceptance, ResetConfirmation, ClearConfirmation, InterruptConfirmation, awaited_at}
 use Rattle.x25_clock.proofs.Names.{is_channel, Settings, layer_settings, Station, is_at_rest, Outcome, Did, Refused, runs, tells_link, is_acknowledged}
 use Rattle.x25_clock.proofs.Names.{timer_of, Times, Wait, Deadlines, channels_from, deadline, time_of, number_of, running, is_past, t1_after, wait_after}
 use Rattle.x25_clock.proofs.Names.{renewed, overdue_of, renewed_on, after_due, Moment, Watched, seen_of, heeds, watched_by, watched_from, IsSince, AreAwaited}
@@ -52,6 +52,7 @@ same_number Nothing Nothing e = refl
 same_number Acceptance Acceptance e = refl
 same_number ResetConfirmation ResetConfirmation e = refl
 same_number ClearConfirmation ClearConfirmation e = refl
+same_number InterruptConfirmation InterruptConfirmation e = refl
 same_number a b e = false_true e
 
 module _ (times : Times) (now more : ℕ) where

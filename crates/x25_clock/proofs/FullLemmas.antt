@@ -1,8 +1,9 @@
--- At most 256 packets wait in the link; and where 256 do, the link is set up anew in place of a clear or a restart.
+-- At most 256 packets wait in the link; and where 256 do, the link is set up anew in place of a reset, a clear or a
+-- restart.
 use Rattle.x25_clock.proofs.Names.{◌≡◌, ℕ, ◌==◌, List, [], ◌∷◌, Bool, true, false, if◌then◌else◌, refl, ap, ◌∙◌, is_channel, is_up, Settings}
 use Rattle.x25_clock.proofs.Names.{layer_settings, Station, Outcome, Did, Refused, Times, Moment, Watched, watched_by, watched_from, Deed, Happens, IsAsked}
 use Rattle.x25_clock.proofs.Names.{arith, done, event_of}
-use Rattle.x25_circuit.specs.Calling.{Clears, outcome as circuit_outcome}
+use Rattle.x25_circuit.specs.Calling.{Clears, Resets, outcome as circuit_outcome}
 use Rattle.x25_clock.specs.Due.{asked_of, event_for, lacks_room}
 use Rattle.x25_layer.specs.Calls.{LayerRequest, LayerOutcome, Asks, Restarts, Declined, if_at_once, outcome_in, outcome_on, layer_outcome}
 use Rattle.x25_layer.specs.{Layer.{LayerSettings, Layer}, laws.Rounds.{LinkView, Refuses, went}}
@@ -40,6 +41,11 @@ module _ (c : Settings) (s : Station) (up : is_up s.link.phase ≡ true) (ready 
       ∙ ap (λ (b : Bool). did c (alone s.link) (entries request) (went view lc (outcome_in lc true b l.restarts l.circuits request))) ready
       ∙ ap (λ (o : LayerOutcome). did c (alone s.link) (entries request) (went view lc o)) is
 
+  reset_refused : (h : ℕ) → is_channel c.channels h ≡ true → timer.outcome c s (event_for (due.Reset h)) ≡ Refused (error.Layer layer_error.QueueFull)
+  reset_refused h configured = refused_as (Asks h (Resets 0 0))
+      (ap (λ (b : Bool). if b then if_at_once true true (outcome_on l.restarts l.circuits h (circuit_outcome lc.circuit (l.circuits h) (Resets 0 0)))
+      else Declined layer_error.NoSuchChannel) configured)
+
   clear_refused : (h : ℕ) → is_channel c.channels h ≡ true → timer.outcome c s (event_for (due.Clear h)) ≡ Refused (error.Layer layer_error.QueueFull)
   clear_refused h configured = refused_as (Asks h (Clears 0 0))
       (ap (λ (b : Bool). if b then if_at_once true true (outcome_on l.restarts l.circuits h (circuit_outcome lc.circuit (l.circuits h) (Clears 0 0)))
@@ -48,6 +54,9 @@ module _ (c : Settings) (s : Station) (up : is_up s.link.phase ≡ true) (ready 
   restart_refused : (h : ℕ) → timer.outcome c s (event_for (due.Restart h)) ≡ Refused (error.Layer layer_error.QueueFull)
   restart_refused h = refused_as (Restarts 0 0) refl
 
+  pub reset_relinks : (h : ℕ) → is_channel c.channels h ≡ true → asked_of c s (due.Reset h) ≡ due.Relink
+  reset_relinks h configured = ap (λ (o : Outcome). if lacks_room o then due.Relink else due.Reset h) (reset_refused h configured)
+
   pub clear_relinks : (h : ℕ) → is_channel c.channels h ≡ true → asked_of c s (due.Clear h) ≡ due.Relink
   clear_relinks h configured = ap (λ (o : Outcome). if lacks_room o then due.Relink else due.Clear h) (clear_refused h configured)
 
@@ -55,6 +64,11 @@ module _ (c : Settings) (s : Station) (up : is_up s.link.phase ≡ true) (ready 
   restart_relinks h = ap (λ (o : Outcome). if lacks_room o then due.Relink else due.Restart h) (restart_refused h)
 
 -- what is accepted is asked itself
+pub reset_asked : (c : Settings) (s : Station) (h : ℕ) (o : Outcome) → timer.outcome c s (event_for (due.Reset h)) ≡ o → lacks_room o ≡ false
+    → asked_of c s (due.Reset h) ≡ due.Reset h
+reset_asked c s h o is good = ap (λ (o : Outcome). if lacks_room o then due.Relink else due.Reset h) is
+    ∙ ap (λ (b : Bool). if b then due.Relink else due.Reset h) good
+
 pub clear_asked : (c : Settings) (s : Station) (h : ℕ) (o : Outcome) → timer.outcome c s (event_for (due.Clear h)) ≡ o → lacks_room o ≡ false
     → asked_of c s (due.Clear h) ≡ due.Clear h
 clear_asked c s h o is good = ap (λ (o : Outcome). if lacks_room o then due.Relink else due.Clear h) is

@@ -1,7 +1,7 @@
 -- The list of a clock, and what it has of each channel.
 use Rattle.x25_clock.proofs.Names.{◌≡◌, ℕ, zero, suc, ◌+◌, ◌<◌, ◌≤◌, ◌==◌, nat_le, List, [], ◌∷◌, ◌++◌, length, map, drop, slice_index_or, Bool, true, false}
 use Rattle.x25_clock.proofs.Names.{not, if◌then◌else◌, Option, Some, None, refl, sym, ap, subst, ◌∙◌, arith, ◌⊎◌, inl, inr, true≢false, eqb-true, eq-eqb}
-use Rattle.x25_clock.proofs.Names.{Awaits, Nothing, Acceptance, ResetConfirmation, ClearConfirmation, Times, Wait, channels_from, deadline, is_past, sooner}
+use Rattle.x25_clock.proofs.Names.{Awaits, Nothing, Acceptance, ResetConfirmation, ClearConfirmation, InterruptConfirmation, Times, Wait, channels_from, deadline, is_past, sooner}
 use Rattle.std.proofs.lemmas.Bool.Decides.{leb_tells}
 use Rattle.x25_circuit.specs.Awaits.{is_any}
 use Rattle.x25_clock.proofs.{Names.{number_of, time_of, wait_after, first_of, overdue_of, renewed}, WaitLemmas.{after_channel, renewed_channel}}
@@ -232,9 +232,11 @@ module _ (times : Times) (now : ℕ) where
   same_number Nothing Acceptance e = absurd (true≢false (sym e))
   same_number Nothing ResetConfirmation e = absurd (true≢false (sym e))
   same_number Nothing ClearConfirmation e = absurd (true≢false (sym e))
+  same_number Nothing InterruptConfirmation e = absurd (true≢false (sym e))
   same_number Acceptance Nothing e = absurd (true≢false (sym e))
   same_number ResetConfirmation Nothing e = absurd (true≢false (sym e))
   same_number ClearConfirmation Nothing e = absurd (true≢false (sym e))
+  same_number InterruptConfirmation Nothing e = absurd (true≢false (sym e))
   same_number a b e = refl
 
   -- what is awaited behind it is any, where that is

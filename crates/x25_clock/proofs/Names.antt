@@ -2,7 +2,8 @@
 pub use Rattle.std.proofs.Common.{refl, List, [], ap, arith, sym, ℕ, ◌∙◌, ◌∷◌, ◌≡◌, Bool, false, true, ◌+◌, None, Option, Some, if◌then◌else◌, ◌≤◌, map, not}
 pub use Rattle.std.proofs.Common.{subst, suc, ◌<◌, ◌==◌, inl, inr, zero, ◌⊎◌, nat_le, ◌^◌, ◌||◌, drop, length, slice_index_or, ◌++◌}
 pub use Rattle.std.proofs.lemmas.{Bool.{true≢false, eq-eqb, eqb-true, and_parts, le-ltb, leb-true}, Option.{none-some}}
-pub use Rattle.x25_circuit.specs.declared.awaits.{Awaits.{Awaits}, Awaits.TheVariants.{Acceptance, ClearConfirmation, Nothing, ResetConfirmation}}
+pub use Rattle.x25_circuit.specs.declared.awaits.{Awaits.{Awaits}, Awaits.TheVariants.{Acceptance, ClearConfirmation, InterruptConfirmation}}
+pub use Rattle.x25_circuit.specs.declared.awaits.Awaits.TheVariants.{Nothing, ResetConfirmation}
 pub use Rattle.x25_clock.specs.Clock.{deadline, Deadlines, is_past, number_of, overdue_of, running, sooner, time_of, wait_after, after_due, channels_from}
 pub use Rattle.x25_clock.specs.declared.{times.Times.{Times}, wait.Wait.{Wait}}
 pub use Rattle.x25_clock.specs.laws.ClockLaw.{Watched, seen_of, AreTrue, IsSince, heeds, watched, AreAwaited, Moment, comes, watched_by, watched_from}

@@ -152,6 +152,7 @@ quiet_event s event step is off = none_heard step.out step.entries
 due_unheard : (s : Station) (d : Due) → IsUnheard s (event_for d)
 due_unheard s due.T1 = tt
 due_unheard s due.Probe = tt
+due_unheard s (due.Reset h) = tt
 due_unheard s (due.Clear h) = tt
 due_unheard s (due.Restart h) = tt
 due_unheard s due.Relink = tt

@@ -1,20 +1,21 @@
 -- An answer is awaited no longer than the times say, where what is due is asked at once.
 use Rattle.x25_clock.proofs.Names.{◌≡◌, ℕ, zero, suc, ◌+◌, ◌^◌, ◌<◌, ◌≤◌, ◌==◌, ◌⊎◌, inl, inr, List, [], ◌∷◌, map, Bool, true, false, not, nat_le}
 use Rattle.x25_clock.proofs.Names.{if◌then◌else◌, Option, Some, None, refl, sym, ap, subst, ◌∙◌, arith, true≢false, eqb-true, eq-eqb, leb-true, and_parts}
-use Rattle.x25_clock.proofs.Names.{none-some, Phase, Waiting, Up, is_up, Awaits, Nothing, Acceptance, ResetConfirmation, ClearConfirmation}
+use Rattle.x25_clock.proofs.Names.{none-some, Phase, Waiting, Up, is_up, Awaits, Nothing, Acceptance, ResetConfirmation, ClearConfirmation, InterruptConfirmation}
 use Rattle.x25_clock.proofs.Names.{is_channel, awaited_at, Settings, layer_settings, Station, Step, Outcome, Did, Refused, tells_link, rank_of, rank}
 use Rattle.x25_clock.proofs.Names.{AwaitsStill, Due, Times, Wait, Deadlines, channels_from, deadline, is_past, sooner, number_of, time_of, running, wait_after}
 use Rattle.x25_clock.proofs.Names.{heeded, next_of, overdue_of, unless_on, due_of, renewed, renewed_on, after_due, Watched, seen_of, heeds, watched, IsSince}
 use Rattle.x25_clock.proofs.Names.{AreAwaited, AreTrue, Deed, Happens, IsAsked, later_by, event_of, found_by, outcome_of, done, all_done, IsFounded, IsNotPast}
-use Rattle.x25_circuit.specs.{Awaits.{awaited_in}, declared.state.State.{State}}
 use Rattle.x25_clock.proofs.ClockLemmas.{happens_true, due_true, deadlines_are_true}
 use Rattle.x25_clock.proofs.DeadlineLemmas.{AreNotPast, waits_past, restart_past, or_t1, Ends, begins_at, end_in_time}
 use Rattle.x25_clock.{proofs.Names.{AreObeyed, tells, AwaitsAll, NothingWaits}, specs.Clock.{asked_for, due_on}, specs.laws.WaitLaw.{longest_wait, AreSet}}
-use Rattle.x25_clock.{proofs.FullLemmas.{Keeps, clear_asked, clear_relinks, deed_kept, moments_kept, new_kept, restart_asked, restart_relinks}}
+use Rattle.x25_clock.proofs.FullLemmas.{Keeps, reset_asked, reset_relinks, clear_asked, clear_relinks, deed_kept, moments_kept, new_kept, restart_asked}
+use Rattle.x25_clock.proofs.FullLemmas.{restart_relinks}
+use Rattle.x25_circuit.specs.Circuit.{awaited_by}
 use Rattle.x25_clock.specs.Due.{asked_of, event_for}
 use Rattle.x25_station.specs.laws.KeepLaw.{IsKept}
 use Rattle.x25_link.specs.Outgoing.{waits}
-use Rattle.x25_station.specs.laws.WayOutLaw.{rank_in, LeadsOn, ClearLeadsOn, RestartLeadsOn, RelinkLeadsOn, NothingLeadsBack}
+use Rattle.x25_station.specs.laws.WayOutLaw.{rank_in, is_call, IsNearer, LeadsOn, ResetLeadsOn, ClearLeadsOn, RestartLeadsOn, RelinkLeadsOn, NothingLeadsBack}
 use Rattle.x25_station.specs.laws.TimerLaw as timer
 use Rattle.x25_clock.specs.declared.due.Due.TheVariants as due
 
@@ -119,20 +120,30 @@ is_up_high Waiting r a high = low_one 1 (omega arith) high
 is_up_high Up r a high = refl
 is_up_high p r a high = low_one 0 (omega arith) high
 
-is_configured : (p : Phase) (b : Bool) (s : State) → 2 ≤ rank_of p false (if b then awaited_in s else Nothing) → b ≡ true
-is_configured p true s high = refl
-is_configured Waiting false s high = low_one 1 (omega arith) high
-is_configured p false s high = low_one 0 (omega arith) high
+is_configured : (p : Phase) (b : Bool) (a : Awaits) → 2 ≤ rank_of p false (if b then a else Nothing) → b ≡ true
+is_configured p true a high = refl
+is_configured Waiting false a high = low_one 1 (omega arith) high
+is_configured p false a high = low_one 0 (omega arith) high
 
 pub rank_up : (p : Phase) (r : Bool) (a : Awaits) → is_up p ≡ true → rank_of p r a ≡ rank_of Up r a
 rank_up Up r a up = refl
 rank_up p r a up = absurd (true≢false (sym up))
 
--- a call or a reset that was cleared
-record IsCleared (rest_a rest : ℕ) (a b : Awaits) : Type 0 where
-  old : rest_a ≡ rest
-  new : b ≡ ClearConfirmation
-  differ : (number_of a == number_of ClearConfirmation) ≡ false
+-- what is awaited still has the same rank
+pub still_rank : (c : Settings) (s next : Station) (h : ℕ) → 2 ≤ rank c s h → AwaitsStill c s next h → rank c next h ≡ rank c s h
+still_rank c s next h high still =
+    let awaited : Station → Awaits = λ t. awaited_at (layer_settings c) t.layer h in
+    let up : is_up s.link.phase ≡ true = is_up_high s.link.phase s.layer.restarting (awaited s) high in
+    rank_up next.link.phase next.layer.restarting (awaited next) still.up
+    ∙ ap (λ (r : Bool). rank_of Up r (awaited next)) still.restarting
+    ∙ ap (λ (a : Awaits). rank_of Up s.layer.restarting a) still.awaits
+    ∙ sym (rank_up s.link.phase s.layer.restarting (awaited s) up)
+
+-- another answer that is awaited for this one, for which there is time
+record IsAnother (times : Times) (left_a left_b : ℕ) (a b : Awaits) : Type 0 where
+  enough : time_of times b + left_b ≤ left_a
+  some : 0 < time_of times b
+  differ : (number_of a == number_of b) ≡ false
 
 abbrev pub asks : Settings → Station → Due → timer.StationEvent
 asks c s what = event_of c (IsAsked 0 what) s
@@ -145,18 +156,20 @@ record Falls (c : Settings) (h : ℕ) (s : Station) (what : Due) : Type 0 where
 
 -- the laws of the station that are used
 record Laws : Type 0 where
+  reset : ResetLeadsOn
   clear : ClearLeadsOn
   restart : RestartLeadsOn
   relink : RelinkLeadsOn
   back : NothingLeadsBack
 
-module _ (c : Settings) (times : Times) (h bound : ℕ) (set : AreSet times) (small : bound < 2 ^ 64) where
+module _ (c : Settings) (times : Times) (h bound : ℕ) (first : Awaits) (set : AreSet times first) (small : bound < 2 ^ 64) where
   -- what may still follow
   abbrev left : Awaits → ℕ
   left Nothing = 0
   left Acceptance = times.t23 + times.t20
   left ResetConfirmation = times.t23 + times.t20
   left ClearConfirmation = times.t20
+  left InterruptConfirmation = times.t22 + (times.t23 + times.t20)
 
   abbrev OnChannel : List Wait → Type 0
   OnChannel [] = Unit {0}
@@ -204,7 +217,7 @@ module _ (c : Settings) (times : Times) (h bound : ℕ) (set : AreSet times) (sm
           let two : 2 ≤ rank_of w.station.link.phase false (awaited w.station) =
           subst (λ (r : Bool). 2 ≤ rank_of w.station.link.phase r (awaited w.station)) is high in
           channel_in_time w.now now (λ k. awaited_at (layer_settings c) w.station.layer k) d.waits
-          (has_it w true_now (is_configured w.station.link.phase (is_channel c.channels h) (w.station.layer.circuits h).state two)) true_now.waits by
+          (has_it w true_now (is_configured w.station.link.phase (is_channel c.channels h) (awaited_by (w.station.layer.circuits h)) two)) true_now.waits by
           (waits_past now d.waits (sooner (sooner d.t1 d.idle) d.restart) past)
 
   now_in_time : (r : Bool) (a : Awaits) (now : ℕ) → InTime r a now → now ≤ bound
@@ -221,11 +234,11 @@ module _ (c : Settings) (times : Times) (h bound : ℕ) (set : AreSet times) (sm
   waits_stay : (before now : ℕ) (old new : ℕ → Awaits) (ws : List Wait) → new h ≡ old h → AreAwaited times before old ws → OnChannel ws
       → OnChannel (heeded_waits now new ws)
   waits_stay before now old new [] same are on = tt
-  waits_stay before now old new (w ∷ ws) same are on = (first, waits_stay before now old new ws same are.1 on.1)
+  waits_stay before now old new (w ∷ ws) same are on = (first_wait, waits_stay before now old new ws same are.1 on.1)
     where
-      first : (wait_after times now (new w.channel) w).channel ≡ h
+      first_wait : (wait_after times now (new w.channel) w).channel ≡ h
           → (let x : Wait = wait_after times now (new w.channel) w in Ends bound x.until (left x.awaits))
-      first is =
+      first_wait is =
           let at_h : w.channel ≡ h = sym (after_channel times now (new w.channel) w) ∙ is in
           let unchanged : wait_after times now (new w.channel) w ≡ w =
           same_after times now (new w.channel) w (are.0.awaits ∙ ap old at_h ∙ sym same ∙ ap new (sym at_h)) in
@@ -234,37 +247,44 @@ module _ (c : Settings) (times : Times) (h bound : ℕ) (set : AreSet times) (sm
   not_less : {A : Type 0} (m n : ℕ) → n ≤ m → m < n → A
   not_less m n low high = absurd (omega (arith, low, high))
 
-  is_cleared : (a b : Awaits) → 2 ≤ rank_in b → rank_in b < rank_in a → IsCleared (left a) (times.t23 + times.t20) a b
-  is_cleared a Nothing two low = low_one 0 (omega arith) two
-  is_cleared Nothing Acceptance two low = not_less 4 0 (omega arith) low
-  is_cleared ClearConfirmation Acceptance two low = not_less 4 3 (omega arith) low
-  is_cleared Nothing ResetConfirmation two low = not_less 4 0 (omega arith) low
-  is_cleared ClearConfirmation ResetConfirmation two low = not_less 4 3 (omega arith) low
-  is_cleared Nothing ClearConfirmation two low = not_less 3 0 (omega arith) low
-  is_cleared Acceptance ClearConfirmation two low = record { old = refl; new = refl; differ = refl }
-  is_cleared ResetConfirmation ClearConfirmation two low = record { old = refl; new = refl; differ = refl }
-  is_cleared ClearConfirmation ClearConfirmation two low = not_less 3 3 (omega arith) low
-  is_cleared a b two low = not_less 4 4 (omega arith) low
+  is_another : (a b : Awaits) → 2 ≤ rank_in b → rank_in b < rank_in a → is_call b ≡ false → IsAnother times (left a) (left b) a b
+  is_another a Nothing two low no_call = low_one 0 (omega arith) two
+  is_another a Acceptance two low no_call = absurd (true≢false no_call)
+  is_another Nothing ResetConfirmation two low no_call = not_less 4 0 (omega arith) low
+  is_another Acceptance ResetConfirmation two low no_call = not_less 4 4 (omega arith) low
+  is_another ResetConfirmation ResetConfirmation two low no_call = not_less 4 4 (omega arith) low
+  is_another ClearConfirmation ResetConfirmation two low no_call = not_less 4 3 (omega arith) low
+  is_another InterruptConfirmation ResetConfirmation two low no_call = record { enough = omega arith; some = set.t22; differ = refl }
+  is_another Nothing ClearConfirmation two low no_call = not_less 3 0 (omega arith) low
+  is_another Acceptance ClearConfirmation two low no_call = record { enough = omega arith; some = set.t23; differ = refl }
+  is_another ResetConfirmation ClearConfirmation two low no_call = record { enough = omega arith; some = set.t23; differ = refl }
+  is_another ClearConfirmation ClearConfirmation two low no_call = not_less 3 3 (omega arith) low
+  is_another InterruptConfirmation ClearConfirmation two low no_call = record { enough = omega arith; some = set.t23; differ = refl }
+  is_another Nothing InterruptConfirmation two low no_call = not_less 5 0 (omega arith) low
+  is_another Acceptance InterruptConfirmation two low no_call = not_less 5 4 (omega arith) low
+  is_another ResetConfirmation InterruptConfirmation two low no_call = not_less 5 4 (omega arith) low
+  is_another ClearConfirmation InterruptConfirmation two low no_call = not_less 5 3 (omega arith) low
+  is_another InterruptConfirmation InterruptConfirmation two low no_call = not_less 5 5 (omega arith) low
 
-  -- it was cleared
-  waits_fall : (before now : ℕ) (old new : ℕ → Awaits) (ws : List Wait) → IsCleared (left (old h)) (times.t23 + times.t20) (old h) (new h) → now + left (old h)
-      ≤ bound → AreAwaited times before old ws → OnChannel (heeded_waits now new ws)
+  -- another is awaited for it
+  waits_fall : (before now : ℕ) (old new : ℕ → Awaits) (ws : List Wait) → IsAnother times (left (old h)) (left (new h)) (old h) (new h)
+      → now + left (old h) ≤ bound → AreAwaited times before old ws → OnChannel (heeded_waits now new ws)
   waits_fall before now old new [] gone late are = tt
-  waits_fall before now old new (w ∷ ws) gone late are = (first, waits_fall before now old new ws gone late are.1)
+  waits_fall before now old new (w ∷ ws) gone late are = (first_wait, waits_fall before now old new ws gone late are.1)
     where
-      first : (wait_after times now (new w.channel) w).channel ≡ h
+      first_wait : (wait_after times now (new w.channel) w).channel ≡ h
           → (let x : Wait = wait_after times now (new w.channel) w in Ends bound x.until (left x.awaits))
-      first is =
+      first_wait is =
           let at_h : w.channel ≡ h = sym (after_channel times now (new w.channel) w) ∙ is in
-          let cleared : new w.channel ≡ ClearConfirmation = ap new at_h ∙ gone.new in
-          let other : (number_of w.awaits == number_of ClearConfirmation) ≡ false =
-          ap (λ (a : Awaits). number_of a == number_of ClearConfirmation) (are.0.awaits ∙ ap old at_h) ∙ gone.differ in
-          let changed : wait_after times now (new w.channel) w ≡ record { channel = w.channel; awaits = ClearConfirmation; until = deadline now times.t23 } =
-          ap (λ (a : Awaits). wait_after times now a w) cleared
-          ∙ ap (λ (b : Bool). let x : Wait = if b then w else record { channel = w.channel; awaits = ClearConfirmation; until = deadline now times.t23 } in x)
-          other in
-          let more : now + (times.t23 + times.t20) ≤ bound = subst (λ (n : ℕ). now + n ≤ bound) gone.old late in
-          subst (λ (x : Wait). Ends bound x.until (left x.awaits)) (sym changed) (begins_at bound small now times.t23 times.t20 set.t23 more)
+          let b : Awaits = new h in
+          let anew : Wait = record { channel = w.channel; awaits = b; until = deadline now (time_of times b) } in
+          let other : (number_of w.awaits == number_of b) ≡ false =
+          ap (λ (a : Awaits). number_of a == number_of b) (are.0.awaits ∙ ap old at_h) ∙ gone.differ in
+          let changed : wait_after times now (new w.channel) w ≡ anew =
+          ap (λ (a : Awaits). wait_after times now a w) (ap new at_h) ∙ ap (λ (t : Bool). let x : Wait = if t then w else anew in x) other in
+          let enough = gone.enough in
+          let more : now + (time_of times b + left b) ≤ bound = omega (arith, late, enough) in
+          subst (λ (x : Wait). Ends bound x.until (left x.awaits)) (sym changed) (begins_at bound small now (time_of times b) (left b) gone.some more)
 
   -- an answer that is awaited leaves time for a restart
   left_some : (a : Awaits) → 2 ≤ rank_in a → times.t20 ≤ left a
@@ -291,20 +311,20 @@ module _ (c : Settings) (times : Times) (h bound : ℕ) (set : AreSet times) (sm
         same are by
 
     falls_by : (r n : Bool) → s.layer.restarting ≡ r → 2 ≤ rank_of Up r (awaited s) → 2 ≤ rank_of Up n (awaited next)
-        → rank_of Up n (awaited next) < rank_of Up r (awaited s) → InTime r (awaited s) now → Heeded n false
-    falls_by true n is two three low late = not_less (rank_of Up n (awaited next)) 2 three low
-    falls_by false true is two three low late =
+        → rank_of Up n (awaited next) < rank_of Up r (awaited s) → is_call (awaited next) ≡ false → InTime r (awaited s) now → Heeded n false
+    falls_by true n is two three low no_call late = not_less (rank_of Up n (awaited next)) 2 three low
+    falls_by false true is two three low no_call late =
         let some : times.t20 ≤ left (awaited s) = left_some (awaited s) two in
         let more : now + (times.t20 + 0) ≤ bound = omega (arith, late, some) in
         subst (λ (o : Option ℕ). Ends bound (running true false o (deadline now times.t20)) 0) (sym (off is))
         (begins_at bound small now times.t20 0 set.t20 more)
-    falls_by false false is two three low late =
+    falls_by false false is two three low no_call late =
         waits_fall before now (λ k. awaited_at (layer_settings c) s.layer k) (λ k. awaited_at (layer_settings c) next.layer k) ws
-        (is_cleared (awaited s) (awaited next) three low) late are
+        (is_another (awaited s) (awaited next) three low no_call) late are
 
-    fallen : rank_of Up next.layer.restarting (awaited next) < rank_of Up s.layer.restarting (awaited s) → InTime s.layer.restarting (awaited s) now
-        → Heeded next.layer.restarting false
-    fallen low late = falls_by s.layer.restarting next.layer.restarting refl high higher low late
+    fallen : rank_of Up next.layer.restarting (awaited next) < rank_of Up s.layer.restarting (awaited s) → is_call (awaited next) ≡ false
+        → InTime s.layer.restarting (awaited s) now → Heeded next.layer.restarting false
+    fallen low no_call late = falls_by s.layer.restarting next.layer.restarting refl high higher low no_call late
 
     stayed : AwaitsStill c s next h → IsBy s.layer.restarting restart ws → Heeded next.layer.restarting false
     stayed still by = stays_by s.layer.restarting next.layer.restarting still.restarting still.awaits by
@@ -340,21 +360,21 @@ module _ (c : Settings) (times : Times) (h bound : ℕ) (set : AreSet times) (sm
         (is, subst (λ (n : ℕ). 2 ≤ n) is higher)
 
     -- its rank is lower
-    fallen_by : (event : timer.StationEvent) (step : Step) → tells_link step.entries ≡ false → 2 ≤ rank c step.near h → rank c step.near h < rank c s h
+    fallen_by : (event : timer.StationEvent) (step : Step) → tells_link step.entries ≡ false → 2 ≤ rank c step.near h → IsNearer c s step.near h
         → InTime s.layer.restarting (awaited s) now → Behind event (Did step)
-    fallen_by event step quiet higher low late =
+    fallen_by event step quiet higher nearer late =
         let new = higher_up step.near higher in
         let less : rank_of Up step.near.layer.restarting (awaited step.near) < rank_of Up s.layer.restarting (awaited s) =
-        subst (λ (n : ℕ). n < rank_of Up s.layer.restarting (awaited s)) new.0 (subst (λ (n : ℕ). rank c step.near h < n) up_rank low) in
-        noted event step quiet (fallen before now s step.near high_up new.1 d.restart d.waits off are less late)
+        subst (λ (n : ℕ). n < rank_of Up s.layer.restarting (awaited s)) new.0 (subst (λ (n : ℕ). rank c step.near h < n) up_rank nearer.low) in
+        noted event step quiet (fallen before now s step.near high_up new.1 d.restart d.waits off are less nearer.no_call late)
 
     event_by : (event : timer.StationEvent) (o : Outcome) → LeadsOn c s h o → tells o ≡ false → 2 ≤ rank c (timer.after s o) h
         → IsBy s.layer.restarting d.restart d.waits → InTime s.layer.restarting (awaited s) now → Behind event o
     event_by event (Did step) leads quiet higher by late = on (leads quiet)
       where
-        on : AwaitsStill c s step.near h ⊎ (rank c step.near h < rank c s h) → Behind event (Did step)
+        on : AwaitsStill c s step.near h ⊎ IsNearer c s step.near h → Behind event (Did step)
         on (inl still) = noted event step quiet (stayed before now s step.near high_up (higher_up step.near higher).1 d.restart d.waits off are still by)
-        on (inr low) = fallen_by event step quiet higher low late
+        on (inr nearer) = fallen_by event step quiet higher nearer late
     event_by event (Refused e) leads quiet higher by late = stayed before now s s high_up high_up d.restart d.waits off are
         (record { up = up; restarting = refl; awaits = refl }) by
 
@@ -362,10 +382,10 @@ module _ (c : Settings) (times : Times) (h bound : ℕ) (set : AreSet times) (sm
 
   renewed_on_others : (now k : ℕ) (ws : List Wait) → (k == h) ≡ false → OnChannel ws → OnChannel (map (renewed times now k) ws)
   renewed_on_others now k [] other on = tt
-  renewed_on_others now k (w ∷ ws) other on = (first, renewed_on_others now k ws other on.1)
+  renewed_on_others now k (w ∷ ws) other on = (first_wait, renewed_on_others now k ws other on.1)
     where
-      first : (renewed times now k w).channel ≡ h → (let x : Wait = renewed times now k w in Ends bound x.until (left x.awaits))
-      first is =
+      first_wait : (renewed times now k w).channel ≡ h → (let x : Wait = renewed times now k w in Ends bound x.until (left x.awaits))
+      first_wait is =
           let at_h : w.channel ≡ h = sym (renewed_channel times now k w) ∙ is in
           let differ : (w.channel == k) ≡ false = not_same (w.channel == k) refl at_h in
           subst (λ (x : Wait). Ends bound x.until (left x.awaits)) (sym (not_renewed times now k w differ)) (on.0 at_h)
@@ -390,44 +410,62 @@ module _ (c : Settings) (times : Times) (h bound : ℕ) (set : AreSet times) (sm
       test true is = inl is
       test false is = inr (omega (arith, few, (λ (same : n ≡ 256). true≢false (sym (eq-eqb n 256 same) ∙ is))))
 
+  -- it is asked by a packet, where there is room for one
+  sent : Laws → (s : Station) (what it : Due) → is_up s.link.phase ≡ true → what ≡ it → waits s.link.outgoing ≤ 256
+      → ((waits s.link.outgoing == 256) ≡ true → asked_of c s it ≡ due.Relink) → (waits s.link.outgoing < 256 → Falls c h s it) → FallsOrTells s what
+  sent laws s what it up is few full low = subst (FallsOrTells s) (sym is) (by (room_or_full (waits s.link.outgoing) few))
+    where
+      by : ((waits s.link.outgoing == 256) ≡ true) ⊎ (waits s.link.outgoing < 256) → FallsOrTells s it
+      by (inl is_full) = inr (relinks laws s it up (full is_full))
+      by (inr is_low) = inl (low is_low)
+
+  reset : Laws → (s : Station) (what : Due) → rank c s h ≡ 5 → is_up s.link.phase ≡ true → s.layer.restarting ≡ false → is_channel c.channels h ≡ true
+      → what ≡ due.Reset h → waits s.link.outgoing ≤ 256 → FallsOrTells s what
+  reset laws s what five up ready configured is few = sent laws s what (due.Reset h) up is few (λ full. reset_relinks c s up ready full h configured) (λ low.
+      let found = laws.reset c s h five low in
+      let four : rank c found.0.near h ≡ 4 = found.2 in
+      record {
+        step = found.0;
+        is = ap (λ (x : Due). timer.outcome c s (event_for x)) (reset_asked c s h (Did found.0) found.1 refl) ∙ found.1;
+        low = omega (arith, four, five);
+      })
+
   cleared : Laws → (s : Station) (what : Due) → rank c s h ≡ 4 → is_up s.link.phase ≡ true → s.layer.restarting ≡ false → is_channel c.channels h ≡ true
       → what ≡ due.Clear h → waits s.link.outgoing ≤ 256 → FallsOrTells s what
-  cleared laws s what four up ready configured is few = subst (FallsOrTells s) (sym is) (by (room_or_full (waits s.link.outgoing) few))
-    where
-      by : ((waits s.link.outgoing == 256) ≡ true) ⊎ (waits s.link.outgoing < 256) → FallsOrTells s (due.Clear h)
-      by (inl full) = inr (relinks laws s (due.Clear h) up (clear_relinks c s up ready full h configured))
-      by (inr low) =
-          let found = laws.clear c s h four low in
-          let three : rank c found.0.near h ≡ 3 = found.2 in
-          inl (record {
-            step = found.0;
-            is = ap (λ (x : Due). timer.outcome c s (event_for x)) (clear_asked c s h (Did found.0) found.1 refl) ∙ found.1;
-            low = omega (arith, three, four);
-          })
+  cleared laws s what four up ready configured is few = sent laws s what (due.Clear h) up is few (λ full. clear_relinks c s up ready full h configured) (λ low.
+      let found = laws.clear c s h four low in
+      let three : rank c found.0.near h ≡ 3 = found.2 in
+      record {
+        step = found.0;
+        is = ap (λ (x : Due). timer.outcome c s (event_for x)) (clear_asked c s h (Did found.0) found.1 refl) ∙ found.1;
+        low = omega (arith, three, four);
+      })
 
   restarted : Laws → (s : Station) (what : Due) → rank c s h ≡ 3 → is_up s.link.phase ≡ true → s.layer.restarting ≡ false → what ≡ due.Restart h
       → waits s.link.outgoing ≤ 256 → FallsOrTells s what
-  restarted laws s what three up ready is few = subst (FallsOrTells s) (sym is) (by (room_or_full (waits s.link.outgoing) few))
-    where
-      by : ((waits s.link.outgoing == 256) ≡ true) ⊎ (waits s.link.outgoing < 256) → FallsOrTells s (due.Restart h)
-      by (inl full) = inr (relinks laws s (due.Restart h) up (restart_relinks c s up ready full h))
-      by (inr low) =
-          let found = laws.restart c s up ready low in
-          let two : rank c found.0.near h ≡ 2 = found.2 h in
-          inl (record {
-            step = found.0;
-            is = ap (λ (x : Due). timer.outcome c s (event_for x)) (restart_asked c s h (Did found.0) found.1 refl) ∙ found.1;
-            low = omega (arith, two, three);
-          })
+  restarted laws s what three up ready is few = sent laws s what (due.Restart h) up is few (λ full. restart_relinks c s up ready full h) (λ low.
+      let found = laws.restart c s up ready low in
+      let two : rank c found.0.near h ≡ 2 = found.2 h in
+      record {
+        step = found.0;
+        is = ap (λ (x : Due). timer.outcome c s (event_for x)) (restart_asked c s h (Did found.0) found.1 refl) ∙ found.1;
+        low = omega (arith, two, three);
+      })
 
   asked_falls : Laws → (s : Station) (what : Due) (a : Awaits) → rank c s h ≡ rank_in a → 2 ≤ rank c s h → is_up s.link.phase ≡ true → s.layer.restarting
       ≡ false → asked_for h a ≡ Some what → waits s.link.outgoing ≤ 256 → FallsOrTells s what
-  asked_falls laws s what Nothing is high linked ready asked few = absurd (none-some what asked)
-  asked_falls laws s what ClearConfirmation is high linked ready asked few = restarted laws s what is linked ready (sym (ap or_t1 asked)) few
-  asked_falls laws s what a is high linked ready asked few = cleared laws s what is linked ready
-      (is_configured s.link.phase (is_channel c.channels h) (s.layer.circuits h).state
-      (subst (λ (r : Bool). 2 ≤ rank_of s.link.phase r (awaited s)) ready high))
-      (sym (ap or_t1 asked)) few
+  asked_falls laws s what a is high linked ready asked few = by a is asked
+    where
+      configured : is_channel c.channels h ≡ true
+      configured = is_configured s.link.phase (is_channel c.channels h) (awaited_by (s.layer.circuits h))
+          (subst (λ (r : Bool). 2 ≤ rank_of s.link.phase r (awaited s)) ready high)
+
+      by : (a : Awaits) → rank c s h ≡ rank_in a → asked_for h a ≡ Some what → FallsOrTells s what
+      by Nothing is asked = absurd (none-some what asked)
+      by Acceptance is asked = cleared laws s what is linked ready configured (sym (ap or_t1 asked)) few
+      by ResetConfirmation is asked = cleared laws s what is linked ready configured (sym (ap or_t1 asked)) few
+      by ClearConfirmation is asked = restarted laws s what is linked ready (sym (ap or_t1 asked)) few
+      by InterruptConfirmation is asked = reset laws s what is linked ready configured (sym (ap or_t1 asked)) few
 
   relink_told : Laws → (s : Station) (what : Due) → is_up s.link.phase ≡ true → what ≡ due.Relink → tells (timer.outcome c s (asks c s what)) ≡ false → ⊥
   relink_told laws s what up is quiet = true≢false (sym (relinks laws s what up (ap (asked_of c s) is)) ∙ quiet)
@@ -478,8 +516,16 @@ module _ (c : Settings) (times : Times) (h bound : ℕ) (set : AreSet times) (sm
       falls : Falls c h s what → Behind now now s high e then_true.restart.off then_true.waits event o
       falls f =
           subst (λ (x : Outcome). Behind now now s high e then_true.restart.off then_true.waits event x) (sym f.is)
-          (fallen_by now now s high e then_true.restart.off then_true.waits event f.step (ap tells (sym f.is) ∙ quiet)
-          (subst (λ (x : Outcome). 2 ≤ rank c (timer.after s x) h) f.is (higher quiet)) f.low late)
+          (fallen_by now now s high e then_true.restart.off then_true.waits event f.step is_quiet
+          (subst (λ (x : Outcome). 2 ≤ rank c (timer.after s x) h) f.is (higher quiet))
+          (nearer (subst (LeadsOn c s h) f.is (laws.back c s h event high) is_quiet)) late)
+        where
+          is_quiet : tells_link f.step.entries ≡ false
+          is_quiet = ap tells (sym f.is) ∙ quiet
+
+          nearer : AwaitsStill c s f.step.near h ⊎ IsNearer c s f.step.near h → IsNearer c s f.step.near h
+          nearer (inl still) = let same = still_rank c s f.step.near h high still in let low = f.low in absurd (omega (arith, same, low))
+          nearer (inr x) = x
 
       falls_or_tells : FallsOrTells s what → Behind now now s high e then_true.restart.off then_true.waits event o
       falls_or_tells (inl f) = falls f
@@ -550,48 +596,52 @@ module _ (c : Settings) (times : Times) (h bound : ℕ) (set : AreSet times) (sm
 
 -- ---- where it begins
 
-module _ (c : Settings) (times : Times) (h : ℕ) (set : AreSet times) where
+module _ (c : Settings) (times : Times) (h : ℕ) (first : Awaits) (set : AreSet times first) where
   ends_by : (bound now time more : ℕ) (until : Option ℕ) → (few : bound < 2 ^ 64) → 0 < time → now + (time + more) ≤ bound → IsSince now time until
       → Ends bound until more
   ends_by bound now time more until few positive low since =
       let past : since.since ≤ now = since.past in
       subst (λ (o : Option ℕ). Ends bound o more) (sym since.is) (begins_at bound few since.since time more positive (omega (arith, low, past)))
 
-  first_on : (bound now : ℕ) (few : bound < 2 ^ 64) (f : ℕ → Awaits) (ws : List Wait) → bound ≡ now + longest_wait times false (f h) → 2 ≤ rank_in (f h)
-      → AreAwaited times now f ws → OnChannel c times h bound set few ws
-  first_on bound now few f [] is high are = tt
-  first_on bound now few f (w ∷ ws) is high are = (first, first_on bound now few f ws is high are.1)
+  first_on : (bound now : ℕ) (few : bound < 2 ^ 64) (f : ℕ → Awaits) (ws : List Wait) → f h ≡ first → bound ≡ now + longest_wait times false first
+      → 2 ≤ rank_in first → AreAwaited times now f ws → OnChannel c times h bound first set few ws
+  first_on bound now few f [] same is high are = tt
+  first_on bound now few f (w ∷ ws) same is high are = (first_wait, first_on bound now few f ws same is high are.1)
     where
-      at : (a : Awaits) → bound ≡ now + longest_wait times false a → 2 ≤ rank_in a → IsSince now (time_of times a) w.until
-          → Ends bound w.until (left c times h bound set few a)
-      at Nothing is high since = low_one 0 (omega arith) high
-      at Acceptance is high since = ends_by bound now times.t21 (times.t23 + times.t20) w.until few set.t21 (omega (arith, is)) since
-      at ResetConfirmation is high since = ends_by bound now times.t22 (times.t23 + times.t20) w.until few set.t22 (omega (arith, is)) since
-      at ClearConfirmation is high since = ends_by bound now times.t23 times.t20 w.until few set.t23 (omega (arith, is)) since
+      at : (a : Awaits) → first ≡ a → bound ≡ now + longest_wait times false a → 2 ≤ rank_in a → IsSince now (time_of times a) w.until
+          → Ends bound w.until (left c times h bound first set few a)
+      at Nothing at_first is high since = low_one 0 (omega arith) high
+      at Acceptance at_first is high since = ends_by bound now times.t21 (times.t23 + times.t20) w.until few set.t21 (omega (arith, is)) since
+      at ResetConfirmation at_first is high since = ends_by bound now times.t22 (times.t23 + times.t20) w.until few set.t22 (omega (arith, is)) since
+      at ClearConfirmation at_first is high since = ends_by bound now times.t23 times.t20 w.until few set.t23 (omega (arith, is)) since
+      at InterruptConfirmation at_first is high since =
+          ends_by bound now times.t26 (times.t22 + (times.t23 + times.t20)) w.until few (set.t26 at_first) (omega (arith, is)) since
 
-      first : w.channel ≡ h → Ends bound w.until (left c times h bound set few w.awaits)
-      first at_h =
-          let same : w.awaits ≡ f h = are.0.awaits ∙ ap f at_h in
-          at w.awaits (is ∙ ap (λ (a : Awaits). now + longest_wait times false a) (sym same)) (subst (λ (a : Awaits). 2 ≤ rank_in a) (sym same) high)
-          are.0.until
+      first_wait : w.channel ≡ h → Ends bound w.until (left c times h bound first set few w.awaits)
+      first_wait at_h =
+          let here : w.awaits ≡ first = are.0.awaits ∙ ap f at_h ∙ same in
+          at w.awaits (sym here) (is ∙ ap (λ (a : Awaits). now + longest_wait times false a) (sym here))
+          (subst (λ (a : Awaits). 2 ≤ rank_in a) (sym here) high) are.0.until
 
-  first_by : (bound : ℕ) (w : Watched) (few : bound < 2 ^ 64) (r : Bool) → w.station.layer.restarting ≡ r → bound ≡ w.now
-      + longest_wait times r (awaited_at (layer_settings c) w.station.layer h) → 2 ≤ rank c w.station h → AreTrue c times w
-      → IsBy c times h bound set few r w.deadlines.restart w.deadlines.waits
-  first_by bound w few true is same high true_now = ends_by bound w.now times.t20 0 w.deadlines.restart few set.t20 (omega (arith, same))
+  first_by : (bound : ℕ) (w : Watched) (few : bound < 2 ^ 64) (r : Bool) → w.station.layer.restarting ≡ r
+      → awaited_at (layer_settings c) w.station.layer h ≡ first → bound ≡ w.now + longest_wait times r first → 2 ≤ rank c w.station h → AreTrue c times w
+      → IsBy c times h bound first set few r w.deadlines.restart w.deadlines.waits
+  first_by bound w few true is at_first same high true_now = ends_by bound w.now times.t20 0 w.deadlines.restart few set.t20 (omega (arith, same))
       (true_now.restart.on is)
-  first_by bound w few false is same high true_now =
+  first_by bound w few false is at_first same high true_now =
       let a : Awaits = awaited_at (layer_settings c) w.station.layer h in
       let up : is_up w.station.link.phase ≡ true = is_up_high w.station.link.phase w.station.layer.restarting a high in
       let two : rank c w.station h ≡ rank_in a = rank_up w.station.link.phase w.station.layer.restarting a up ∙ ap (λ (r : Bool). rank_of Up r a) is in
-      first_on bound w.now few (λ k. awaited_at (layer_settings c) w.station.layer k) w.deadlines.waits same (subst (λ (n : ℕ). 2 ≤ n) two high) true_now.waits
+      first_on bound w.now few (λ k. awaited_at (layer_settings c) w.station.layer k) w.deadlines.waits at_first same
+      (subst (λ (n : ℕ). 2 ≤ n) (two ∙ ap rank_in at_first) high) true_now.waits
 
-pub nothing_waits : ClearLeadsOn → RestartLeadsOn → RelinkLeadsOn → NothingLeadsBack → Keeps → NothingWaits
-nothing_waits clear restart relink back keeps c times h moments deeds set small obeyed all =
+pub nothing_waits : ResetLeadsOn → ClearLeadsOn → RestartLeadsOn → RelinkLeadsOn → NothingLeadsBack → Keeps → NothingWaits
+nothing_waits reset clear restart relink back keeps c times h moments deeds set small obeyed all =
     let w : Watched = watched c times moments in
     let r : Bool = w.station.layer.restarting in
-    let bound : ℕ = w.now + longest_wait times r (awaited_at (layer_settings c) w.station.layer h) in
+    let a : Awaits = awaited_at (layer_settings c) w.station.layer h in
+    let bound : ℕ = w.now + longest_wait times r a in
     let true_now : AreTrue c times w = deadlines_are_true c times moments in
-    all_by c times h bound set small (record { clear = clear; restart = restart; relink = relink; back = back }) keeps deeds w true_now
+    all_by c times h bound a set small (record { reset = reset; clear = clear; restart = restart; relink = relink; back = back }) keeps deeds w true_now
     (moments_kept keeps c times moments _ new_kept) obeyed all (omega arith)
-    (first_by c times h set bound w small r refl refl (higher_next c times h bound set small deeds w all) true_now)
+    (first_by c times h a set bound w small r refl refl refl (higher_next c times h bound a set small deeds w all) true_now)

@@ -3,7 +3,7 @@ use Rattle.std.specs.Prelude.{ℕ, zero, suc, ◌+◌, ◌^◌, ◌==◌, nat_le
 use Rattle.std.specs.Prelude.{[], ◌∷◌, length, map, Option, Some, None}
 use Rattle.x25_circuit.specs.declared.awaits.Awaits.{Awaits}
 use Rattle.x25_circuit.specs.declared.awaits.Awaits.TheVariants.{Nothing, Acceptance, ResetConfirmation}
-use Rattle.x25_circuit.specs.declared.awaits.Awaits.TheVariants.{ClearConfirmation}
+use Rattle.x25_circuit.specs.declared.awaits.Awaits.TheVariants.{ClearConfirmation, InterruptConfirmation}
 use Rattle.x25_layer.specs.Layer.{LayerSettings, Layer}
 use Rattle.x25_link.specs.Link.{timer_runs}
 use Rattle.x25_layer.specs.code.FitsLayer.{awaited_at}
@@ -75,12 +75,14 @@ number_of Nothing = 0
 number_of Acceptance = 1
 number_of ResetConfirmation = 2
 number_of ClearConfirmation = 3
+number_of InterruptConfirmation = 4
 
 abbrev pub time_of : Times → Awaits → ℕ
 time_of times Nothing = 0
 time_of times Acceptance = times.t21
 time_of times ResetConfirmation = times.t22
 time_of times ClearConfirmation = times.t23
+time_of times InterruptConfirmation = times.t26
 
 -- ---- behind a step
 
@@ -171,12 +173,14 @@ abbrev pub overdue_of : ℕ → List Wait → Option Wait
 overdue_of now [] = None
 overdue_of now (w ∷ waits) = if is_past now w.until then Some w else overdue_of now waits
 
--- a call or a reset that isn't answered is cleared, and a clearing that isn't confirmed ends by a restart
+-- an interrupt that isn't confirmed is reset, a call or a reset that isn't answered is cleared, and a clearing that
+-- isn't confirmed ends by a restart
 abbrev pub asked_for : ℕ → Awaits → Option Due
 asked_for h Nothing = None
 asked_for h Acceptance = Some (due.Clear h)
 asked_for h ResetConfirmation = Some (due.Clear h)
 asked_for h ClearConfirmation = Some (due.Restart h)
+asked_for h InterruptConfirmation = Some (due.Reset h)
 
 abbrev pub due_on : Wait → Option Due
 due_on w = asked_for w.channel w.awaits

@@ -5,7 +5,7 @@ use Rattle.x25_bits.specs.declared.role.Role.{Role}
 use Rattle.x25_bits.specs.declared.role.Role.TheVariants.{Dte, Dce}
 use Rattle.x25_circuit.specs.declared.awaits.Awaits.{Awaits}
 use Rattle.x25_circuit.specs.declared.awaits.Awaits.TheVariants.{ResetConfirmation}
-use Rattle.x25_circuit.specs.Calling.{Clears}
+use Rattle.x25_circuit.specs.Calling.{Clears, Resets}
 use Rattle.x25_layer.specs.Calls as layer
 use Rattle.x25_layer.specs.declared.error.LayerError.TheVariants as layer_error
 use Rattle.x25_station.specs.declared.error.StationError.{StationError}
@@ -23,6 +23,7 @@ pub mod Asking
 abbrev pub command_for : Due → Option Command
 command_for due.T1 = None
 command_for due.Probe = Some Probes
+command_for (due.Reset h) = Some (Requests (layer.Asks h (Resets 0 0)))
 command_for (due.Clear h) = Some (Requests (layer.Asks h (Clears 0 0)))
 command_for (due.Restart h) = Some (Requests (layer.Restarts 0 0))
 command_for due.Relink = Some Relinks
@@ -35,12 +36,14 @@ by_command (Some command) = Asks command
 abbrev pub event_for : Due → StationEvent
 event_for due = by_command (command_for due)
 
--- ---- A clear and a restart are packets. Where 256 wait already the link refuses one (10), and the restart by which a
--- clear that isn't confirmed ends would be refused too: so the link is set up anew at once, which needs no packet.
+-- ---- A reset, a clear and a restart are packets. Where 256 wait already the link refuses one (10), and the clear and
+-- the restart by which one that isn't confirmed ends would be refused too: so the link is set up anew at once, which
+-- needs no packet.
 
 abbrev pub is_packet : Due → Bool
 is_packet due.T1 = false
 is_packet due.Probe = false
+is_packet (due.Reset h) = true
 is_packet (due.Clear h) = true
 is_packet (due.Restart h) = true
 is_packet due.Relink = false
@@ -62,6 +65,7 @@ abbrev pub channel_for : Due → ℕ
 channel_for due.T1 = 0
 channel_for due.Probe = 0
 channel_for due.Relink = 0
+channel_for (due.Reset h) = h
 channel_for (due.Clear h) = h
 channel_for (due.Restart h) = h
 
@@ -69,6 +73,7 @@ channel_for (due.Restart h) = h
 abbrev pub timer_number : Role → Awaits → Due → ℕ
 timer_number end awaits due.T1 = 1
 timer_number end awaits due.Probe = 3
+timer_number end awaits (due.Reset h) = 26
 timer_number Dte awaits due.Relink = 20
 timer_number Dce awaits due.Relink = 10
 timer_number Dte ResetConfirmation (due.Clear h) = 22

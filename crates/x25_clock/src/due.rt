@@ -13,6 +13,8 @@ pub enum Due {
     T1,
     /// `Cmd::Probe`: the line was idle for T3.
     Probe,
+    /// `Cmd::Reset`: an interrupt wasn't confirmed, T26.
+    Reset { channel: u16 },
     /// `Cmd::Clear`: no answer came to a call, T21, or to a reset, T22.
     Clear { channel: u16 },
     /// `Cmd::Restart`: clearing a channel wasn't confirmed, T23.
@@ -36,6 +38,11 @@ impl Due {
         match self {
             Due::T1 => None,
             Due::Probe => Some(Cmd::Probe),
+            Due::Reset { channel } => Some(Cmd::Reset {
+                channel,
+                cause: 0,
+                diagnostic: 0,
+            }),
             Due::Clear { channel } => Some(Cmd::Clear {
                 channel,
                 cause: 0,
@@ -54,7 +61,10 @@ impl Due {
     fn is_packet(self) -> bool
         ensures { result ≡ is_packet self }
     {
-        matches!(self, Due::Clear { .. } | Due::Restart { .. })
+        matches!(
+            self,
+            Due::Reset { .. } | Due::Clear { .. } | Due::Restart { .. }
+        )
     }
 
     // Asks this and nothing else.
@@ -67,8 +77,8 @@ impl Due {
         }
     }
 
-    /// Asks a station for it. Where 256 packets wait in the link, a clear and a restart would be refused (10): then the
-    /// link is set up anew at once, by `Cmd::Relink`, which needs no packet.
+    /// Asks a station for it. Where 256 packets wait in the link, a reset, a clear and a restart would be refused (10):
+    /// then the link is set up anew at once, by `Cmd::Relink`, which needs no packet.
     ///
     /// Refused as T1 is, or the command that is asked, but never with 10 or 70. The station is as before then.
     pub fn ask(self, station: &mut Station, step: &mut Step) -> Result<(), StationError>
@@ -91,18 +101,19 @@ impl Due {
     {
         match self {
             Due::T1 | Due::Probe | Due::Relink => 0,
-            Due::Clear { channel } | Due::Restart { channel } => channel,
+            Due::Reset { channel } | Due::Clear { channel } | Due::Restart { channel } => channel,
         }
     }
 
-    /// The number in the name of the timer that has passed at an end that awaits this on its channel: of T1, T3, T20 to
-    /// T23 of a DTE, T10 to T13 of a DCE.
+    /// The number in the name of the timer that has passed at an end that awaits this on its channel: of T1, T3 and
+    /// T26, T20 to T23 of a DTE, T10 to T13 of a DCE.
     pub fn timer(self, end: Role, awaits: Awaits) -> u8
         ensures { result ≡ timer_number end awaits self }
     {
         match (end, self, awaits) {
             (_, Due::T1, _) => 1,
             (_, Due::Probe, _) => 3,
+            (_, Due::Reset { .. }, _) => 26,
             (Role::Dte, Due::Relink, _) => 20,
             (Role::Dce, Due::Relink, _) => 10,
             (Role::Dte, Due::Clear { .. }, Awaits::ResetConfirmation) => 22,

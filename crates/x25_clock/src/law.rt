@@ -18,9 +18,9 @@ pub fn awaited_deadlines_are_true()
 
 /// No silence of the other end leaves a channel waiting. One who heeds each event, lets no moment pass at which
 /// something is due, and asks at once what is: then, whatever comes and whatever else is asked, a channel awaits an
-/// answer no longer than T21 for a call or T22 for a reset, T23 and T20 together, or hears of LinkUp or LinkDown
-/// before. None of these times is for ever. Where 256 packets wait in the link as a clear or a restart is asked, the
-/// link is set up anew, and LinkDown is told.
+/// answer no longer than T21 for a call, T22 for a reset, or T26 and T22 for an interrupt, with T23 and T20 together,
+/// or hears of LinkUp or LinkDown before. None of these times is for ever, T26 where an interrupt is awaited. Where 256
+/// packets wait in the link as a reset, a clear or a restart is asked, the link is set up anew, and LinkDown is told.
 pub fn nothing_waits_for_ever()
     ensures { NothingWaits }
 {
@@ -52,8 +52,9 @@ pub fn silence_is_told()
     stations_ask_or_rest();
 }
 
-/// A worked row: beside a peer whose packet layer is silent a DTE calls, clears, restarts, and sets the link up anew,
-/// each when it is due, and the last at the very moment up to which `nothing_waits_for_ever` lets it wait.
+/// Worked rows: beside a peer whose packet layer is silent a DTE calls, clears, restarts, and sets the link up anew, or
+/// sends an interrupt, and resets first; each when it is due, and the last at the very moment up to which
+/// `nothing_waits_for_ever` lets it wait.
 pub fn silent_peer_is_left()
     ensures { SilentPeerIsLeft }
 {}

@@ -10,7 +10,7 @@ pub struct Times {
     pub t1: u32,
     /// T3: an idle link goes so long without being polled. Section 2.4.8.3.
     pub t3: u32,
-    /// T20 of a DTE, T10 of a DCE: a restart is confirmed. Annex D, as the three below.
+    /// T20 of a DTE, T10 of a DCE: a restart is confirmed. Annex D, as those below.
     pub t20: u32,
     /// T21, or T11: a call is accepted.
     pub t21: u32,
@@ -18,6 +18,8 @@ pub struct Times {
     pub t22: u32,
     /// T23, or T13: clearing is confirmed.
     pub t23: u32,
+    /// T26: an interrupt is confirmed. Annex D has none of a DCE.
+    pub t26: u32,
 }
 
 impl Times {
@@ -33,6 +35,7 @@ impl Times {
                 t21: 200_000,
                 t22: 180_000,
                 t23: 180_000,
+                t26: 180_000,
             },
             Role::Dce => Times {
                 t1: 3_000,
@@ -41,6 +44,7 @@ impl Times {
                 t21: 180_000,
                 t22: 60_000,
                 t23: 60_000,
+                t26: 0,
             },
         }
     }

@@ -84,6 +84,7 @@ fn number(awaits: Awaits) -> u8
         Awaits::Acceptance => 1,
         Awaits::ResetConfirmation => 2,
         Awaits::ClearConfirmation => 3,
+        Awaits::InterruptConfirmation => 4,
     }
 }
 
@@ -96,6 +97,7 @@ pub(crate) fn time_of(times: Times, awaits: Awaits) -> u32
         Awaits::Acceptance => times.t21,
         Awaits::ResetConfirmation => times.t22,
         Awaits::ClearConfirmation => times.t23,
+        Awaits::InterruptConfirmation => times.t26,
     }
 }
 
@@ -134,6 +136,7 @@ impl Wait {
             Awaits::Nothing => None,
             Awaits::Acceptance | Awaits::ResetConfirmation => Some(Due::Clear { channel }),
             Awaits::ClearConfirmation => Some(Due::Restart { channel }),
+            Awaits::InterruptConfirmation => Some(Due::Reset { channel }),
         }
     }
 

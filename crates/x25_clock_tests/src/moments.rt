@@ -9,6 +9,8 @@ use x25_station::{Awaits, Cmd};
 
 const RESET: (Awaits, bool, bool) = (Awaits::ResetConfirmation, false, true);
 
+const INTERRUPTED: (Awaits, bool, bool) = (Awaits::InterruptConfirmation, false, true);
+
 /// T1, a call on either channel and a restart take as long as each other.
 const ALIKE: Times = Times {
     t1: 210,
@@ -17,6 +19,7 @@ const ALIKE: Times = Times {
     t21: 210,
     t22: 0,
     t23: 0,
+    t26: 0,
 };
 
 static DUE_AT_ONCE: [Row; 9] = [
@@ -67,6 +70,7 @@ const RESETS: Times = Times {
     t21: 210,
     t22: 210,
     t23: 230,
+    t26: 220,
 };
 
 /// The answer to a call and a clearing that ends a reset come as their time passes; and time runs back.
@@ -96,6 +100,59 @@ static ANSWERED: [Row; 14] = [
     (460, CLEAR, 0, None, Some(470), NONE),
     (460, Act::Obey, 0, None, Some(470), NONE),
     (100, Act::Ask(Cmd::Relink), 0, None, Some(110), NONE),
+];
+
+const INTERRUPT: Act = Act::Ask(Cmd::Interrupt {
+    channel: 2,
+    user: &[7],
+});
+
+/// INTERRUPT CONFIRMATION of channel 2.
+const CONFIRMED: Act = Act::Take(&[0x03, 0x64, 0x10, 0x02, 0x27, 0x2B, 0xDA]);
+
+/// An interrupt that isn't confirmed is reset, and then the channel is cleared.
+static INTERRUPT_UNANSWERED: [Row; 12] = [
+    (0, Act::Ask(Cmd::Connect), 0, None, Some(10), NONE),
+    (0, UA, 0, None, Some(10), RESTARTS),
+    (0, RR_1, 0, None, Some(200), RESTARTS),
+    (0, RESTART, 0, None, Some(1000), NONE),
+    (30, CALL, 0, None, Some(40), CALLED),
+    (31, RR_2, 0, None, Some(240), CALLED),
+    (240, ACCEPTED, 0, None, Some(1240), NONE),
+    (250, INTERRUPT, 0, None, Some(260), INTERRUPTED),
+    (251, RR_3, 0, None, Some(470), INTERRUPTED),
+    (
+        470,
+        Act::Obey,
+        0,
+        Some(Due::Reset { channel: 2 }),
+        Some(480),
+        RESET,
+    ),
+    (471, RR_4, 0, None, Some(680), RESET),
+    (
+        680,
+        Act::Obey,
+        0,
+        Some(Due::Clear { channel: 2 }),
+        Some(690),
+        CLEARED,
+    ),
+];
+
+/// One that is confirmed is awaited no longer, and the next one has its own time.
+static INTERRUPT_ANSWERED: [Row; 11] = [
+    (0, Act::Ask(Cmd::Connect), 0, None, Some(10), NONE),
+    (0, UA, 0, None, Some(10), RESTARTS),
+    (0, RR_1, 0, None, Some(200), RESTARTS),
+    (0, RESTART, 0, None, Some(1000), NONE),
+    (30, CALL, 0, None, Some(40), CALLED),
+    (31, RR_2, 0, None, Some(240), CALLED),
+    (240, ACCEPTED, 0, None, Some(1240), NONE),
+    (250, INTERRUPT, 0, None, Some(260), INTERRUPTED),
+    (255, CONFIRMED, 0, None, Some(1255), NONE),
+    (300, INTERRUPT, 0, None, Some(310), INTERRUPTED),
+    (301, RR_4, 0, None, Some(520), INTERRUPTED),
 ];
 
 /// What would be due later than any moment never is.
@@ -205,10 +262,12 @@ fn moments_are_told_apart(rt: HostRuntime) {
         odd_row_of(rt.alloc(), (2, ALIKE), &DUE_AT_ONCE),
         odd_row_of(rt.alloc(), (2, ALIKE), &DUE_WITH_A_RESTART),
         odd_row_of(rt.alloc(), (2, RESETS), &ANSWERED),
+        odd_row_of(rt.alloc(), (2, RESETS), &INTERRUPT_UNANSWERED),
+        odd_row_of(rt.alloc(), (2, RESETS), &INTERRUPT_ANSWERED),
         odd_row_of(rt.alloc(), (2, TIMES), &LAST),
         odd_row_of(rt.alloc(), (4095, TIMES), &ON_THE_HIGHEST),
         odd_row_of(rt.alloc(), (2, TIMES), &NOISE),
         odd_row_of(rt.alloc(), (2, TIMES), &BEGUN),
     ];
-    assert_eq!(rt; odd_rows, [Some(None); 7]);
+    assert_eq!(rt; odd_rows, [Some(None); 9]);
 }

@@ -20,8 +20,8 @@ fn nothing_is_due_of_a_new_station(rt: HostRuntime) {
     }
 }
 
-/// T1, T3, and T20 to T23, in seconds.
-fn seconds(end: Role) -> [u32; 6] {
+/// T1, T3, T20 to T23, and T26, in seconds.
+fn seconds(end: Role) -> [u32; 7] {
     let times = Times::standard(end);
     [
         times.t1 / 1000,
@@ -30,6 +30,7 @@ fn seconds(end: Role) -> [u32; 6] {
         times.t21 / 1000,
         times.t22 / 1000,
         times.t23 / 1000,
+        times.t26 / 1000,
     ]
 }
 
@@ -37,7 +38,10 @@ fn seconds(end: Role) -> [u32; 6] {
 fn times_are_those_of_the_standard(rt: HostRuntime) {
     assert_eq!(rt;
         (seconds(Role::Dte), seconds(Role::Dce)),
-        ([3, 60, 180, 200, 180, 180], [3, 60, 60, 180, 60, 60])
+        (
+            [3, 60, 180, 200, 180, 180, 180],
+            [3, 60, 60, 180, 60, 60, 0]
+        )
     );
 }
 
@@ -60,7 +64,14 @@ fn is_asked(due: Due) -> u8 {
             },
         ) => 3,
         Some(Cmd::Relink) => 4,
-        Some(_) => 5,
+        Some(
+            Cmd::Reset {
+                channel: 2,
+                cause: 0,
+                diagnostic: 0,
+            },
+        ) => 5,
+        Some(_) => 6,
     }
 }
 
@@ -72,6 +83,7 @@ fn each_is_asked_by_its_command(rt: HostRuntime) {
         is_asked(Due::Clear { channel: 2 }),
         is_asked(Due::Restart { channel: 2 }),
         is_asked(Due::Relink),
+        is_asked(Due::Reset { channel: 2 }),
     ];
-    assert_eq!(rt; asked, [0, 1, 2, 3, 4]);
+    assert_eq!(rt; asked, [0, 1, 2, 3, 4, 5]);
 }

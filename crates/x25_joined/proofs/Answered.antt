@@ -16,10 +16,12 @@ use Rattle.x25_joined.proofs.NotPast.{AreNotPast, heeded_stands, next_stands, no
 use Rattle.x25_joined.specs.laws.Obeyed.{AnswerIsWritten, AreInTime, ClockIsObeyed, IsSilent, IsUntold, Obeys, SilenceIsWritten, after, watched_at}
 use Rattle.x25_joined.specs.laws.Played.{Played, lines_plays}
 use Rattle.x25_link.specs.declared.phase.Phase.{Phase}
+use Rattle.x25_circuit.specs.declared.awaits.Awaits.{Awaits}
 use Rattle.x25_layer.specs.code.FitsLayer.{awaited_at}
 use Rattle.x25_pipe.specs.Pipe.{asked_act, event_in, nothing_act}
 unfoldable use Rattle.x25_pipe.specs.Timed.{due_turns, timed_turn, timed_turns}
-use Rattle.x25_pipe.specs.Timed.{Timed, TimedTurn, act_turn, answer_turn, due_first, insist_turn, new_timed, seen_at, time_said, told_due}
+use Rattle.x25_pipe.specs.Timed.{Timed, TimedTurn, act_turn, answer_turn, due_first, insist_turn, moment_of, new_timed, pass_turn, seen_at, time_said, told_due}
+use Rattle.std.specs.Prelude.{IsSome, is_some}
 use Rattle.x25_pipe.specs.laws.ClockedLaw.{DueIsDone, EventIsDone, NothingIsDue, PipeIsWatched, watched_in}
 use Rattle.x25_station.specs.{Config.{Settings, layer_settings}, Step.{Outcome, Did, Refused}, Timer.{runs}}
 use Rattle.x25_station.specs.laws.{SettledLaw.{IsSettled, NewIsSettled, SettledBy, StaysSettled, PullsGoOn}, UnheardLaw.{MayAsk}, WayOutLaw.{rank}}
@@ -53,13 +55,16 @@ module _ (new : NewIsSettled) (stays : StaysSettled) (goes : PullsGoOn) (done_so
   due_now : (m : ℕ) (w : Timed) → (due_turns c times m w).next.now ≡ w.now
   unfolding due_turns
   due_now zero w = refl
-  due_now (suc m) w = first_now m w (due_of w.now w.deadlines) (due_now m)
+  due_now (suc m) w = first_now m w (due_of (moment_of w.now) w.deadlines) (due_now m)
 
   truth_after : (lines : List (List ℕ)) → AreTrue c times (watched_in (after c times lines))
   truth_after lines = let at = watched_so c times lines small in subst (AreTrue c times) at.1 (so c times at.0)
 
-  line_stands : (lines : List (List ℕ)) (line : List ℕ) → (let w : Timed = after c times lines in AreNotPast w.now w.deadlines)
-      → (let v : Timed = (timed_turn c times line (after c times lines)).next in AreNotPast v.now v.deadlines)
+  due_now_is : (m now : ℕ) (w : Timed) → (due_turns c times m (record w { now = Some now })).next.now ≡ Some now
+  due_now_is m now w = due_now m (record w { now = Some now })
+
+  line_stands : (lines : List (List ℕ)) (line : List ℕ) → (let w : Timed = after c times lines in AreNotPast (moment_of w.now) w.deadlines)
+      → (let v : Timed = (timed_turn c times line (after c times lines)).next in AreNotPast (moment_of v.now) v.deadlines)
   unfolding timed_turns timed_turn
   line_stands lines line stands = by (time_said line) refl
     where
@@ -72,69 +77,78 @@ module _ (new : NewIsSettled) (stays : StaysSettled) (goes : PullsGoOn) (done_so
       truth : AreTrue c times (watched_in (timed_turn c times line w).next)
       truth = subst (λ (v : Timed). AreTrue c times (watched_in v)) same (truth_after (lines ++ line ∷ []))
 
-      none : (now : ℕ) → time_said line ≡ Some now → w.now ≤ now → AreNotPast now (timed_turn c times line w).next.deadlines
+      none : (now : ℕ) → time_said line ≡ Some now → moment_of w.now ≤ now → AreNotPast now (timed_turn c times line w).next.deadlines
       none now said later =
           let v : Timed = (timed_turn c times line w).next in
-          (none_due times now v.now (λ h. awaited_at (layer_settings c) v.station.layer h) v.deadlines truth.waits
+          (none_due times now (moment_of v.now) (λ h. awaited_at (layer_settings c) v.station.layer h) v.deadlines truth.waits
           (none_so c times lines line now said later)).stand
 
-      at_time : (now : ℕ) (b : Bool) → nat_lt now w.now ≡ b → (w.now ≤ now → AreNotPast now (answer_turn c times line w (Some now)).next.deadlines)
-          → (let t : TimedTurn = if b then act_turn c times w (nothing_act w.station) else due_turns c times (most_due w.deadlines) (record w { now = now }) in
-          AreNotPast t.next.now t.next.deadlines)
-      at_time now true is found = heeded_stands w.now times (seen_at c (nothing_act w.station)) w.deadlines stands
-      at_time now false is found =
-          let u : Timed = (due_turns c times (most_due w.deadlines) (record w { now = now })).next in
-          subst (λ (m : ℕ). AreNotPast m u.deadlines) (sym (due_now (most_due w.deadlines) (record w { now = now })))
-          (subst (λ (b : Bool). let t : TimedTurn = if b then act_turn c times w (nothing_act w.station)
-          else due_turns c times (most_due w.deadlines) (record w { now = now }) in AreNotPast now t.next.deadlines) is (found (ltb-false now w.now is)))
+      passed : (now : ℕ) (o : Option ℕ) → w.now ≡ o → (moment_of w.now ≤ now → AreNotPast now (pass_turn c times now w o).next.deadlines)
+          → (let v : Timed = (pass_turn c times now w o).next in AreNotPast (moment_of v.now) v.deadlines)
+      passed now None is found = found (subst (λ (o : Option ℕ). moment_of o ≤ now) (sym is) (omega arith))
+      passed now (Some last) is found = at_time (nat_lt now last) refl found
+        where
+          at_time : (b : Bool) → nat_lt now last ≡ b
+              → (moment_of w.now ≤ now → AreNotPast now (let t : TimedTurn = if b then act_turn c times w (nothing_act w.station)
+              else due_turns c times (most_due w.deadlines) (record w { now = Some now }) in t.next.deadlines))
+              → (let t : TimedTurn = if b then act_turn c times w (nothing_act w.station)
+              else due_turns c times (most_due w.deadlines) (record w { now = Some now }) in AreNotPast (moment_of t.next.now) t.next.deadlines)
+          at_time true less later = heeded_stands (moment_of w.now) times (seen_at c (nothing_act w.station)) w.deadlines stands
+          at_time false less later =
+              let u : Timed = (due_turns c times (most_due w.deadlines) (record w { now = Some now })).next in
+              subst (λ (o : Option ℕ). AreNotPast (moment_of o) u.deadlines) (sym (due_now_is (most_due w.deadlines) now w))
+              (later (subst (λ (o : Option ℕ). moment_of o ≤ now) (sym is) (ltb-false now last less)))
 
       by : (o : Option ℕ) → time_said line ≡ o
-          → (let t : TimedTurn = answer_turn c times line w o in AreNotPast t.next.now t.next.deadlines)
-      by None is = heeded_stands w.now times (seen_at c (asked_act c w.station (event_in c.wide c.role line))) w.deadlines stands
-      by (Some now) is = at_time now (nat_lt now w.now) refl
+          → (let v : Timed = (answer_turn c times line w o).next in AreNotPast (moment_of v.now) v.deadlines)
+      by None is = heeded_stands (moment_of w.now) times (seen_at c (asked_act c w.station (event_in c.wide c.role line))) w.deadlines stands
+      by (Some now) is = passed now w.now refl
           (λ later. subst (λ (o : Option ℕ). AreNotPast now (answer_turn c times line w o).next.deadlines) is (none now is later))
 
-  more_stand : (lines more : List (List ℕ)) → (let w : Timed = after c times lines in AreNotPast w.now w.deadlines)
-      → (let v : Timed = after c times (lines ++ more) in AreNotPast v.now v.deadlines)
+  more_stand : (lines more : List (List ℕ)) → (let w : Timed = after c times lines in AreNotPast (moment_of w.now) w.deadlines)
+      → (let v : Timed = after c times (lines ++ more) in AreNotPast (moment_of v.now) v.deadlines)
   unfolding timed_turns
-  more_stand lines [] stands = subst (λ (l : List (List ℕ)). let v : Timed = after c times l in AreNotPast v.now v.deadlines) (sym (append-nil lines)) stands
+  more_stand lines [] stands =
+      subst (λ (l : List (List ℕ)). let v : Timed = after c times l in AreNotPast (moment_of v.now) v.deadlines) (sym (append-nil lines)) stands
   more_stand lines (line ∷ more) stands =
-      subst (λ (l : List (List ℕ)). let v : Timed = after c times l in AreNotPast v.now v.deadlines) (append_assoc lines (line ∷ []) more)
+      subst (λ (l : List (List ℕ)). let v : Timed = after c times l in AreNotPast (moment_of v.now) v.deadlines) (append_assoc lines (line ∷ []) more)
       (more_stand (lines ++ line ∷ []) more
-      (subst (λ (v : Timed). AreNotPast v.now v.deadlines) (sym (both_turns lines (line ∷ []) (new_timed c))) (line_stands lines line stands)))
+      (subst (λ (v : Timed). AreNotPast (moment_of v.now) v.deadlines) (sym (both_turns lines (line ∷ []) (new_timed c))) (line_stands lines line stands)))
 
-  stands_after : (lines : List (List ℕ)) → (let w : Timed = after c times lines in StandsSince stays goes done_so due_so so c times small w.now w)
+  stands_after : (lines : List (List ℕ)) → (let w : Timed = after c times lines in
+      IsSome w.now → StandsSince stays goes done_so due_so so c times small (moment_of w.now) w)
   unfolding timed_turns
-  stands_after lines =
+  stands_after lines said =
       let w : Timed = after c times lines in
       let at = watched_so c times lines small in
       record {
         moments = at.0;
         is = at.1;
         settled = subst (λ (x : Watched). IsSettled c x.station) at.1 (from_settled at.0 (watched c times []) (new c));
+        said = said;
         not_past = more_stand [] lines (none_awaited c.channels.count);
         past = omega arith;
       }
 
-  lines_does : (lines more : List (List ℕ)) → (let w : Timed = after c times lines in AreInTime c times more w
-      → Does stays goes done_so due_so so c times small (lines_plays c times more w) w.now w (timed_turns c times more w).next)
-  lines_does lines more in_time = let w : Timed = after c times lines in
-      lines_do stays goes done_so due_so so c times small more w.now w in_time (stands_after lines)
+  lines_does : (lines more : List (List ℕ)) → (let w : Timed = after c times lines in IsSome w.now → AreInTime c times more w
+      → Does stays goes done_so due_so so c times small (lines_plays c times more w) (moment_of w.now) w (timed_turns c times more w).next)
+  lines_does lines more said in_time = let w : Timed = after c times lines in
+      lines_do stays goes done_so due_so so c times small more (moment_of w.now) w in_time (stands_after lines said)
 
   -- ---- the laws
 
-  obeys : (lines more : List (List ℕ)) → (let w : Timed = after c times lines in AreInTime c times more w
-      → Obeys c times w (timed_turns c times more w).next)
-  obeys lines more in_time =
+  obeys : (lines more : List (List ℕ)) → (let w : Timed = after c times lines in IsSome w.now → AreInTime c times more w
+      → Obeys c times (moment_of w.now) w (timed_turns c times more w).next)
+  obeys lines more said in_time =
       let v : Timed = (timed_turns c times more (after c times lines)).next in
-      let d = lines_does lines more in_time in
+      let d = lines_does lines more said in_time in
       record {
         deeds = d.deeds;
         obeyed = d.obeyed;
         since = d.since;
         leads = d.leads;
         in_time = d.stands.past;
-        not_past = next_stands v.now v.deadlines d.stands.not_past;
+        not_past = next_stands (moment_of v.now) v.deadlines d.stands.not_past;
       }
 
   -- a command that is refused takes the time up to the end
@@ -150,82 +164,97 @@ module _ (new : NewIsSettled) (stays : StaysSettled) (goes : PullsGoOn) (done_so
 
   -- the deeds and that
   record UpToNow (w v : Timed) (deeds : List Deed) (since : ℕ) : Type 0 where
-    obeyed : AreObeyed c times (deeds ++ Happens (v.now - since) refused_event ∷ []) (watched_at w.now w)
-    now : (all_done c times (deeds ++ Happens (v.now - since) refused_event ∷ []) (watched_at w.now w)).now ≡ v.now
+    obeyed : AreObeyed c times (deeds ++ Happens (moment_of v.now - since) refused_event ∷ []) (watched_at (moment_of w.now) w)
+    now : (all_done c times (deeds ++ Happens (moment_of v.now - since) refused_event ∷ []) (watched_at (moment_of w.now) w)).now ≡ moment_of v.now
 
-  up_to_now : (ps : List Played) (w v : Timed) (d : Does stays goes done_so due_so so c times small ps w.now w v) → UpToNow w v d.deeds d.since
+  up_to_now : (ps : List Played) (w v : Timed) (d : Does stays goes done_so due_so so c times small ps (moment_of w.now) w v) → UpToNow w v d.deeds d.since
   up_to_now ps w v d =
-      let past : d.since ≤ v.now = d.stands.past in
-      let k : ℕ = v.now - d.since in
-      let there : d.since + k ≡ v.now = omega (arith, past) in
+      let past : d.since ≤ moment_of v.now = d.stands.past in
+      let k : ℕ = moment_of v.now - d.since in
+      let there : d.since + k ≡ moment_of v.now = omega (arith, past) in
       let last : Deed = Happens k refused_event in
-      let x : Watched = watched_at w.now w in
+      let x : Watched = watched_at (moment_of w.now) w in
       let end : AreObeyed c times (last ∷ []) (watched_at d.since v) =
-      (tt, subst (λ (n : ℕ). IsNotPast n (next_of v.deadlines)) (sym there) (next_stands v.now v.deadlines d.stands.not_past), tt) in
+      (tt, subst (λ (n : ℕ). IsNotPast n (next_of v.deadlines)) (sym there) (next_stands (moment_of v.now) v.deadlines d.stands.not_past), tt) in
       record {
         obeyed = obeyed_append c times d.deeds (last ∷ []) x d.obeyed (subst (AreObeyed c times (last ∷ [])) (sym d.leads) end);
         now = ap (λ (z : Watched). z.now) (done_append c times d.deeds (last ∷ []) x ∙ ap (all_done c times (last ∷ [])) d.leads) ∙ there;
       }
 
   written : AnswerIsTold → (h : ℕ) (lines more : List (List ℕ)) → (let w : Timed = after c times lines in
-      let longest : ℕ = longest_wait times w.station.layer.restarting (awaited_at (layer_settings c) w.station.layer h) in
-      AreSet times → w.now + longest < 2 ^ 64 → 2 ≤ rank c w.station h → AreInTime c times more w
-      → IsUntold c h (lines_plays c times more w) → (timed_turns c times more w).next.now ≤ w.now + longest)
-  written law h lines more set fits ranks in_time untold =
+      let awaits : Awaits = awaited_at (layer_settings c) w.station.layer h in
+      let longest : ℕ = longest_wait times w.station.layer.restarting awaits in
+      AreSet times awaits → IsSome w.now → moment_of w.now + longest < 2 ^ 64 → 2 ≤ rank c w.station h → AreInTime c times more w
+      → IsUntold c h (lines_plays c times more w) → moment_of (timed_turns c times more w).next.now ≤ moment_of w.now + longest)
+  written law h lines more set said fits ranks in_time untold =
       let w : Timed = after c times lines in
       let v : Timed = (timed_turns c times more w).next in
-      let d = lines_does lines more in_time in
+      let d = lines_does lines more said in_time in
       let all = up_to_now (lines_plays c times more w) w v d in
-      let last : Deed = Happens (v.now - d.since) refused_event in
-      let x : Watched = watched_at w.now w in
+      let last : Deed = Happens (moment_of v.now - d.since) refused_event in
+      let x : Watched = watched_at (moment_of w.now) w in
       let deeds : List Deed = d.deeds ++ last ∷ [] in
       let none : answer.IsUntold c times h deeds x =
       untold_append c times h d.deeds (last ∷ []) x (d.untold h untold)
-      (subst (answer.IsUntold c times h (last ∷ [])) (sym d.leads) (last_untold h (v.now - d.since) (watched_at d.since v))) in
+      (subst (answer.IsUntold c times h (last ∷ [])) (sym d.leads) (last_untold h (moment_of v.now - d.since) (watched_at d.since v))) in
       let at = watched_so c times lines small in
-      let bound : (all_done c times deeds x).now ≤ w.now
+      let bound : (all_done c times deeds x).now ≤ moment_of w.now
       + longest_wait times w.station.layer.restarting (awaited_at (layer_settings c) w.station.layer h) =
-      subst (λ (z : Watched). z.now + longest_wait times z.station.layer.restarting (awaited_at (layer_settings c) z.station.layer h) < 2 ^ 64
+      subst (λ (z : Watched). AreSet times (awaited_at (layer_settings c) z.station.layer h)
+      → z.now + longest_wait times z.station.layer.restarting (awaited_at (layer_settings c) z.station.layer h) < 2 ^ 64
       → 2 ≤ rank c z.station h → AreObeyed c times deeds z → answer.IsUntold c times h deeds z
       → (all_done c times deeds z).now ≤ z.now + longest_wait times z.station.layer.restarting (awaited_at (layer_settings c) z.station.layer h))
-      at.1 (law c times h at.0 deeds set) fits ranks all.obeyed none in
-      let now : (all_done c times deeds x).now ≡ v.now = all.now in
+      at.1 (law c times h at.0 deeds) set fits ranks all.obeyed none in
+      let now : (all_done c times deeds x).now ≡ moment_of v.now = all.now in
       omega (arith, bound, now)
 
   silent : SilenceEnds → (phase : Phase) (lines more : List (List ℕ)) → (let w : Timed = after c times lines in
       let v : Timed = (timed_turns c times more w).next in
       let longest : ℕ = longest_silence times c.retries (runs w.station) in
-      MayAsk phase → 1 ≤ c.window → 0 < times.t1 → 0 < times.t3 → w.now + longest < 2 ^ 64 → AreInTime c times more w
-      → IsSilent c phase (lines_plays c times more w) → v.station.link.phase ≡ phase → v.now ≤ w.now + longest)
-  silent law phase lines more asks window t1 t3 fits in_time quiet at_end =
+      MayAsk phase → 1 ≤ c.window → 0 < times.t1 → 0 < times.t3 → IsSome w.now → moment_of w.now + longest < 2 ^ 64 → AreInTime c times more w
+      → IsSilent c phase (lines_plays c times more w) → v.station.link.phase ≡ phase → moment_of v.now ≤ moment_of w.now + longest)
+  silent law phase lines more asks window t1 t3 said fits in_time quiet at_end =
       let w : Timed = after c times lines in
       let v : Timed = (timed_turns c times more w).next in
-      let d = lines_does lines more in_time in
+      let d = lines_does lines more said in_time in
       let all = up_to_now (lines_plays c times more w) w v d in
-      let last : Deed = Happens (v.now - d.since) refused_event in
-      let x : Watched = watched_at w.now w in
+      let last : Deed = Happens (moment_of v.now - d.since) refused_event in
+      let x : Watched = watched_at (moment_of w.now) w in
       let deeds : List Deed = d.deeds ++ last ∷ [] in
       let none : silence.IsSilent c times phase deeds x =
       silent_append c times phase d.deeds (last ∷ []) x (d.silent phase quiet at_end)
-      (subst (silence.IsSilent c times phase (last ∷ [])) (sym d.leads) (last_silent phase (v.now - d.since) (watched_at d.since v) at_end)) in
+      (subst (silence.IsSilent c times phase (last ∷ [])) (sym d.leads) (last_silent phase (moment_of v.now - d.since) (watched_at d.since v) at_end)) in
       let at = watched_so c times lines small in
-      let bound : (all_done c times deeds x).now ≤ w.now + longest_silence times c.retries (runs w.station) =
+      let bound : (all_done c times deeds x).now ≤ moment_of w.now + longest_silence times c.retries (runs w.station) =
       subst (λ (z : Watched). z.now + longest_silence times c.retries (runs z.station) < 2 ^ 64 → AreObeyed c times deeds z
       → silence.IsSilent c times phase deeds z → (all_done c times deeds z).now ≤ z.now + longest_silence times c.retries (runs z.station))
       at.1 (law c times phase at.0 deeds asks window small t1 t3) fits all.obeyed none in
-      let now : (all_done c times deeds x).now ≡ v.now = all.now in
+      let now : (all_done c times deeds x).now ≡ moment_of v.now = all.now in
       omega (arith, bound, now)
 
 pub clock_is_obeyed : NewIsSettled → StaysSettled → PullsGoOn → EventIsDone → DueIsDone → NothingIsDue → PipeIsWatched → DeadlinesAreTrue → ClockIsObeyed
-clock_is_obeyed new stays goes done_so due_so none_so watched_so so c times lines more small =
-    obeys new stays goes done_so due_so none_so watched_so so c times small lines more
+clock_is_obeyed new stays goes done_so due_so none_so watched_so so c times now lines more small is in_time =
+    let w : Timed = after c times lines in
+    subst (λ (o : Option ℕ). Obeys c times (moment_of o) w (timed_turns c times more w).next) is
+    (obeys new stays goes done_so due_so none_so watched_so so c times small lines more (ap is_some is) in_time)
 
 pub answer_is_written : NewIsSettled → StaysSettled → PullsGoOn → EventIsDone → DueIsDone → NothingIsDue → PipeIsWatched → DeadlinesAreTrue → AnswerIsTold
     → AnswerIsWritten
-answer_is_written new stays goes done_so due_so none_so watched_so so law c times h lines more small =
-    written new stays goes done_so due_so none_so watched_so so c times small law h lines more
+answer_is_written new stays goes done_so due_so none_so watched_so so law c times h now lines more small set is fits =
+    let w : Timed = after c times lines in
+    let same : moment_of w.now ≡ now = ap moment_of is in
+    subst (λ (n : ℕ). n + longest_wait times w.station.layer.restarting (awaited_at (layer_settings c) w.station.layer h) < 2 ^ 64 → 2 ≤ rank c w.station h
+    → AreInTime c times more w → IsUntold c h (lines_plays c times more w) → moment_of (timed_turns c times more w).next.now
+    ≤ n + longest_wait times w.station.layer.restarting (awaited_at (layer_settings c) w.station.layer h)) same
+    (written new stays goes done_so due_so none_so watched_so so c times small law h lines more set (ap is_some is)) fits
 
 pub silence_is_written : NewIsSettled → StaysSettled → PullsGoOn → EventIsDone → DueIsDone → NothingIsDue → PipeIsWatched → DeadlinesAreTrue → SilenceEnds
     → SilenceIsWritten
-silence_is_written new stays goes done_so due_so none_so watched_so so law c times phase lines more asks window small t1 t3 =
-    silent new stays goes done_so due_so none_so watched_so so c times small law phase lines more asks window t1 t3
+silence_is_written new stays goes done_so due_so none_so watched_so so law c times phase now lines more asks window small t1 t3 is fits =
+    let w : Timed = after c times lines in
+    let v : Timed = (timed_turns c times more w).next in
+    let same : moment_of w.now ≡ now = ap moment_of is in
+    subst (λ (n : ℕ). n + longest_silence times c.retries (runs w.station) < 2 ^ 64 → AreInTime c times more w
+    → IsSilent c phase (lines_plays c times more w) → v.station.link.phase ≡ phase → moment_of v.now
+    ≤ n + longest_silence times c.retries (runs w.station)) same
+    (silent new stays goes done_so due_so none_so watched_so so c times small law phase lines more asks window t1 t3 (ap is_some is)) fits

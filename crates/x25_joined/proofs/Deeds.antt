@@ -2,7 +2,7 @@
 use Rattle.std.proofs.Common.{◌≡◌, ◌∙◌, ◌≤◌, ◌+◌, ◌-◌, ◌==◌, ℕ, zero, suc, nat_lt, Bool, true, false, ◌||◌, if◌then◌else◌, List, [], ◌∷◌, ◌++◌, Option, Some}
 use Rattle.std.proofs.Common.{None}
 use Rattle.std.proofs.Common.{ap, refl, sym, subst, arith}
-use Rattle.std.{proofs.lemmas.{Bool.{ltb-false, true≢false}, List.Folds.{list_any-append}}, specs.List.{list_any}}
+use Rattle.std.{proofs.lemmas.{Bool.{ltb-false, true≢false}, List.Folds.{list_any-append}}, specs.List.{list_any}, specs.Prelude.{IsSome, is_some}}
 use Rattle.x25_circuit.specs.{Calling.{SaysReady}, declared.awaits.Awaits.{Awaits}}
 use Rattle.x25_clock.specs.Clock.{Deadlines, after_due, due_of, most_due}
 use Rattle.x25_clock.specs.{Due.{asked_of, event_for}, declared.due.Due.{Due}, declared.times.Times.{Times}}
@@ -21,14 +21,14 @@ use Rattle.x25_joined.proofs.PlayedReads.{told_entries, told_of}
 use Rattle.x25_joined.specs.laws.Joined.{entries_in}
 use Rattle.x25_joined.specs.laws.Obeyed.{AreInTime, IsInTime, IsQuietAt, IsSilent, IsUntold, watched_at}
 use Rattle.x25_joined.specs.laws.Played.{Answers, Insists, Marks, Passes, Play, Played, answer_plays, asked_by, due_plays, first_due, line_plays, lines_plays}
-use Rattle.x25_joined.specs.laws.Played.{playing, timed_entries, told}
+use Rattle.x25_joined.specs.laws.Played.{pass_plays, playing, timed_entries, told}
 use Rattle.x25_layer.specs.{Calls.{Asks as asks_on, PullsAll, outcome_in}, code.FitsLayer.{awaited_at}, laws.Rounds.{Refuses, went}}
 use Rattle.x25_layer.specs.declared.error.LayerError.TheVariants as layer_error
 use Rattle.x25_link.specs.declared.phase.Phase.{Phase}
 use Rattle.x25_link.specs.{Link.{alone}, Outgoing.{waits}, Station.{is_up}}
 use Rattle.x25_pipe.specs.Pipe.{asked_act, event_act, event_in, nothing_act, entries_told, pulled_behind, with_pulls}
 unfoldable use Rattle.x25_pipe.specs.Timed.{due_turns, timed_turn, timed_turns}
-use Rattle.x25_pipe.specs.Timed.{Timed, TimedTurn, act_turn, answer_turn, due_first, insist_turn, time_said, told_due}
+use Rattle.x25_pipe.specs.Timed.{Timed, TimedTurn, act_turn, answer_turn, due_first, insist_turn, moment_of, pass_turn, time_said, told_due}
 use Rattle.x25_pipe.specs.laws.ClockedLaw.{DueIsDone, EventIsDone, watched_in, with_pull}
 use Rattle.x25_station.specs.{Command.{Requests}, Config.{Settings, layer_settings, link_settings}, Entry.{StationEntry}, Station.{Station, view_of}}
 use Rattle.x25_station.specs.Entry.{link_up, link_down, of_channel, was_restarted, restart_confirmed}
@@ -161,8 +161,9 @@ module _ (stays : StaysSettled) (goes : PullsGoOn) (done_so : EventIsDone) (due_
     pub moments : List Moment
     pub is : watched c times moments ≡ watched_at since w
     pub settled : IsSettled c w.station
-    pub not_past : AreNotPast w.now w.deadlines
-    pub past : since ≤ w.now
+    pub said : IsSome w.now
+    pub not_past : AreNotPast (moment_of w.now) w.deadlines
+    pub past : since ≤ moment_of w.now
 
   -- what is played is deeds, which lead there
   pub record Does (ps : List Played) (n : ℕ) (w v : Timed) : Type 0 where
@@ -304,8 +305,8 @@ module _ (stays : StaysSettled) (goes : PullsGoOn) (done_so : EventIsDone) (due_
       )
 
   deed_does : (ps : List Played) (n : ℕ) (w v : Timed) (deed : Deed) (o : Outcome) → StandsSince n w → outcome_of c deed (watched_at n w) ≡ o
-      → n + later_by deed ≡ w.now → w.now ≡ v.now → IsFounded deed (watched_at n w)
-      → all_done c times (with_pull deed o) (watched_at n w) ≡ watched_at v.now v
+      → n + later_by deed ≡ moment_of w.now → w.now ≡ v.now → IsFounded deed (watched_at n w)
+      → all_done c times (with_pull deed o) (watched_at n w) ≡ watched_at (moment_of v.now) v
       → ((h : ℕ) → IsUntold c h ps → list_any (is_answered_on h (awaited_at (layer_settings c) w.station.layer h)) (entries_told (with_pulls c o)) ≡ false)
       → ((phase : Phase) → IsSilent c phase ps → IsSilentBy deed w.station o phase) → Does ps n w v
   deed_does ps n w v deed o s is later same founded leads none silent =
@@ -315,7 +316,7 @@ module _ (stays : StaysSettled) (goes : PullsGoOn) (done_so : EventIsDone) (due_
       record {
         deeds = deeds;
         obeyed = both.obeyed;
-        since = v.now;
+        since = moment_of v.now;
         leads = leads;
         stands = record {
           moments = s.moments ++ moments_for c times deeds x;
@@ -323,7 +324,8 @@ module _ (stays : StaysSettled) (goes : PullsGoOn) (done_so : EventIsDone) (due_
               ∙ ap (watched_from c times (moments_for c times deeds x)) s.is
               ∙ all_watched c times deeds x ∙ leads;
           settled = subst (λ (y : Watched). IsSettled c y.station) leads both.settled;
-          not_past = subst (λ (m : ℕ). AreNotPast m v.deadlines) (later ∙ same)
+          said = subst IsSome same s.said;
+          not_past = subst (λ (m : ℕ). AreNotPast m v.deadlines) (later ∙ ap moment_of same)
               (subst (λ (y : Watched). AreNotPast (n + later_by deed) y.deadlines) leads both.stands);
           past = omega arith;
         };
@@ -347,12 +349,12 @@ module _ (stays : StaysSettled) (goes : PullsGoOn) (done_so : EventIsDone) (due_
   acted_does : (play : Play) (n : ℕ) (w : Timed) (o : Option StationEvent) → asked_by c play ≡ o → StandsSince n w
       → Does (playing w play ∷ []) n w (act_turn c times w (asked_act c w.station o)).next
   acted_does play n w (Some event) asks s =
-      let k : ℕ = w.now - n in
+      let k : ℕ = moment_of w.now - n in
       let v : Timed = (act_turn c times w (event_act c w.station event)).next in
       let o : Outcome = timer.outcome c w.station event in
-      let past : n ≤ w.now = s.past in
-      let later : n + k ≡ w.now = omega (arith, past) in
-      let there : n + k ≡ w.now + 0 = omega (arith, past) in
+      let past : n ≤ moment_of w.now = s.past in
+      let later : n + k ≡ moment_of w.now = omega (arith, past) in
+      let there : n + k ≡ moment_of w.now + 0 = omega (arith, past) in
       let x : Watched = watched_at n w in
       let said : timed_entries (told c (playing w play)) ≡ entries_told (with_pulls c o) =
       told_entries c w play ∙ ap (λ (e : Option StationEvent). entries_in (asked_act c w.station e).sayings) asks ∙ said_is w.station event in
@@ -366,11 +368,11 @@ module _ (stays : StaysSettled) (goes : PullsGoOn) (done_so : EventIsDone) (due_
         told = ap tells_link (sym said) ∙ u.2;
       })
   acted_does play n w None asks s =
-      let k : ℕ = w.now - n in
+      let k : ℕ = moment_of w.now - n in
       let v : Timed = (act_turn c times w (nothing_act w.station)).next in
       let no : IsRefused (timer.outcome c w.station refused_event) = never c w.station in
-      let past : n ≤ w.now = s.past in
-      let later : n + k ≡ w.now = omega (arith, past) in
+      let past : n ≤ moment_of w.now = s.past in
+      let later : n + k ≡ moment_of w.now = omega (arith, past) in
       let x : Watched = watched_at n w in
       deed_does (playing w play ∷ []) n w v (Happens k refused_event) (Refused no.error) s no.is later refl tt
       (ap (λ (o : Outcome). heeds c times (n + k) refused_event o x) no.is ∙ ap (λ (m : ℕ). heeds c times m refused_event (Refused no.error) x) later)
@@ -379,16 +381,16 @@ module _ (stays : StaysSettled) (goes : PullsGoOn) (done_so : EventIsDone) (due_
 
   -- ---- what is due
 
-  insist_does : (n : ℕ) (w : Timed) (due : Due) → due_of w.now w.deadlines ≡ Some due → StandsSince n w
+  insist_does : (n : ℕ) (w : Timed) (due : Due) → due_of (moment_of w.now) w.deadlines ≡ Some due → StandsSince n w
       → Does (playing (told_due times w) (Insists due (asked_of c w.station due)) ∷ []) n w (insist_turn c times due (told_due times w)).next
   insist_does n w due is s =
-      let k : ℕ = w.now - n in
+      let k : ℕ = moment_of w.now - n in
       let event : StationEvent = event_for (asked_of c w.station due) in
       let v : Timed = (insist_turn c times due (told_due times w)).next in
       let o : Outcome = timer.outcome c w.station event in
-      let past : n ≤ w.now = s.past in
-      let later : n + k ≡ w.now = omega (arith, past) in
-      let there : n + k ≡ w.now + 0 = omega (arith, past) in
+      let past : n ≤ moment_of w.now = s.past in
+      let later : n + k ≡ moment_of w.now = omega (arith, past) in
+      let there : n + k ≡ moment_of w.now + 0 = omega (arith, past) in
       let x : Watched = watched_at n w in
       let said : timed_entries (told c (playing (told_due times w) (Insists due (asked_of c w.station due)))) ≡ entries_told (with_pulls c o) =
       told_entries c (told_due times w) (Insists due (asked_of c w.station due)) ∙ said_is w.station event in
@@ -401,10 +403,10 @@ module _ (stays : StaysSettled) (goes : PullsGoOn) (done_so : EventIsDone) (due_
       (λ phase u. record { at = u.0; quiet = u.1; told = ap tells_link (sym said) ∙ u.2 })
 
   -- nothing is played, and the time passes or not
-  none_does : (ps : List Played) (n : ℕ) (w v : Timed) → w.station ≡ v.station → w.deadlines ≡ v.deadlines → w.now ≤ v.now → AreNotPast v.now v.deadlines
-      → StandsSince n w → Does ps n w v
-  none_does ps n w v station deadlines later stands s =
-      let past : n ≤ w.now = s.past in
+  none_does : (ps : List Played) (n : ℕ) (w v : Timed) → w.station ≡ v.station → w.deadlines ≡ v.deadlines → moment_of w.now ≤ moment_of v.now → IsSome v.now
+      → AreNotPast (moment_of v.now) v.deadlines → StandsSince n w → Does ps n w v
+  none_does ps n w v station deadlines later said stands s =
+      let past : n ≤ moment_of w.now = s.past in
       let same : watched_at n w ≡ watched_at n v =
       ap (λ (t : Station). let y : Watched = record { station = t; deadlines = w.deadlines; now = n } in y) station
       ∙ ap (λ (d : Deadlines). let y : Watched = record { station = v.station; deadlines = d; now = n } in y) deadlines in
@@ -417,6 +419,7 @@ module _ (stays : StaysSettled) (goes : PullsGoOn) (done_so : EventIsDone) (due_
           moments = s.moments;
           is = s.is ∙ same;
           settled = subst (IsSettled c) station s.settled;
+          said = said;
           not_past = stands;
           past = omega (arith, past, later);
         };
@@ -425,15 +428,15 @@ module _ (stays : StaysSettled) (goes : PullsGoOn) (done_so : EventIsDone) (due_
         silent = λ phase u end. ap (λ (t : Station). t.link.phase) station ∙ end;
       }
 
-  first_does : (m n : ℕ) (w : Timed) (o : Option Due) → due_of w.now w.deadlines ≡ o
+  first_does : (m n : ℕ) (w : Timed) (o : Option Due) → due_of (moment_of w.now) w.deadlines ≡ o
       → ((k : ℕ) (u : Timed) → StandsSince k u → Does (due_plays c times m u) k u (due_turns c times m u).next)
       → StandsSince n w
       → Does (first_due c times (due_plays c times m) w o) n w (due_first c times (due_turns c times m) w o).next
   first_does m n w None is rest s =
       let truth : AreTrue c times (watched_at n w) = subst (AreTrue c times) s.is (so c times s.moments) in
-      let whole = none_due times w.now n (λ h. awaited_at (layer_settings c) w.station.layer h) w.deadlines truth.waits is in
-      none_does [] n w (told_due times w) refl (sym whole.same) (omega arith)
-      (subst (AreNotPast w.now) (sym whole.same) s.not_past) s
+      let whole = none_due times (moment_of w.now) n (λ h. awaited_at (layer_settings c) w.station.layer h) w.deadlines truth.waits is in
+      none_does [] n w (told_due times w) refl (sym whole.same) (omega arith) s.said
+      (subst (AreNotPast (moment_of w.now)) (sym whole.same) s.not_past) s
   first_does m n w (Some due) is rest s =
       let u : Timed = (insist_turn c times due (told_due times w)).next in
       let first = insist_does n w due is s in
@@ -442,28 +445,33 @@ module _ (stays : StaysSettled) (goes : PullsGoOn) (done_so : EventIsDone) (due_
 
   due_does : (m n : ℕ) (w : Timed) → StandsSince n w → Does (due_plays c times m w) n w (due_turns c times m w).next
   unfolding due_turns
-  due_does zero n w s = none_does [] n w w refl refl (omega arith) s.not_past s
-  due_does (suc m) n w s = first_does m n w (due_of w.now w.deadlines) refl (λ k u t. due_does m k u t) s
+  due_does zero n w s = none_does [] n w w refl refl (omega arith) s.said s.not_past s
+  due_does (suc m) n w s = first_does m n w (due_of (moment_of w.now) w.deadlines) refl (λ k u t. due_does m k u t) s
 
   -- ---- lines
+
+  pass_does : (now n : ℕ) (w : Timed) (o : Option ℕ) → w.now ≡ o → IsInTime w (Some now) → StandsSince n w
+      → Does (pass_plays c times now w o) n w (pass_turn c times now w o).next
+  pass_does now n w None is in_time s = absurd (true≢false (sym s.said ∙ ap is_some is))
+  pass_does now n w (Some last) is in_time s = by (nat_lt now last) refl
+    where
+      at_now : Timed
+      at_now = record w { now = Some now }
+
+      by : (b : Bool) → nat_lt now last ≡ b
+          → Does (let ps : List Played = if b then playing w Passes ∷ [] else due_plays c times (most_due w.deadlines) at_now in ps) n w
+          (let t : TimedTurn = if b then act_turn c times w (nothing_act w.station) else due_turns c times (most_due w.deadlines) at_now in t.next)
+      by true less = acted_does Passes n w None refl s
+      by false less =
+          let later : moment_of w.now ≤ now = subst (λ (o : Option ℕ). moment_of o ≤ now) (sym is) (ltb-false now last less) in
+          let first = none_does [] n w at_now refl refl later refl (all_stand now w.deadlines in_time) s in
+          join [] (due_plays c times (most_due w.deadlines) at_now) n w at_now (due_turns c times (most_due w.deadlines) at_now).next first
+          (due_does (most_due w.deadlines) first.since at_now first.stands)
 
   answer_does : (line : List ℕ) (n : ℕ) (w : Timed) (o : Option ℕ) → IsInTime w o → StandsSince n w
       → Does (answer_plays c times line w o) n w (answer_turn c times line w o).next
   answer_does line n w None in_time s = acted_does (Answers line) n w (event_in c.wide c.role line) refl s
-  answer_does line n w (Some now) in_time s = by (nat_lt now w.now) refl
-    where
-      at_now : Timed
-      at_now = record w { now = now }
-
-      by : (b : Bool) → nat_lt now w.now ≡ b
-          → Does (let ps : List Played = if b then playing w Passes ∷ [] else due_plays c times (most_due w.deadlines) at_now in ps) n w
-          (let t : TimedTurn = if b then act_turn c times w (nothing_act w.station) else due_turns c times (most_due w.deadlines) at_now in t.next)
-      by true is = acted_does Passes n w None refl s
-      by false is =
-          let later : w.now ≤ now = ltb-false now w.now is in
-          let first = none_does [] n w at_now refl refl later (all_stand now w.deadlines in_time) s in
-          join [] (due_plays c times (most_due w.deadlines) at_now) n w at_now (due_turns c times (most_due w.deadlines) at_now).next first
-          (due_does (most_due w.deadlines) first.since at_now first.stands)
+  answer_does line n w (Some now) in_time s = pass_does now n w w.now refl in_time s
 
   line_does : (line : List ℕ) (n : ℕ) (w : Timed) → IsInTime w (time_said line) → StandsSince n w
       → Does (line_plays c times line w) n w (timed_turn c times line w).next
@@ -472,12 +480,12 @@ module _ (stays : StaysSettled) (goes : PullsGoOn) (done_so : EventIsDone) (due_
       let ps : List Played = answer_plays c times line w (time_said line) in
       let v : Timed = (answer_turn c times line w (time_said line)).next in
       let first = answer_does line n w (time_said line) in_time s in
-      join ps (playing v Marks ∷ []) n w v v first (none_does (playing v Marks ∷ []) first.since v v refl refl (omega arith) first.stands.not_past first.stands)
+      join ps (playing v Marks ∷ []) n w v v first (none_does (playing v Marks ∷ []) first.since v v refl refl (omega arith) first.stands.said first.stands.not_past first.stands)
 
   pub lines_do : (lines : List (List ℕ)) (n : ℕ) (w : Timed) → AreInTime c times lines w → StandsSince n w
       → Does (lines_plays c times lines w) n w (timed_turns c times lines w).next
   unfolding timed_turns
-  lines_do [] n w in_time s = none_does [] n w w refl refl (omega arith) s.not_past s
+  lines_do [] n w in_time s = none_does [] n w w refl refl (omega arith) s.said s.not_past s
   lines_do (line ∷ lines) n w in_time s =
       let v : Timed = (timed_turn c times line w).next in
       let ps : List Played = line_plays c times line w in

@@ -22,7 +22,7 @@ use Rattle.x25_station.specs.Station.Told.{is_idle, stretch}
 use Rattle.x25_station.specs.declared.config.Cfg.{Cfg}
 use Rattle.x25_station.specs.laws.TimerLaw.{StationEvent, Asks, Comes, Fires}
 use Rattle.x25_joined.proofs.PeerPlays.{AreOpen, IsOpenPlay, few_channels, line_open, no_time, quiet_no_frame}
-use Rattle.x25_joined.proofs.PlayedFollows.{AreLow, AreLowPlays, AreQuiet, IsLowPlay, IsQuiet, Linked, RestQuiet, line_follows, line_quiet, new_low, next_by}
+use Rattle.x25_joined.proofs.PlayedFollows.{AreLowPlays, AreQuiet, IsLowPlay, IsQuiet, Linked, RestQuiet, StayLow, line_follows, line_quiet, new_low, next_by}
 use Rattle.x25_joined.proofs.PlayedLines.{first_plays, first_stands, more_is, next_more, written_is}
 use Rattle.x25_joined.proofs.PlayedReads.{reads_one, timed_entries-append, timed_frames-append, told_entries, told_frames, words_ask, words_open}
 use Rattle.x25_joined.specs.laws.Played.{Answers, Insists, Marks, Passes, Play, Played, TimedSaying, answer_plays, asked_by, due_words, first_asked, line_plays}
@@ -158,7 +158,7 @@ record Behind (c : Settings) (times : Times) (read text : List ℕ) : Type 0 whe
   station : station_of c text ≡ timed_station c times read
   entries : entries_in (written c text) ≡ timed_entries (timed_written c times read)
   frames : frames_in (written c text) ≡ timed_frames (timed_written c times read)
-  low : AreLow (timed c times read).next.deadlines.waits
+  low : StayLow c (timed c times read).next.deadlines.waits
 
 first_behind : (c : Settings) (times : Times) → c.channels.count ≤ 4095 → Behind c times [] []
 first_behind c times few = record {
@@ -167,7 +167,7 @@ first_behind c times few = record {
   station = ap (λ t. t.next) (first_said c) ∙ ap (λ (v : Timed). v.station) (sym (first_stands c times));
   entries = ap (λ t. entries_in t.sayings) (first_said c) ∙ ap (λ (l : List Played). timed_entries (flat_map (told c) l)) (sym (first_plays c times));
   frames = ap (λ t. frames_in t.sayings) (first_said c) ∙ ap (λ (l : List Played). timed_frames (flat_map (told c) l)) (sym (first_plays c times));
-  low = subst (λ (v : Timed). AreLow v.deadlines.waits) (sym (first_stands c times)) (new_low c few);
+  low = subst (λ (v : Timed). StayLow c v.deadlines.waits) (sym (first_stands c times)) (new_low c few);
 }
 
 more_behind : (c : Settings) (times : Times) (read text line next : List ℕ) → Behind c times read text → IsOpen line → AreWhole next
@@ -186,7 +186,7 @@ more_behind c times read text line next k none whole station entries frames =
           ∙ ap timed_entries (sym (written_is c times read line k.whole none));
       frames = frames ∙ ap (λ (fs : List (List ℕ)). fs ++ timed_frames said) k.frames ∙ sym (timed_frames-append (timed_written c times read) said)
           ∙ ap timed_frames (sym (written_is c times read line k.whole none));
-      low = subst (λ (v : Timed). AreLow v.deadlines.waits) (sym (next_more c times read line k.whole none)) (line_follows c times line w k.low).next;
+      low = subst (λ (v : Timed). StayLow c v.deadlines.waits) (sym (next_more c times read line k.whole none)) (line_follows c times line w k.low).next;
     }
 
 -- ---- an act of the near end

@@ -4,6 +4,7 @@ use Rattle.std.proofs.Common.{None}
 use Rattle.std.proofs.Common.{refl, sym, ap, ◌∙◌, arith}
 use Rattle.std.proofs.lemmas.{Bool.{leb-false, leb-true, true≢false}, Option.{none-some}}
 use Rattle.x25_circuit.specs.declared.awaits.{Awaits.{Awaits}, Awaits.TheVariants.{Nothing, Acceptance, ResetConfirmation, ClearConfirmation}}
+use Rattle.x25_circuit.specs.declared.awaits.Awaits.TheVariants.{InterruptConfirmation}
 use Rattle.x25_clock.specs.Clock.{Deadlines, Seen, after_due, asked_for, channels_from, deadline, due_of, first_of, heeded, is_past, next_of, nothing_awaited}
 use Rattle.x25_clock.specs.Clock.{number_of, overdue_of}
 use Rattle.x25_clock.specs.Clock.{renewed, renewed_on, running, sooner, t1_after, time_of, unless_on, wait_after}
@@ -156,6 +157,7 @@ module _ (times : Times) (now : ℕ) where
       by Acceptance same x = none-some (due.Clear w.channel) (sym x)
       by ResetConfirmation same x = none-some (due.Clear w.channel) (sym x)
       by ClearConfirmation same x = none-some (due.Restart w.channel) (sym x)
+      by InterruptConfirmation same x = none-some (due.Reset w.channel) (sym x)
 
   ahead : (o : Option ℕ) → is_past now o ≡ false → IsNotPast now o
   ahead None is = tt

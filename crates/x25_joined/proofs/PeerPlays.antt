@@ -18,18 +18,18 @@ use Rattle.x25_peer.specs.laws.BesideSessions.{BesideSessions, Own, links, met_b
 use Rattle.x25_pipe.specs.Pipe.{asked_act}
 unfoldable use Rattle.x25_pipe.specs.Pipe.{event_in}
 unfoldable use Rattle.x25_pipe.specs.Timed.{time_said, timed, timed_turn}
-use Rattle.x25_pipe.specs.Timed.{Timed, insist_turn, told_due}
+use Rattle.x25_pipe.specs.Timed.{Timed, insist_turn, moment_of, told_due}
 use Rattle.x25_script.specs.laws.ReadingLaw.{ReadsWhatIsSpelled}
 use Rattle.x25_station.specs.{Config.{Settings, config_refusal, link_settings, settings_from}, Entry.{StationEntry}, Station.{Station}}
 use Rattle.x25_station.specs.declared.config.Cfg.{Cfg}
 use Rattle.x25_station.specs.declared.error.StationError.TheVariants as error
 use Rattle.x25_station.specs.laws.TimerLaw.{StationEvent, Asks, Comes, Fires}
-use Rattle.x25_joined.proofs.PlayedFollows.{AreLow, AreLowPlays, AreQuiet, IsLowPlay, IsQuiet, Linked, RestQuiet, line_follows, line_quiet, new_low, next_by}
+use Rattle.x25_joined.proofs.PlayedFollows.{AreLowPlays, AreQuiet, IsLowPlay, IsQuiet, Linked, RestQuiet, StayLow, line_follows, line_quiet, new_low, next_by}
 use Rattle.x25_joined.proofs.PlayedLines.{first_plays, first_stands, more_is, next_more, written_is}
 use Rattle.x25_joined.proofs.PlayedReads.{quiet_ups, reads_one, timed_entries-append, timed_frames-append, told_entries, told_frames}
 use Rattle.x25_joined.proofs.PlayedReads.{words_ask, words_open}
 use Rattle.x25_joined.specs.laws.Played.{Answers, Insists, Marks, Passes, Play, Played, TimedSaying, answer_plays, asked_by, due_plays, due_words}
-use Rattle.x25_joined.specs.laws.Played.{first_asked, first_due, line_plays, playing, timed_entries, timed_frames, timed_station, timed_written}
+use Rattle.x25_joined.specs.laws.Played.{first_asked, first_due, line_plays, pass_plays, playing, timed_entries, timed_frames, timed_station, timed_written}
 use Rattle.x25_joined.specs.laws.Played.{told}
 use Rattle.x25_joined.specs.laws.{TimedPeer.{HappensToTimed, Reads, Takes, Elsewhere, ReachedTimed, at_start, goes_on}, TimedPeerClaims.{OfTimedProgram}}
 use Rattle.x25_joined.specs.laws.TimedPeer as clocked
@@ -56,20 +56,24 @@ plays_open (p ∷ ps) qs a b = (a.0, plays_open ps qs a.1 b)
 module _ (c : Settings) (times : Times) where
   due_open : (n : ℕ) (w : Timed) → AreOpen (due_plays c times n w)
   due_open zero w = tt
-  due_open (suc n) w = by (due_of w.now w.deadlines) (due_open n)
+  due_open (suc n) w = by (due_of (moment_of w.now) w.deadlines) (due_open n)
     where
       by : (o : Option Due) → ((u : Timed) → AreOpen (due_plays c times n u)) → AreOpen (first_due c times (due_plays c times n) w o)
       by None rest = tt
       by (Some due) rest = (tt, rest (insist_turn c times due (told_due times w)).next)
 
-  answer_open : (line : List ℕ) (w : Timed) (o : Option ℕ) → IsOpen line → AreOpen (answer_plays c times line w o)
-  answer_open line w None none = (none, tt)
-  answer_open line w (Some now) none = by (nat_lt now w.now)
+  pass_open : (now : ℕ) (w : Timed) (o : Option ℕ) → AreOpen (pass_plays c times now w o)
+  pass_open now w None = tt
+  pass_open now w (Some last) = by (nat_lt now last)
     where
       by : (b : Bool) → AreOpen
-          (let ps : List Played = if b then playing w Passes ∷ [] else due_plays c times (most_due w.deadlines) (record w { now = now }) in ps)
+          (let ps : List Played = if b then playing w Passes ∷ [] else due_plays c times (most_due w.deadlines) (record w { now = Some now }) in ps)
       by true = (tt, tt)
-      by false = due_open (most_due w.deadlines) (record w { now = now })
+      by false = due_open (most_due w.deadlines) (record w { now = Some now })
+
+  answer_open : (line : List ℕ) (w : Timed) (o : Option ℕ) → IsOpen line → AreOpen (answer_plays c times line w o)
+  answer_open line w None none = (none, tt)
+  answer_open line w (Some now) none = pass_open now w w.now
 
   pub line_open : (line : List ℕ) (w : Timed) → IsOpen line → AreOpen (line_plays c times line w)
   line_open line w none = plays_open (answer_plays c times line w (time_said line)) (playing (timed_turn c times line w).next Marks ∷ [])
@@ -210,7 +214,7 @@ record Shadow (c : Settings) (times : Times) (p : Program) : Type 0 where
   whole_text : AreWhole text
   station : station_of c text ≡ timed_station c times p.read
   entries : entries_in (written c text) ≡ timed_entries (timed_written c times p.read)
-  low : AreLow (timed c times p.read).next.deadlines.waits
+  low : StayLow c (timed c times p.read).next.deadlines.waits
 
 if_none : (b : Bool) → (let o : Option ℕ = if b then None else None in o) ≡ None
 if_none true = refl
@@ -264,7 +268,7 @@ module _ (c : Settings) (times : Times) (p : Program) (k : Shadow c times p) whe
         back = left;
         met = met;
       } in r)
-      → AreLow (timed_turn c times line w).next.deadlines.waits → Shadow c times (clocked.reads c times p (line ++ 10 ∷ []) left met)
+      → StayLow c (timed_turn c times line w).next.deadlines.waits → Shadow c times (clocked.reads c times p (line ++ 10 ∷ []) left met)
   more line none left met text whole station entries reached low =
       let said : List TimedSaying = flat_map (told c) (line_plays c times line w) in
       let all : entries_in (written c text) ≡ timed_entries (timed_written c times (p.read ++ (line ++ 10 ∷ []))) =
@@ -278,7 +282,7 @@ module _ (c : Settings) (times : Times) (p : Program) (k : Shadow c times p) whe
         whole_text = whole;
         station = station ∙ ap (λ (v : Timed). v.station) (sym (next_more c times p.read line k.whole none));
         entries = all;
-        low = subst (λ (v : Timed). AreLow v.deadlines.waits) (sym (next_more c times p.read line k.whole none)) low;
+        low = subst (λ (v : Timed). StayLow c v.deadlines.waits) (sym (next_more c times p.read line k.whole none)) low;
       }
 
   user_more : ReadsWhatIsSpelled → (line : List ℕ) → clocked.IsOfUser c times p line → Shadow c times (clocked.reads c times p (line ++ 10 ∷ []) p.back p.met)
@@ -365,7 +369,7 @@ module _ (spelled : ReadsWhatIsSpelled) (c : Settings) (times : Times) (few : c.
     station = ap (λ t. t.next) (first_said c) ∙ ap (λ (v : Timed). v.station) (sym (first_stands c times));
     entries = ap (λ t. entries_in t.sayings) (first_said c)
         ∙ ap (λ (l : List Played). timed_entries (flat_map (told c) l)) (sym (first_plays c times));
-    low = subst (λ (v : Timed). AreLow v.deadlines.waits) (sym (first_stands c times)) (new_low c few);
+    low = subst (λ (v : Timed). StayLow c v.deadlines.waits) (sym (first_stands c times)) (new_low c few);
   }
 
   step_shadow : (p r : Program) → Shadow c times p → HappensToTimed c times p r → Shadow c times r

@@ -4,19 +4,20 @@ use Rattle.std.proofs.Common.{None}
 use Rattle.std.proofs.Common.{refl, sym, subst, arith, ◌^◌, not}
 use Rattle.std.proofs.lemmas.Bool.{lt-leb, true≢false}
 use Rattle.x25_circuit.specs.declared.awaits.{Awaits.{Awaits}, Awaits.TheVariants.{Nothing, Acceptance, ResetConfirmation, ClearConfirmation}}
+use Rattle.x25_circuit.specs.declared.awaits.Awaits.TheVariants.{InterruptConfirmation}
 use Rattle.x25_clock.specs.Clock.{Deadlines, after_due, asked_for, channels_from, deadline, due_of, is_past, most_due, number_of, overdue_of}
-use Rattle.x25_clock.specs.Clock.{renewed, renewed_on, t1_after, time_of, unless_on, wait_after}
+use Rattle.x25_clock.specs.Clock.{nothing_awaited, renewed, renewed_on, seen_first, t1_after, time_of, unless_on, wait_after}
 use Rattle.x25_clock.specs.{Due.{asked_of, event_for, is_packet, lacks_room}, declared.due.Due.{Due}, declared.times.Times.{Times}, declared.wait.Wait.{Wait}}
 use Rattle.x25_clock.specs.declared.due.Due.TheVariants as due
 use Rattle.x25_pipe.specs.Pipe.{Act, asked_act, event_act, event_in, nothing_act}
 unfoldable use Rattle.x25_pipe.specs.Timed.{due_turns, timed_turn}
 use Rattle.x25_pipe.specs.Timed.{Timed, TimedTurn, act_turn, answer_turn, channel_for, due_first, insist_turn, new_timed, seen_at, time_said}
-use Rattle.x25_pipe.specs.Timed.{told_due}
+use Rattle.x25_pipe.specs.Timed.{begins, moment_of, pass_turn, told_due}
 use Rattle.x25_station.specs.{Config.{Settings}, Station.{Station}, laws.TimerLaw.{StationEvent, Comes, Fires}}
 use Rattle.x25_station.specs.laws.TimerLaw as timer
 use Rattle.x25_station.specs.declared.timer.{Timer.{Timer}, Timer.TheVariants.{Off, Begins, GoesOn}}
 use Rattle.x25_joined.specs.laws.Played.{Insists, Marks, Passes, Play, Played, answer_plays, asked_by, due_plays, first_due, line_plays}
-use Rattle.x25_joined.specs.laws.Played.{playing}
+use Rattle.x25_joined.specs.laws.Played.{pass_plays, playing}
 
 -- ---- stations
 
@@ -104,6 +105,7 @@ asked_low h Nothing low = tt
 asked_low h Acceptance low = low
 asked_low h ResetConfirmation low = low
 asked_low h ClearConfirmation low = low
+asked_low h InterruptConfirmation low = low
 
 overdue_low : (now : ℕ) (ws : List Wait) (other : Option Due) → AreLow ws → IsLow other → IsLow (unless_on (overdue_of now ws) other)
 overdue_low now [] other low h = h
@@ -209,24 +211,35 @@ quiet_append : (c : Settings) (ps qs : List Played) → AreQuiet c ps → AreQui
 quiet_append c [] qs a b = b
 quiet_append c (p ∷ ps) qs a b = (a.0, quiet_append c ps qs a.1 b)
 
+-- waits are on no higher channel than 4,095, and so are those that a clock begins with
+abbrev pub StayLow : Settings → List Wait → Type 0
+StayLow c ws = AreLow ws × (c.channels.count ≤ 4095)
+
 pub record Follows (c : Settings) (ps : List Played) (w v : Timed) : Type 0 where
   pub linked : Linked c ps w.station v.station
   pub low : AreLowPlays ps
-  pub next : AreLow v.deadlines.waits
+  pub next : StayLow c v.deadlines.waits
 
 module _ (c : Settings) (times : Times) where
-  acted_low : (w : Timed) (a : Act) → AreLow w.deadlines.waits → AreLow (act_turn c times w a).next.deadlines.waits
-  acted_low w a low = heeded_low times w.now (seen_at c a).awaited w.deadlines.waits low
+  acted_low : (w : Timed) (a : Act) → StayLow c w.deadlines.waits → StayLow c (act_turn c times w a).next.deadlines.waits
+  acted_low w a low = (heeded_low times (moment_of w.now) (seen_at c a).awaited w.deadlines.waits low.0, low.1)
 
-  insisted_low : (due : Due) (w : Timed) → AreLow w.deadlines.waits → AreLow (insist_turn c times due (told_due times w)).next.deadlines.waits
+  insisted_low : (due : Due) (w : Timed) → StayLow c w.deadlines.waits → StayLow c (insist_turn c times due (told_due times w)).next.deadlines.waits
   insisted_low due w low =
       let v : Timed = told_due times w in
-      acted_low v (event_act c v.station (event_for (asked_of c v.station due))) (due_low times w.now w.deadlines low)
+      acted_low v (event_act c v.station (event_for (asked_of c v.station due))) (due_low times (moment_of w.now) w.deadlines low.0, low.1)
 
-  first_follows : (n : ℕ) (w : Timed) (o : Option Due) → IsLow o → AreLow w.deadlines.waits
-      → ((u : Timed) → AreLow u.deadlines.waits → Follows c (due_plays c times n u) u (due_turns c times n u).next)
+  begun_low : (now : ℕ) (w : Timed) → c.channels.count ≤ 4095 → StayLow c (begins c times now w).deadlines.waits
+  begun_low now w few = (
+    heeded_low times now (seen_first c w.station).awaited (nothing_awaited c.channels.count).waits
+        (low_first c.channels.count 1 (omega (arith, few))),
+    few,
+  )
+
+  first_follows : (n : ℕ) (w : Timed) (o : Option Due) → IsLow o → StayLow c w.deadlines.waits
+      → ((u : Timed) → StayLow c u.deadlines.waits → Follows c (due_plays c times n u) u (due_turns c times n u).next)
       → Follows c (first_due c times (due_plays c times n) w o) w (due_first c times (due_turns c times n) w o).next
-  first_follows n w None fine low rest = record { linked = refl; low = tt; next = due_low times w.now w.deadlines low }
+  first_follows n w None fine low rest = record { linked = refl; low = tt; next = (due_low times (moment_of w.now) w.deadlines low.0, low.1) }
   first_follows n w (Some due) fine low rest =
       let u : Timed = (insist_turn c times due (told_due times w)).next in
       let f = rest u (insisted_low due w low) in
@@ -236,30 +249,35 @@ module _ (c : Settings) (times : Times) where
         next = f.next;
       }
 
-  due_follows : (n : ℕ) (w : Timed) → AreLow w.deadlines.waits → Follows c (due_plays c times n w) w (due_turns c times n w).next
+  due_follows : (n : ℕ) (w : Timed) → StayLow c w.deadlines.waits → Follows c (due_plays c times n w) w (due_turns c times n w).next
   unfolding due_turns
   due_follows zero w low = record { linked = refl; low = tt; next = low }
-  due_follows (suc n) w low = first_follows n w (due_of w.now w.deadlines) (found_low w.now w.deadlines low) low (due_follows n)
+  due_follows (suc n) w low = first_follows n w (due_of (moment_of w.now) w.deadlines) (found_low (moment_of w.now) w.deadlines low.0) low (due_follows n)
 
-  answer_follows : (line : List ℕ) (w : Timed) (o : Option ℕ) → AreLow w.deadlines.waits
+  pass_follows : (now : ℕ) (w : Timed) (o : Option ℕ) → StayLow c w.deadlines.waits
+      → Follows c (pass_plays c times now w o) w (pass_turn c times now w o).next
+  pass_follows now w None low = record { linked = refl; low = tt; next = begun_low now w low.1 }
+  pass_follows now w (Some last) low = by (nat_lt now last)
+    where
+      by : (b : Bool) → Follows c
+          (let ps : List Played = if b then playing w Passes ∷ [] else due_plays c times (most_due w.deadlines) (record w { now = Some now }) in ps)
+          w (let t : TimedTurn = if b then act_turn c times w (nothing_act w.station)
+          else due_turns c times (most_due w.deadlines) (record w { now = Some now }) in t.next)
+      by true = record { linked = (refl, refl); low = (tt, tt); next = acted_low w (nothing_act w.station) low }
+      by false =
+          let f = due_follows (most_due w.deadlines) (record w { now = Some now }) low in
+          record { linked = f.linked; low = f.low; next = f.next }
+
+  answer_follows : (line : List ℕ) (w : Timed) (o : Option ℕ) → StayLow c w.deadlines.waits
       → Follows c (answer_plays c times line w o) w (answer_turn c times line w o).next
   answer_follows line w None low = record {
     linked = (refl, refl);
     low = (tt, tt);
     next = acted_low w (asked_act c w.station (event_in c.wide c.role line)) low;
   }
-  answer_follows line w (Some now) low = by (nat_lt now w.now)
-    where
-      by : (b : Bool) → Follows c
-          (let ps : List Played = if b then playing w Passes ∷ [] else due_plays c times (most_due w.deadlines) (record w { now = now }) in ps)
-          w (let t : TimedTurn = if b then act_turn c times w (nothing_act w.station)
-          else due_turns c times (most_due w.deadlines) (record w { now = now }) in t.next)
-      by true = record { linked = (refl, refl); low = (tt, tt); next = acted_low w (nothing_act w.station) low }
-      by false =
-          let f = due_follows (most_due w.deadlines) (record w { now = now }) low in
-          record { linked = f.linked; low = f.low; next = f.next }
+  answer_follows line w (Some now) low = pass_follows now w w.now low
 
-  pub line_follows : (line : List ℕ) (w : Timed) → AreLow w.deadlines.waits → Follows c (line_plays c times line w) w (timed_turn c times line w).next
+  pub line_follows : (line : List ℕ) (w : Timed) → StayLow c w.deadlines.waits → Follows c (line_plays c times line w) w (timed_turn c times line w).next
   unfolding timed_turn
   line_follows line w low =
       let ps : List Played = answer_plays c times line w (time_said line) in
@@ -282,6 +300,7 @@ module _ (c : Settings) (times : Times) where
   not_quiet due.T1 other = other
   not_quiet due.Probe other = tt
   not_quiet due.Relink other = tt
+  not_quiet (due.Reset h) other = tt
   not_quiet (due.Clear h) other = tt
   not_quiet (due.Restart h) other = tt
 
@@ -290,6 +309,7 @@ module _ (c : Settings) (times : Times) where
   asked_not h Acceptance = tt
   asked_not h ResetConfirmation = tt
   asked_not h ClearConfirmation = tt
+  asked_not h InterruptConfirmation = tt
 
   unless_not : (o : Option Wait) (other : Option Due) → NotT1 other → NotT1 (unless_on o other)
   unless_not None other h = h
@@ -308,14 +328,14 @@ module _ (c : Settings) (times : Times) where
       (if_not (is_past now d.restart) (Some due.Relink) waits tt
       (unless_not (overdue_of now d.waits) idle (if_not (is_past now d.idle) (Some due.Probe) None tt tt)))
 
-  behind_quiet : (due : Due) (w : Timed) → (let u : Timed = (insist_turn c times due (told_due times w)).next in is_past u.now u.deadlines.t1 ≡ false)
+  behind_quiet : (due : Due) (w : Timed) → (let u : Timed = (insist_turn c times due (told_due times w)).next in is_past (moment_of u.now) u.deadlines.t1 ≡ false)
   behind_quiet due w =
       let v : Timed = told_due times w in
-      t1_quiet times w.now (event_act c v.station (event_for (asked_of c v.station due))).timer (after_due times w.now w.deadlines).t1
-      (told_quiet times w.now w.deadlines)
+      t1_quiet times (moment_of w.now) (event_act c v.station (event_for (asked_of c v.station due))).timer (after_due times (moment_of w.now) w.deadlines).t1
+      (told_quiet times (moment_of w.now) w.deadlines)
 
   first_quiet : (n : ℕ) (w : Timed) (o : Option Due) → NotT1 o
-      → ((u : Timed) → is_past u.now u.deadlines.t1 ≡ false → AreQuiet c (due_plays c times n u))
+      → ((u : Timed) → is_past (moment_of u.now) u.deadlines.t1 ≡ false → AreQuiet c (due_plays c times n u))
       → AreQuiet c (first_due c times (due_plays c times n) w o)
   first_quiet n w None fine rest = tt
   first_quiet n w (Some due) fine rest = (
@@ -323,14 +343,14 @@ module _ (c : Settings) (times : Times) where
     rest (insist_turn c times due (told_due times w)).next (behind_quiet due w),
   )
 
-  due_quiet : (n : ℕ) (w : Timed) → is_past w.now w.deadlines.t1 ≡ false → AreQuiet c (due_plays c times n w)
+  due_quiet : (n : ℕ) (w : Timed) → is_past (moment_of w.now) w.deadlines.t1 ≡ false → AreQuiet c (due_plays c times n w)
   due_quiet zero w is = tt
-  due_quiet (suc n) w is = first_quiet n w (due_of w.now w.deadlines) (found_not w.now w.deadlines is) (due_quiet n)
+  due_quiet (suc n) w is = first_quiet n w (due_of (moment_of w.now) w.deadlines) (found_not (moment_of w.now) w.deadlines is) (due_quiet n)
 
   -- with the mark behind them
   marked_quiet : (n : ℕ) (w v : Timed) → RestQuiet c (due_plays c times n w ++ playing v Marks ∷ [])
   marked_quiet zero w v = tt
-  marked_quiet (suc n) w v = by (due_of w.now w.deadlines)
+  marked_quiet (suc n) w v = by (due_of (moment_of w.now) w.deadlines)
     where
       by : (o : Option Due) → RestQuiet c (first_due c times (due_plays c times n) w o ++ playing v Marks ∷ [])
       by None = tt
@@ -338,19 +358,23 @@ module _ (c : Settings) (times : Times) where
           let u : Timed = (insist_turn c times due (told_due times w)).next in
           quiet_append c (due_plays c times n u) (playing v Marks ∷ []) (due_quiet n u (behind_quiet due w)) (tt, tt)
 
-  answer_quiet : (line : List ℕ) (w v : Timed) (o : Option ℕ) → RestQuiet c (answer_plays c times line w o ++ playing v Marks ∷ [])
-  answer_quiet line w v None = (tt, tt)
-  answer_quiet line w v (Some now) = by (nat_lt now w.now)
+  pass_quiet : (now : ℕ) (w v : Timed) (o : Option ℕ) → RestQuiet c (pass_plays c times now w o ++ playing v Marks ∷ [])
+  pass_quiet now w v None = tt
+  pass_quiet now w v (Some last) = by (nat_lt now last)
     where
       by : (b : Bool)
-          → RestQuiet c ((let ps : List Played = if b then playing w Passes ∷ [] else due_plays c times (most_due w.deadlines) (record w { now = now }) in ps)
+          → RestQuiet c ((let ps : List Played = if b then playing w Passes ∷ [] else due_plays c times (most_due w.deadlines) (record w { now = Some now }) in ps)
           ++ playing v Marks ∷ [])
       by true = (tt, tt)
-      by false = marked_quiet (most_due w.deadlines) (record w { now = now }) v
+      by false = marked_quiet (most_due w.deadlines) (record w { now = Some now }) v
+
+  answer_quiet : (line : List ℕ) (w v : Timed) (o : Option ℕ) → RestQuiet c (answer_plays c times line w o ++ playing v Marks ∷ [])
+  answer_quiet line w v None = (tt, tt)
+  answer_quiet line w v (Some now) = pass_quiet now w v w.now
 
   pub line_quiet : (line : List ℕ) (w : Timed) → RestQuiet c (line_plays c times line w)
   line_quiet line w = answer_quiet line w (timed_turn c times line w).next (time_said line)
 
 -- nothing is awaited at first
-pub new_low : (c : Settings) → c.channels.count ≤ 4095 → AreLow (new_timed c).deadlines.waits
-new_low c few = low_first c.channels.count 1 (omega (arith, few))
+pub new_low : (c : Settings) → c.channels.count ≤ 4095 → StayLow c (new_timed c).deadlines.waits
+new_low c few = (low_first c.channels.count 1 (omega (arith, few)), few)

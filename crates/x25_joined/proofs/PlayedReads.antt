@@ -23,7 +23,7 @@ use Rattle.x25_pipe.specs.Timed.{Timed, channel_for}
 use Rattle.x25_script.specs.Reading.{nothing_given}
 use Rattle.x25_script.specs.Reading.Spelling.{Spells}
 unfoldable use Rattle.x25_script.specs.Reading.{line_in}
-use Rattle.x25_script.specs.ScriptLine.{PlainLine, clear, command, probe, relink, restart, t1, taken}
+use Rattle.x25_script.specs.ScriptLine.{PlainLine, clear, command, probe, relink, reset, restart, t1, taken}
 use Rattle.x25_script.specs.laws.ReadingLaw.{ReadsWhatIsSpelled}
 use Rattle.x25_station.specs.{Command.{Requests}, Config.{Settings}, Entry.{StationEntry}, Station.{Station}}
 use Rattle.x25_station.specs.{Step.{Did, Outcome, Refused, Step, commands, fires}}
@@ -126,6 +126,10 @@ words_open Dte due.Relink low = opens (due_words Dte due.Relink) refl
 words_open Dce due.Relink low = opens (due_words Dce due.Relink) refl
 words_open Dte (due.Restart h) low = opens (due_words Dte (due.Restart h)) refl
 words_open Dce (due.Restart h) low = opens (due_words Dce (due.Restart h)) refl
+words_open Dte (due.Reset h) low = open_append (codes "dte reset ") (decimal h ++ []) (opens (codes "dte reset ") refl)
+    (open_append (decimal h) [] (decimal_open h low) tt)
+words_open Dce (due.Reset h) low = open_append (codes "dce reset ") (decimal h ++ []) (opens (codes "dce reset ") refl)
+    (open_append (decimal h) [] (decimal_open h low) tt)
 words_open Dte (due.Clear h) low = open_append (codes "dte clear ") (decimal h ++ []) (opens (codes "dte clear ") refl)
     (open_append (decimal h) [] (decimal_open h low) tt)
 words_open Dce (due.Clear h) low = open_append (codes "dce clear ") (decimal h ++ []) (opens (codes "dce clear ") refl)
@@ -135,6 +139,7 @@ abbrev line_for : Role → Due → PlainLine
 line_for end due.T1 = t1 end
 line_for end due.Probe = command end probe
 line_for end due.Relink = command end relink
+line_for end (due.Reset h) = command end (reset h nothing_given)
 line_for end (due.Clear h) = command end (clear h nothing_given)
 line_for end (due.Restart h) = command end (restart nothing_given)
 
@@ -142,6 +147,7 @@ spelled : (end : Role) (due : Due) → channel_for due ≤ 4095 → Spells (line
 spelled end due.T1 low = refl
 spelled end due.Probe low = (codes "probe", refl, refl)
 spelled end due.Relink low = (codes "relink", refl, refl)
+spelled end (due.Reset h) low = (codes "reset " ++ (decimal h ++ []), refl, (omega (arith, low), (tt, tt), refl))
 spelled end (due.Clear h) low = (codes "clear " ++ (decimal h ++ []), refl, (omega (arith, low), (tt, tt), refl))
 spelled end (due.Restart h) low = (codes "restart" ++ [], refl, ((tt, tt), refl))
 
@@ -158,6 +164,14 @@ words_short Dte due.Relink low = omega arith
 words_short Dce due.Relink low = omega arith
 words_short Dte (due.Restart h) low = omega arith
 words_short Dce (due.Restart h) low = omega arith
+words_short Dte (due.Reset h) low =
+    let few = length-decimal-le 5 h (omega arith) (omega (arith, low)) (omega (arith, low)) in
+    let own_length = length_append (decimal h) [] in
+    omega (arith, few, own_length)
+words_short Dce (due.Reset h) low =
+    let few = length-decimal-le 5 h (omega arith) (omega (arith, low)) (omega (arith, low)) in
+    let own_length = length_append (decimal h) [] in
+    omega (arith, few, own_length)
 words_short Dte (due.Clear h) low =
     let few = length-decimal-le 5 h (omega arith) (omega (arith, low)) (omega (arith, low)) in
     let own_length = length_append (decimal h) [] in
@@ -175,6 +189,8 @@ read_so wide Dte due.Probe is = ap (λ (r : Option PlainLine). option_and_then (
 read_so wide Dce due.Probe is = ap (λ (r : Option PlainLine). option_and_then (script_event Dce) (taken wide r)) is
 read_so wide Dte due.Relink is = ap (λ (r : Option PlainLine). option_and_then (script_event Dte) (taken wide r)) is
 read_so wide Dce due.Relink is = ap (λ (r : Option PlainLine). option_and_then (script_event Dce) (taken wide r)) is
+read_so wide Dte (due.Reset h) is = ap (λ (r : Option PlainLine). option_and_then (script_event Dte) (taken wide r)) is
+read_so wide Dce (due.Reset h) is = ap (λ (r : Option PlainLine). option_and_then (script_event Dce) (taken wide r)) is
 read_so wide Dte (due.Clear h) is = ap (λ (r : Option PlainLine). option_and_then (script_event Dte) (taken wide r)) is
 read_so wide Dce (due.Clear h) is = ap (λ (r : Option PlainLine). option_and_then (script_event Dce) (taken wide r)) is
 read_so wide Dte (due.Restart h) is = ap (λ (r : Option PlainLine). option_and_then (script_event Dte) (taken wide r)) is

@@ -8,10 +8,10 @@ unfoldable use Rattle.x25_io.specs.Lines.{lines_of}
 use Rattle.x25_pipe.specs.Pipe.{Act, Saying, event_act, event_in, asked_act, nothing_act, saying_line, sayings_text}
 unfoldable use Rattle.x25_pipe.specs.Timed.{due_turns, timed_turn, timed_turns, timed}
 use Rattle.x25_pipe.specs.Timed.{Timed, TimedTurn, act_turn, answer_turn, awaited_for, due_first, insist_turn, mark_turn, new_timed, time_said}
-use Rattle.x25_pipe.specs.Timed.{timeout_line, told_due}
+use Rattle.x25_pipe.specs.Timed.{moment_of, pass_turn, timeout_line, told_due}
 use Rattle.x25_station.specs.{Config.{Settings}}
 use Rattle.x25_joined.specs.laws.Played.{Answers, Insists, Marks, Passes, Played, answer_plays, due_plays, first_due, line_plays, lines_plays, playing}
-use Rattle.x25_joined.specs.laws.Played.{says, timed_line, told}
+use Rattle.x25_joined.specs.laws.Played.{pass_plays, says, timed_line, told}
 use Rattle.x25_joined.specs.laws.PlayedClaims.{SaidIsWritten}
 
 abbrev text_of : Settings → List Played → List ℕ
@@ -44,20 +44,24 @@ module _ (c : Settings) (times : Times) where
   due_text : (n : ℕ) (w : Timed) → text_of c (due_plays c times n w) ≡ (due_turns c times n w).text
   unfolding due_turns
   due_text zero w = refl
-  due_text (suc n) w = first_text n w (due_of w.now w.deadlines) (due_text n)
+  due_text (suc n) w = first_text n w (due_of (moment_of w.now) w.deadlines) (due_text n)
+
+  pass_text : (now : ℕ) (w : Timed) (o : Option ℕ) → text_of c (pass_plays c times now w o) ≡ (pass_turn c times now w o).text
+  pass_text now w None = refl
+  pass_text now w (Some last) = by (nat_lt now last)
+    where
+      by : (b : Bool) → text_of c
+          (let ps : List Played = if b then playing w Passes ∷ [] else due_plays c times (most_due w.deadlines) (record w { now = Some now }) in ps)
+          ≡ (let t : TimedTurn = if b then act_turn c times w (nothing_act w.station)
+          else due_turns c times (most_due w.deadlines) (record w { now = Some now }) in t.text)
+      by true = text_cons (playing w Passes) [] ∙ append-nil _ ∙ says_text c.role (nothing_act w.station).sayings
+      by false = due_text (most_due w.deadlines) (record w { now = Some now })
 
   answer_text : (line : List ℕ) (w : Timed) (o : Option ℕ) → text_of c (answer_plays c times line w o) ≡ (answer_turn c times line w o).text
   answer_text line w None =
       text_cons (playing w (Answers line)) [] ∙ append-nil _
       ∙ says_text c.role (asked_act c w.station (event_in c.wide c.role line)).sayings
-  answer_text line w (Some now) = by (nat_lt now w.now)
-    where
-      by : (b : Bool) → text_of c
-          (let ps : List Played = if b then playing w Passes ∷ [] else due_plays c times (most_due w.deadlines) (record w { now = now }) in ps)
-          ≡ (let t : TimedTurn = if b then act_turn c times w (nothing_act w.station)
-          else due_turns c times (most_due w.deadlines) (record w { now = now }) in t.text)
-      by true = text_cons (playing w Passes) [] ∙ append-nil _ ∙ says_text c.role (nothing_act w.station).sayings
-      by false = due_text (most_due w.deadlines) (record w { now = now })
+  answer_text line w (Some now) = pass_text now w w.now
 
   line_text : (line : List ℕ) (w : Timed) → text_of c (line_plays c times line w) ≡ (timed_turn c times line w).text
   unfolding timed_turn

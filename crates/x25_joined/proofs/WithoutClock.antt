@@ -14,7 +14,7 @@ unfoldable use Rattle.x25_pipe.specs.Timed.{timed_turn, timed_turns}
 use Rattle.x25_script.specs.laws.ReadingLaw.{ReadsWhatIsSpelled}
 use Rattle.x25_station.specs.{Config.{Settings}, Entry.{StationEntry}, Station.{Station}}
 use Rattle.x25_joined.proofs.PeerPlays.{AreOpen, IsOpenPlay, line_open, plays_open}
-use Rattle.x25_joined.proofs.PlayedFollows.{AreLow, AreLowPlays, Follows, IsLowPlay, Linked, line_follows, linked_append, low_append, new_low, next_by}
+use Rattle.x25_joined.proofs.PlayedFollows.{AreLowPlays, Follows, IsLowPlay, Linked, StayLow, line_follows, linked_append, low_append, new_low, next_by}
 use Rattle.x25_joined.proofs.PlayedLines.{stands_is}
 use Rattle.x25_joined.proofs.PlayedReads.{reads_one, timed_entries-append, timed_frames-append, told_entries, told_frames, words_ask, words_open}
 use Rattle.x25_joined.specs.laws.Played.{Answers, Insists, Marks, Passes, Play, Played, TimedSaying, as_text, asked_by, due_words, line_plays, lines_for}
@@ -110,7 +110,7 @@ lines_open (o ∷ text) = by (o == 10) refl (lines_open text)
     by false is rest = onto_open o (lines_of text) is rest
 
 module _ (c : Settings) (times : Times) where
-  lines_follow : (lines : List (List ℕ)) (w : Timed) → AreLow w.deadlines.waits → Follows c (lines_plays c times lines w) w (timed_turns c times lines w).next
+  lines_follow : (lines : List (List ℕ)) (w : Timed) → StayLow c w.deadlines.waits → Follows c (lines_plays c times lines w) w (timed_turns c times lines w).next
   unfolding timed_turns
   lines_follow [] w low = record { linked = refl; low = tt; next = low }
   lines_follow (line ∷ lines) w low =

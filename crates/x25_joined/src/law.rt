@@ -154,14 +154,16 @@ pub fn timed_programs_meet_in_sessions()
     programs_meet_in_sessions();
 }
 
-/// A program with a clock obeys it, where no line says a time after the next moment that the mark before it has: what
-/// is due is asked at its moment, as the deeds of one who obeys his clock are (`clock`). So who asks something of it is
+/// A program with a clock obeys it from the first time that is said, where no line says a time after the next moment
+/// that the mark before it has: what is due is asked at its moment, as the deeds of one who obeys his clock are
+/// (`clock`). So who asks something of it is
 /// answered within a bound, whatever the other end does: while a channel awaits an answer, or a restart is under way,
 /// it writes the answer, LinkUp or LinkDown within the time that `answers_are_told` has (`answers`). Where nothing
 /// comes of a link that is up but noise, or UA is awaited, it writes LinkUp or LinkDown within the time that
 /// `silence_is_told` has (`silence`).
 ///
-/// Premises: k is at most 7; of `answers`, T20 to T23 aren't for ever; of `silence`, T1 and T3 aren't.
+/// Premises: k is at most 7, and a time was said; of `answers`, T20 to T23 aren't for ever; of `silence`, T1 and T3
+/// aren't.
 pub fn timed_programs_obey_their_clock()
     ensures clock { ClockIsObeyed }
     ensures answers { AnswerIsWritten }
@@ -174,9 +176,9 @@ pub fn timed_programs_obey_their_clock()
     clock_is_obeyed();
 }
 
-/// Worked rows: a program asks that the link be set up, SABM is lost, and it goes again as T1 is due by its clock,
-/// beside a peer; the same of two programs, up to the RESTARTs of both; and that T1 has to wait while SABM is on the
-/// line.
+/// Worked rows: a time is said, a program asks that the link be set up, SABM is lost, and it goes again as T1 is due by
+/// its clock, beside a peer; the same of two programs, up to the RESTARTs of both; and that T1 has to wait while SABM
+/// is on the line.
 pub fn timed_programs_move()
     ensures peer { SabmGoesAgain }
     ensures two { LinkIsSetUpTimed }

@@ -1,7 +1,7 @@
 -- The busy channels.
 use Rattle.x25_layer.proofs.Names.{◌≡◌, inl, inr, ℕ, zero, suc, ◌+◌, ◌-◌, ◌<◌, ◌≤◌, List, length, Bool, true, false, not, ◌&&◌, ◌==◌, if◌then◌else◌, get_or}
 use Rattle.x25_layer.proofs.Names.{refl, sym, ap, subst, ◌∙◌, arith, eqb-true, CircuitSettings, Circuit, waits, FitsCircuit, LayerSettings, Layer, is_channel}
-use Rattle.x25_layer.proofs.Names.{cases_lt, bit_not, trailing_zeros, awaited_in, is_any, Nothing, FitsCircuits, FitsLayer, awaited_at, waits_up_to}
+use Rattle.x25_layer.proofs.Names.{cases_lt, bit_not, trailing_zeros, awaited_by, is_any, Nothing, FitsCircuits, FitsLayer, awaited_at, waits_up_to}
 use Rattle.std.proofs.lemmas.{Bool.{cases_eq, false_from_ne_true, true_from_ne_false}, Grind.{get_or_default_zero}}
 use Rattle.std.proofs.lemmas.{List.{get_or-set_same, get_or-set_other, get_or_past}, Nat.{pow_below, and_le_l, and_le_r, shr-shr}}
 use Rattle.std.proofs.lemmas.Nat.Bits.{bit_at-zero, bit_at-suc, bit_at-lt, bit_at_or, bit_at_and, bit_at_not, bit_at-pow_same, bit_at-pow_other}
@@ -22,8 +22,8 @@ pub idle_is : (v : circuit_code.Circuit) (b : Bool) → ((c : CircuitSettings) (
     → (b ≡ true → waits_of v ≡ 0) → b ≡ true → IsIdle v
 idle_is v b value none is = record {
   none = none is;
-  waits = λ c x fits. (nothing (waits x) (is_any (awaited_in x.state)) (sym (value c x fits) ∙ is)).1;
-  awaits = λ c x fits. (nothing (waits x) (is_any (awaited_in x.state)) (sym (value c x fits) ∙ is)).0;
+  waits = λ c x fits. (nothing (waits x) (is_any (awaited_by x)) (sym (value c x fits) ∙ is)).1;
+  awaits = λ c x fits. (nothing (waits x) (is_any (awaited_by x)) (sym (value c x fits) ∙ is)).0;
 }
 
 pub not_busy : (b : Bool) → not b ≡ false → b ≡ true
@@ -296,7 +296,7 @@ past up one next (suc m) n none =
 
 module _ (c : LayerSettings) (vs : List circuit_code.Circuit) (words : List ℕ) (f : ℕ → Circuit) (fits : FitsCircuits c vs f)
     (still : IdleBeside words vs) where
-  idle_on : (k : ℕ) → 1 ≤ k → k ≤ length vs → IsOutside words k → (waits (f k) ≡ 0) × (is_any (awaited_in (f k).state) ≡ false)
+  idle_on : (k : ℕ) → 1 ≤ k → k ≤ length vs → IsOutside words k → (waits (f k) ≡ 0) × (is_any (awaited_by (f k)) ≡ false)
   idle_on zero low high out = absurd (omega (arith, low))
   idle_on (suc k) low high out =
       let found = there vs k (let e : k < length vs = omega (arith, high) in e) in
@@ -316,7 +316,7 @@ module _ (c : LayerSettings) (vs : List circuit_code.Circuit) (words : List ℕ)
     pub awaited_past : awaited_up_to f i ≡ awaited_up_to f n
     awaited_past =
         ap (λ (k : ℕ). awaited_up_to f k) behind_is
-        ∙ past (λ k. awaited_up_to f k) (λ k. if is_any (awaited_in (f k).state) then 1 else 0) (λ k. refl) (i - n) n
+        ∙ past (λ k. awaited_up_to f k) (λ k. if is_any (awaited_by (f k)) then 1 else 0) (λ k. refl) (i - n) n
         (λ k more less. ap (λ (b : Bool). if b then 1 else 0)
         (idle_on k (omega (arith, more)) (omega (arith, less, up, high)) (out k more (omega (arith, less, up)))).1)
 
@@ -328,11 +328,11 @@ none_awaited c v l fits k out = by (is_channel c.channels k) refl
     not_any Nothing is = refl
     not_any a is = absurd (cc)
 
-    by : (b : Bool) → is_channel c.channels k ≡ b → (if b then awaited_in (l.circuits k).state else Nothing) ≡ Nothing
+    by : (b : Bool) → is_channel c.channels k ≡ b → (if b then awaited_by (l.circuits k) else Nothing) ≡ Nothing
     by false is = refl
     by true is =
         let within = configured c.channels.count k is in
         let channels = fits.channels in
-        not_any (awaited_in (l.circuits k).state)
+        not_any (awaited_by (l.circuits k))
         (idle_on c v.circuits.items v.busy.words.items l.circuits fits.circuits v.still k within.0
         (let high = within.1 in omega (arith, high, channels)) out).1

@@ -2,7 +2,7 @@
 use Rattle.x25_layer.proofs.Names.{◌≡◌, ◌⊎◌, inl, inr, ℕ, zero, suc, ◌+◌, ◌-◌, ◌<◌, ◌≤◌, List, [], ◌∷◌, ◌++◌, length, Option, Some, None, Bool, true, false}
 use Rattle.x25_layer.proofs.Names.{slice_get, set, if◌then◌else◌, refl, sym, ap, subst, ◌∙◌, arith, Result, Ok, Err, get_or, not, ◌&&◌, ◌||◌, ◌==◌, eq-eqb}
 use Rattle.x25_layer.proofs.Names.{none-some, same_Some, eqb-true, Circuit, is_open, waits, FitsCircuit, is_number, LayerSettings, Layer, is_channel, Name, ◌^◌}
-use Rattle.x25_layer.proofs.Names.{take, IfSome, MatchOption, drop, slice_get_within, slice_get-get_or, awaited_in, is_any, clears_of, resets_of, Nothing}
+use Rattle.x25_layer.proofs.Names.{take, IfSome, MatchOption, drop, slice_get_within, slice_get-get_or, awaited_by, is_any, clears_of, resets_of, Nothing}
 use Rattle.std.proofs.{Common.{IfNone, Bor, OnErr}, lemmas.List.{append-nil, take_all}}
 use Rattle.x25_layer.proofs.{Names.{name_of, FitsCircuits, FitsLayer, awaited_at, awaited_up_to, waits_up_to, is_most, full_up_to}, SettleLemmas.{not_same}}
 use Rattle.x25_layer.specs.code.{Counts.{HasCountsLeft, HaveCountsLeft}, FitsLayer.{name_at, params_at, is_open_at}}
@@ -94,10 +94,10 @@ opened c v l h b fits is =
     sym (ap (λ (a : Bool). if a then is_open (l.circuits h) else false) same)
 
 pub awaited : (c : LayerSettings) (v : code.Layer) (l : Layer) (h : ℕ) (b : Bool) → FitsLayer c v l → is_number (length v.circuits.items) h ≡ b
-    → (if b then awaited_in (l.circuits h).state else Nothing) ≡ awaited_at c l h
+    → (if b then awaited_by (l.circuits h) else Nothing) ≡ awaited_at c l h
 awaited c v l h b fits is =
     let same : is_channel c.channels h ≡ b = subst (λ (n : ℕ). is_number n h ≡ b) fits.channels is in
-    sym (ap (λ (a : Bool). if a then awaited_in (l.circuits h).state else Nothing) same)
+    sym (ap (λ (a : Bool). if a then awaited_by (l.circuits h) else Nothing) same)
 
 -- The circuits below a place have changed, and the others are as they were.
 pub record ChangedBelow (c : LayerSettings) (n : ℕ) (vs : List circuit_code.Circuit) (f g : ℕ → Circuit) : Type 0 where
@@ -140,7 +140,7 @@ waits_more c f n count more e₁ e₂ =
     ap (λ (a : ℕ). a + more) e₁ ∙ ap (λ (a : ℕ). waits_up_to f n + a) e₂ ∙ step
 
 -- on how many channels an answer is awaited, with one more
-pub awaited_more : (f : ℕ → Circuit) (n count more : ℕ) → count ≡ awaited_up_to f n → more ≡ (if is_any (awaited_in (f (suc n)).state) then 1 else 0) → count
+pub awaited_more : (f : ℕ → Circuit) (n count more : ℕ) → count ≡ awaited_up_to f n → more ≡ (if is_any (awaited_by (f (suc n))) then 1 else 0) → count
     + more ≡ awaited_up_to f (n + 1)
 awaited_more f n count more e₁ e₂ =
     let step : awaited_up_to f (suc n) ≡ awaited_up_to f (n + 1) = ap (λ (m : ℕ). awaited_up_to f m) (let e : suc n ≡ n + 1 = omega arith in e) in

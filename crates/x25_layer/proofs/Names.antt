@@ -6,11 +6,11 @@ pub use Rattle.std.proofs.Common.{◌∷◌, ◌++◌, ◌+◌, ◌<◌, inr, �
 pub use Rattle.std.proofs.lemmas.{Bool.{eqb-true, and_parts, cases_lt, leb-true}, Option.{none-some, same_Some, slice_get-get_or, slice_get_within}}
 pub use Rattle.std.specs.Int.{bit_not, trailing_zeros}
 pub use Rattle.x25_bits.specs.declared.role.{Role.{Role}, Role.TheVariants.{Dce, Dte}}
-pub use Rattle.x25_circuit.specs.Awaits.{is_any, awaited_in}
+pub use Rattle.x25_circuit.specs.Awaits.{is_any}
 pub use Rattle.x25_circuit.specs.Calling.{outcome, pulled, Calls, Outcome, Pulled, Refused, Accepts, Request, Done, Sends, Clears, Interrupts, Resets, may_call}
 pub use Rattle.x25_circuit.specs.Calling.{pull_in, pull_open, request_of, SaysNotReady, SaysReady, call_sent, does, pulls_nothing, data_packet}
 pub use Rattle.x25_circuit.specs.Cause.{may_restart_for, is_of_end, may_clear_for, may_reset_for}
-pub use Rattle.x25_circuit.specs.Circuit.{Circuit, CircuitSettings, forgotten, Talk, is_open, waits, is_free, is_free_in, outgoing, begun, silent}
+pub use Rattle.x25_circuit.specs.Circuit.{Circuit, CircuitSettings, forgotten, Talk, is_open, waits, is_free, is_free_in, outgoing, begun, silent, awaited_by}
 pub use Rattle.x25_circuit.specs.Hearing.{answers, Answer, clears_for, collides, confirms, goes, hears_status, request_in, takes, unless}
 pub use Rattle.x25_circuit.specs.Message.{Message, Piece, wholes, completed, joining, no_part, piece_of, carried}
 pub use Rattle.x25_circuit.specs.Notice.{CallRequest, PlainNotice, connected, deliveries}

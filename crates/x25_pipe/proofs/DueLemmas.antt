@@ -4,9 +4,10 @@ use Rattle.x25_pipe.proofs.Names.{None, refl, sym, ap, subst, ◌∙◌, arith, 
 use Rattle.x25_pipe.proofs.Names.{Act, asked_act, event_act, event_in, nothing_act, Timed, TimedTurn, new_timed, insist_turn, told_due, due_first}
 use Rattle.std.proofs.{Common.{◌^◌, not}, lemmas.Bool.{true≢false, eq-eqb, ltb-true}, lemmas.Option.{none-some, same_Some}}
 use Rattle.x25_circuit.specs.declared.awaits.{Awaits.{Awaits}, Awaits.TheVariants.{Nothing, Acceptance, ResetConfirmation, ClearConfirmation}}
+use Rattle.x25_circuit.specs.declared.awaits.Awaits.TheVariants.{InterruptConfirmation}
 use Rattle.x25_clock.specs.Clock.{most_due, nothing_awaited, channels_from, deadline, is_past, number_of, time_of, t1_after, running, wait_after, overdue_of}
-use Rattle.x25_clock.specs.{Clock.{asked_for, due_on, unless_on, renewed, renewed_on}, declared.wait.Wait.{Wait}}
-use Rattle.x25_pipe.{proofs.Names.{due_turns, answer_turn, time_said, timed_turn, timed_turns}, specs.Timed.{seen_at, act_turn}}
+use Rattle.x25_clock.specs.{Clock.{asked_for, begun as begun_at, due_on, seen_first, unless_on, renewed, renewed_on}, declared.wait.Wait.{Wait}}
+use Rattle.x25_pipe.{proofs.Names.{Station, due_turns, answer_turn, moment_of, time_said, timed_turn, timed_turns}, specs.Timed.{seen_at, act_turn, pass_turn}}
 use Rattle.x25_pipe.specs.laws.ClockedLaw.{NothingIsDue}
 use Rattle.x25_station.specs.declared.timer.{Timer.{Timer}, Timer.TheVariants.{Off, Begins, GoesOn}}
 use Rattle.x25_clock.specs.declared.due.Due.TheVariants as due
@@ -245,6 +246,7 @@ module _ (times : Times) (now : ℕ) where
       at Acceptance is none_asked late = none-some (due.Clear w.channel) (sym none_asked)
       at ResetConfirmation is none_asked late = none-some (due.Clear w.channel) (sym none_asked)
       at ClearConfirmation is none_asked late = none-some (due.Restart w.channel) (sym none_asked)
+      at InterruptConfirmation is none_asked late = none-some (due.Reset w.channel) (sym none_asked)
 
       by : (b : Bool) → is_past now w.until ≡ b → (if b then Some w else overdue_of now ws) ≡ Some x → (overdue_of now ws ≡ Some x → ⊥) → ⊥
       by true late same rest = at w.awaits refl (ap due_on (same_Some w x same) ∙ none) late
@@ -288,46 +290,77 @@ module _ (times : Times) (now : ℕ) where
       let waits = most d.waits in
       omega (arith, t1, idle, restart, waits)
 
+-- ---- of a clock that begins
+
+first_clock : (channels : ℕ) → IsClock (nothing_awaited channels)
+first_clock channels = all channels 1
+  where
+    all : (n first : ℕ) → Unawaited (channels_from first n)
+    all zero first = tt
+    all (suc n) first = ((λ is. refl), all n (first + 1))
+
+none_first : (now channels : ℕ) → count now (nothing_awaited channels) ≡ 0
+none_first now channels = let none = all channels 1 in omega (arith, none)
+  where
+    all : (n first : ℕ) → all_past now (channels_from first n) ≡ 0
+    all zero first = refl
+    all (suc n) first = let rest = all n (first + 1) in omega (arith, rest)
+
+-- as it begins nothing is due
+begun_none : (c : Settings) (times : Times) (now : ℕ) (s : Station) → due_of now (begun_at times now c.channels.count c s) ≡ None
+begun_none c times now s =
+    let channels : ℕ = c.channels.count in
+    let lower = heeded_lower times now (seen_first c s) (nothing_awaited channels) in
+    let none = none_first now channels in
+    none_due now (begun_at times now channels c s) (omega (arith, lower, none))
+
 -- ---- the turns of a line that says the time
 
 module _ (c : Settings) (times : Times) where
   act_clock : (w : Timed) (a : Act) → IsClock w.deadlines → IsClock (act_turn c times w a).next.deadlines
-  act_clock w a h = clock_heeds times w.now (seen_at c a) w.deadlines h
+  act_clock w a h = clock_heeds times (moment_of w.now) (seen_at c a) w.deadlines h
 
   insist_clock : (what : Due) (w : Timed) → IsClock w.deadlines → IsClock (insist_turn c times what w).next.deadlines
   insist_clock what w h = act_clock w (event_act c w.station (event_for (asked_of c w.station what))) h
 
-  all_asked : (n : ℕ) (w : Timed) → IsClock w.deadlines → count w.now w.deadlines ≤ n
-      → (let v : Timed = (due_turns c times n w).next in (due_of w.now v.deadlines ≡ None) × IsClock v.deadlines)
+  all_asked : (n : ℕ) (w : Timed) → IsClock w.deadlines → count (moment_of w.now) w.deadlines ≤ n
+      → (let v : Timed = (due_turns c times n w).next in (due_of (moment_of w.now) v.deadlines ≡ None) × IsClock v.deadlines)
   unfolding due_turns
-  all_asked zero w h low = (none_due w.now w.deadlines (omega (arith, low)), h)
-  all_asked (suc n) w h low = by (due_of w.now w.deadlines) refl (all_asked n)
+  all_asked zero w h low = (none_due (moment_of w.now) w.deadlines (omega (arith, low)), h)
+  all_asked (suc n) w h low = by (due_of now w.deadlines) refl (all_asked n)
     where
+      now : ℕ
+      now = moment_of w.now
+
       v : Timed
       v = told_due times w
 
-      by : (o : Option Due) → due_of w.now w.deadlines ≡ o
-          → ((x : Timed) → IsClock x.deadlines → count x.now x.deadlines ≤ n
-          → (let y : Timed = (due_turns c times n x).next in (due_of x.now y.deadlines ≡ None) × IsClock y.deadlines))
-          → (let u : Timed = (due_first c times (due_turns c times n) w o).next in (due_of w.now u.deadlines ≡ None) × IsClock u.deadlines)
-      by None is rest = (told_none times w.now w.deadlines h is, clock_tells times w.now w.deadlines h)
+      by : (o : Option Due) → due_of now w.deadlines ≡ o
+          → ((x : Timed) → IsClock x.deadlines → count (moment_of x.now) x.deadlines ≤ n
+          → (let y : Timed = (due_turns c times n x).next in (due_of (moment_of x.now) y.deadlines ≡ None) × IsClock y.deadlines))
+          → (let u : Timed = (due_first c times (due_turns c times n) w o).next in (due_of now u.deadlines ≡ None) × IsClock u.deadlines)
+      by None is rest = (told_none times now w.deadlines h is, clock_tells times now w.deadlines h)
       by (Some what) is rest =
           let u : Timed = (insist_turn c times what v).next in
-          let less = due_less times w.now w.deadlines what is in
-          let lower = heeded_lower times w.now (seen_at c (event_act c v.station (event_for (asked_of c v.station what)))) v.deadlines in
-          rest u (insist_clock what v (clock_tells times w.now w.deadlines h)) (omega (arith, low, less, lower))
+          let less = due_less times now w.deadlines what is in
+          let lower = heeded_lower times now (seen_at c (event_act c v.station (event_for (asked_of c v.station what)))) v.deadlines in
+          rest u (insist_clock what v (clock_tells times now w.deadlines h)) (omega (arith, low, less, lower))
 
-  answer_clock : (line : List ℕ) (w : Timed) (o : Option ℕ) → IsClock w.deadlines → IsClock (answer_turn c times line w o).next.deadlines
-  answer_clock line w None h = act_clock w (asked_act c w.station (event_in c.wide c.role line)) h
-  answer_clock line w (Some now) h = by (nat_lt now w.now)
+  pass_clock : (now : ℕ) (w : Timed) (o : Option ℕ) → IsClock w.deadlines → IsClock (pass_turn c times now w o).next.deadlines
+  pass_clock now w None h = clock_heeds times now (seen_first c w.station) (nothing_awaited c.channels.count) (first_clock c.channels.count)
+  pass_clock now w (Some last) h = by (nat_lt now last)
     where
       at_now : Timed
-      at_now = record w { now = now }
+      at_now = record w { now = Some now }
 
       by : (b : Bool) → IsClock (let t : TimedTurn = if b then act_turn c times w (nothing_act w.station)
           else due_turns c times (most_due w.deadlines) at_now in t.next.deadlines)
       by true = act_clock w (nothing_act w.station) h
       by false = (all_asked (most_due w.deadlines) at_now h (few_past times now w.deadlines)).1
+
+  answer_clock : (line : List ℕ) (w : Timed) (o : Option ℕ) → IsClock w.deadlines → IsClock (answer_turn c times line w o).next.deadlines
+  answer_clock line w None h = act_clock w (asked_act c w.station (event_in c.wide c.role line)) h
+  answer_clock line w (Some now) h = pass_clock now w w.now h
 
   line_clock : (line : List ℕ) (w : Timed) → IsClock w.deadlines → IsClock (timed_turn c times line w).next.deadlines
   unfolding timed_turn
@@ -338,13 +371,6 @@ module _ (c : Settings) (times : Times) where
   lines_clock [] w h = h
   lines_clock (line ∷ lines) w h = lines_clock lines (timed_turn c times line w).next (line_clock line w h)
 
-first_clock : (channels : ℕ) → IsClock (nothing_awaited channels)
-first_clock channels = all channels 1
-  where
-    all : (n first : ℕ) → Unawaited (channels_from first n)
-    all zero first = tt
-    all (suc n) first = ((λ is. refl), all n (first + 1))
-
 pub nothing_is_due : NothingIsDue
 unfolding timed_turn
 nothing_is_due c times lines line now said later = by (time_said line) said
@@ -353,18 +379,22 @@ nothing_is_due c times lines line now said later = by (time_said line) said
     w = (timed_turns c times lines (new_timed c)).next
 
     at_now : Timed
-    at_now = record w { now = now }
+    at_now = record w { now = Some now }
 
     sound : IsClock w.deadlines
     sound = lines_clock c times lines (new_timed c) (first_clock c.channels.count)
 
-    at_time : (b : Bool) → nat_lt now w.now ≡ b
+    at_time : (last : ℕ) (b : Bool) → nat_lt now last ≡ b → last ≤ now
         → due_of now (let t : TimedTurn = if b then act_turn c times w (nothing_act w.station) else due_turns c times (most_due w.deadlines) at_now in
         t.next.deadlines) ≡ None
-    at_time true is = absurd (omega (arith, ltb-true now w.now is, later))
-    at_time false is = (all_asked c times (most_due w.deadlines) at_now sound (few_past times now w.deadlines)).0
+    at_time last true is low = absurd (omega (arith, ltb-true now last is, low))
+    at_time last false is low = (all_asked c times (most_due w.deadlines) at_now sound (few_past times now w.deadlines)).0
+
+    passed : (o : Option ℕ) → moment_of o ≤ now → due_of now (pass_turn c times now w o).next.deadlines ≡ None
+    passed None low = begun_none c times now w.station
+    passed (Some last) low = at_time last (nat_lt now last) refl low
 
     by : (o : Option ℕ) → o ≡ Some now → due_of now (answer_turn c times line w o).next.deadlines ≡ None
     by None is = absurd (none-some now is)
     by (Some n) is = subst (λ (m : ℕ). due_of now (answer_turn c times line w (Some m)).next.deadlines ≡ None) (sym (same_Some n now is))
-        (at_time (nat_lt now w.now) refl)
+        (passed w.now later)

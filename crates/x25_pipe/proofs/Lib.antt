@@ -10,4 +10,5 @@ pub mod MomentLemmas
 pub mod TimedLemmas
 pub mod ClockedLemmas
 pub mod DueLemmas
+pub mod BegunLemmas
 pub mod WatchedLemmas

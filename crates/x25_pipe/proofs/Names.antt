@@ -11,6 +11,6 @@ pub use Rattle.x25_layer.specs.Calls.{PullsAll}
 pub use Rattle.x25_pipe.specs.Pipe.{has_refusal, sayings_text, Act, Turn, act_of, and_then, asked_act, nothing_act, pulled_behind}
 pub use Rattle.x25_pipe.specs.declared.pipe.Pipe.{Pipe}
 unfoldable pub use Rattle.x25_pipe.specs.{Pipe.{event_in, event_act, saying_line, turn, turns}, Timed.{time_said, due_turns, timed_turn, timed_turns}}
-pub use Rattle.x25_pipe.specs.{Timed.{Timed, TimedTurn, answer_turn, due_first, insist_turn, new_timed, told_due}, code.Stands.{Stands}}
+pub use Rattle.x25_pipe.specs.{Timed.{Timed, TimedTurn, answer_turn, due_first, insist_turn, moment_of, new_timed, told_due}, code.Stands.{Stands}}
 pub use Rattle.x25_station.specs.{Config.{Settings, layer_settings}, Entry.{StationEntry}, Station.{Station}, Step.{Did, Outcome, Refused}}
 pub use Rattle.x25_station.specs.{code.FitsStation.{FitsStation}, laws.TimerLaw.{StationEvent}}

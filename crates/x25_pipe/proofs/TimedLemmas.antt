@@ -7,8 +7,8 @@ use Rattle.x25_clock.specs.Clock.{nothing_awaited, plain}
 use Rattle.x25_io.proofs.{TakerLemmas.{between}, ToldLemmas.{told_prefix}}
 use Rattle.x25_io.specs.{HeldLine.{HoldsLine}, code.LinesLead.{LinesLead}}
 use Rattle.x25_io.specs.declared.{fault.Fault.{Fault}, held_line.HeldLine.{HeldLine}}
-use Rattle.x25_pipe.proofs.{Names.{timed_turn, timed_turns, told_due}, PipeLemmas.{stands_first}}
-use Rattle.x25_pipe.specs.{Timed.{and_then, mark_turn, timed, timed_text, writes}, code.TimedStands.{StandsTimed, StandsTimedAt, StoodTimed}}
+use Rattle.x25_pipe.proofs.{Names.{moment_of, timed_turn, timed_turns, told_due}, PipeLemmas.{stands_first}}
+use Rattle.x25_pipe.specs.{Timed.{and_then, begins, mark_turn, pass_turn, timed, timed_text, writes}, code.TimedStands.{StandsTimed, StandsTimedAt, StoodTimed}}
 use Rattle.x25_pipe.specs.{code.TimedStream.{AnswersTimed, LeavesTimed, WritesTimed}, declared.timed.TimedPipe.{TimedPipe}}
 use Rattle.x25_station.specs.Station.{new_station}
 
@@ -95,16 +95,16 @@ module _ (c : Settings) (times : Times) (old now next : Option (List ℕ)) (p u 
 pub due_alike : (now now' : ℕ) (d d' : Deadlines) (o : Option Due) → o ≡ due_of now d → now ≡ now' → d ≡ d' → due_of now' d' ≡ o
 due_alike now now' d d' o is a b = sym (is ∙ ap (λ n. due_of n d) a ∙ ap (due_of now') b)
 
-pub told_alike : (times times' : Times) (now : ℕ) (d d' : Deadlines) (w : Timed) → d' ≡ after_due times' now d → times' ≡ times → now ≡ w.now → d ≡ w.deadlines
+pub told_alike : (times times' : Times) (now : ℕ) (d d' : Deadlines) (w : Timed) → d' ≡ after_due times' now d → times' ≡ times → now ≡ moment_of w.now → d ≡ w.deadlines
     → d' ≡ (told_due times w).deadlines
-told_alike times times' now d d' w is a b e = is ∙ ap (λ (t : Times). after_due t now d) a ∙ ap (λ n. after_due times n d) b ∙ ap (after_due times w.now) e
+told_alike times times' now d d' w is a b e = is ∙ ap (λ (t : Times). after_due t now d) a ∙ ap (λ n. after_due times n d) b ∙ ap (after_due times (moment_of w.now)) e
 
 module _ (c : Settings) (times : Times) (n : ℕ) (w : Timed) where
-  nothing_due : due_of w.now w.deadlines ≡ None → due_turns c times (suc n) w ≡ writes (told_due times w) []
+  nothing_due : due_of (moment_of w.now) w.deadlines ≡ None → due_turns c times (suc n) w ≡ writes (told_due times w) []
   unfolding due_turns
   nothing_due is = ap (due_first c times (due_turns c times n) w) is
 
-  something_due : (due : Due) → due_of w.now w.deadlines ≡ Some due → due_turns c times (suc n) w
+  something_due : (due : Due) → due_of (moment_of w.now) w.deadlines ≡ Some due → due_turns c times (suc n) w
       ≡ and_then (due_turns c times n) (insist_turn c times due (told_due times w))
   unfolding due_turns
   something_due due is = ap (due_first c times (due_turns c times n) w) is
@@ -116,14 +116,21 @@ none_more c times w = refl
 pub no_turn_left : (c : Settings) (times : Times) (n : ℕ) (w : Timed) → n ≡ 0 → due_turns c times n w ≡ writes w []
 no_turn_left c times n w is = ap (λ n. due_turns c times n w) is ∙ none_more c times w
 
-pub nothing_is_due : (c : Settings) (times : Times) (n : ℕ) (w : Timed) → 0 < n → due_of w.now w.deadlines ≡ None → due_turns c times n w
+pub nothing_is_due : (c : Settings) (times : Times) (n : ℕ) (w : Timed) → 0 < n → due_of (moment_of w.now) w.deadlines ≡ None → due_turns c times n w
     ≡ writes (told_due times w) []
 nothing_is_due c times zero w some is = absurd (omega (arith, some))
 nothing_is_due c times (suc n) w some is = nothing_due c times n w is
 
-pub something_is_due : (c : Settings) (times : Times) (n m : ℕ) (w : Timed) (due : Due) → n ≡ suc m → due_of w.now w.deadlines ≡ Some due
+pub something_is_due : (c : Settings) (times : Times) (n m : ℕ) (w : Timed) (due : Due) → n ≡ suc m → due_of (moment_of w.now) w.deadlines ≡ Some due
     → due_turns c times n w ≡ and_then (due_turns c times m) (insist_turn c times due (told_due times w))
 something_is_due c times n m w due more is = ap (λ n. due_turns c times n w) more ∙ something_due c times m w due is
+
+-- the first time that is said tells nothing
+pub first_passed : (c : Settings) (times : Times) (old now : Option (List ℕ)) (u : TimedPipe) (told : List ℕ) (refused : Bool) (at : ℕ) (w : Timed)
+    → StandsTimed c times old now u (begins c times at w) told refused → StandsTimedAt c times old now u told refused (pass_turn c times at w None)
+first_passed c times old now u told refused at w h =
+    subst (λ (text : List ℕ). StandsTimed c times old now u (begins c times at w) text (refused || false)) (sym (append-nil told))
+    (subst (StandsTimed c times old now u (begins c times at w) told) (sym (or-false refused)) h)
 
 -- as much is left as is due at most
 pub all_left : (c : Settings) (times : Times) (old now : Option (List ℕ)) (p : TimedPipe) (w : Timed) (told : List ℕ) (refused : Bool) (n m : ℕ) → n ≡ m
@@ -183,10 +190,11 @@ whole_told c times old now p whole l empty =
 
 pub stands_first_timed : (c : Settings) (times : Times) (written : Option (List ℕ)) (p : TimedPipe) → FitsStation c p.pipe.station new_station → p.pipe.end
     ≡ c.role → p.pipe.output ≡ []
-    → p.pipe.is_refused ≡ false → plain p.clock ≡ nothing_awaited c.channels.count → p.clock.times ≡ times → p.now ≡ 0
+    → p.pipe.is_refused ≡ false → plain p.clock ≡ nothing_awaited c.channels.count → p.clock.times ≡ times
+    → p.clock.channels ≡ c.channels.count → p.now ≡ None
     → StandsTimed c times written written p (new_timed c) [] false
-stands_first_timed c times written p fits role empty status clock is_times now =
-    record { pipe = stands_first c written p.pipe fits role empty status; deadlines = clock; timers = is_times; time = now }
+stands_first_timed c times written p fits role empty status clock is_times channels now =
+    record { pipe = stands_first c written p.pipe fits role empty status; deadlines = clock; timers = is_times; channels = channels; time = now }
 
 module _ (c : Settings) (times : Times) (old now : Option (List ℕ)) (p : TimedPipe) (input : List ℕ) where
   -- the first mark failed

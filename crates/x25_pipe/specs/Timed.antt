@@ -1,6 +1,6 @@
 -- What one station behind a pipe does that has a clock (profile). Each line is answered as without one, and behind it
--- the clock heeds what became of the station. A line `@ MS` says the time, and what is due then is asked for, one after
--- another. A mark says when something is due next.
+-- the clock heeds what became of the station. A line `@ MS` says the time: with the first one all begins that is
+-- awaited, and at each later one what is due is asked for, one after another. A mark says when something is due next.
 use Rattle.std.specs.Prelude.{ℕ, zero, suc, ◌^◌, ◌==◌, nat_le, nat_lt, Bool, false, ◌&&◌, ◌||◌, List, [], ◌∷◌}
 use Rattle.std.specs.Prelude.{◌++◌, length, if◌then◌else◌, Option, Some, None, codes, decimal}
 use Rattle.std.specs.Str.{bytes_eq}
@@ -12,7 +12,7 @@ use Rattle.x25_circuit.specs.declared.awaits.Awaits.TheVariants.{ResetConfirmati
 use Rattle.x25_clock.specs.declared.due.Due.{Due}
 use Rattle.x25_clock.specs.declared.due.Due.TheVariants as due
 use Rattle.x25_clock.specs.declared.times.Times.{Times}
-use Rattle.x25_clock.specs.Clock.{Deadlines, Seen, after_due, due_of, heeded, most_due, next_of}
+use Rattle.x25_clock.specs.Clock.{Deadlines, Seen, after_due, begun, due_of, heeded, most_due, next_of}
 use Rattle.x25_clock.specs.Clock.{nothing_awaited}
 use Rattle.x25_clock.specs.Due.{asked_of, event_for}
 use Rattle.x25_io.specs.HeldLine.{most_line}
@@ -26,14 +26,19 @@ use Rattle.x25_transcript.specs.EntryText.{channel_text, end_text}
 use Rattle.x25_pipe.specs.Pipe.{Act, asked_act, event_act, event_in, has_refusal, nothing_act, sayings_text}
 use Rattle.x25_pipe.specs.Pipe.{work_text}
 
--- the station, its deadlines, and the time that was said last
+-- the station, its deadlines, and the time that was said last, where one was
 pub record Timed : Type 0 where
   pub station : Station
   pub deadlines : Deadlines
-  pub now : ℕ
+  pub now : Option ℕ
 
 abbrev pub new_timed : Settings → Timed
-new_timed c = record { station = new_station; deadlines = nothing_awaited c.channels.count; now = 0 }
+new_timed c = record { station = new_station; deadlines = nothing_awaited c.channels.count; now = None }
+
+-- the moment at which something happens: 0 before a time is said
+abbrev pub moment_of : Option ℕ → ℕ
+moment_of None = 0
+moment_of (Some last) = last
 
 -- what follows, what is written, and whether something was refused
 pub record TimedTurn : Type 0 where
@@ -66,7 +71,7 @@ seen_at c a = record {
 abbrev pub heeds : Settings → Times → Timed → Act → Timed
 heeds c times w a = record {
   station = a.next;
-  deadlines = heeded times w.now (seen_at c a) w.deadlines;
+  deadlines = heeded times (moment_of w.now) (seen_at c a) w.deadlines;
   now = w.now;
 }
 
@@ -83,6 +88,7 @@ act_turn c times w a = record {
 abbrev pub timer_text : Role → Awaits → Due → List ℕ
 timer_text end awaits due.T1 = codes "T1"
 timer_text end awaits due.Probe = codes "T3"
+timer_text end awaits (due.Reset h) = codes "T26"
 timer_text Dte awaits due.Relink = codes "T20"
 timer_text Dce awaits due.Relink = codes "T10"
 timer_text Dte ResetConfirmation (due.Clear h) = codes "T22"
@@ -96,6 +102,7 @@ abbrev pub channel_in : Due → List ℕ
 channel_in due.T1 = []
 channel_in due.Probe = []
 channel_in due.Relink = []
+channel_in (due.Reset h) = channel_text h
 channel_in (due.Clear h) = channel_text h
 channel_in (due.Restart h) = channel_text h
 
@@ -104,6 +111,7 @@ abbrev pub channel_for : Due → ℕ
 channel_for due.T1 = 0
 channel_for due.Probe = 0
 channel_for due.Relink = 0
+channel_for (due.Reset h) = h
 channel_for (due.Clear h) = h
 channel_for (due.Restart h) = h
 
@@ -121,7 +129,7 @@ insist_turn c times due w =
     (writes w (timeout_line c.role (awaited_for c w.station due) due))
 
 abbrev pub told_due : Times → Timed → Timed
-told_due times w = record w { deadlines = after_due times w.now w.deadlines }
+told_due times w = record w { deadlines = after_due times (moment_of w.now) w.deadlines }
 
 abbrev pub due_first : Settings → Times → (Timed → TimedTurn) → Timed → Option Due → TimedTurn
 due_first c times rest w None = writes (told_due times w) []
@@ -130,7 +138,7 @@ due_first c times rest w (Some due) = and_then rest (insist_turn c times due (to
 -- what is due, at most so much
 unfoldable pub due_turns : Settings → Times → ℕ → Timed → TimedTurn
 due_turns c times zero w = writes w []
-due_turns c times (suc n) w = due_first c times (due_turns c times n) w (due_of w.now w.deadlines)
+due_turns c times (suc n) w = due_first c times (due_turns c times n) w (due_of (moment_of w.now) w.deadlines)
 
 -- ---- a line
 
@@ -148,12 +156,24 @@ time_in (mark ∷ space ∷ figures) = if mark == 64 && space == 32 then moment_
 unfoldable pub time_said : List ℕ → Option ℕ
 time_said line = if nat_le (length line) most_line then time_in line else None
 
+-- the first time that is said: what is awaited is awaited from then on
+abbrev pub begins : Settings → Times → ℕ → Timed → Timed
+begins c times now w = record {
+  station = w.station;
+  deadlines = begun times now c.channels.count c w.station;
+  now = Some now;
+}
+
 -- a time before the one that was said last asks for nothing
+abbrev pub pass_turn : Settings → Times → ℕ → Timed → Option ℕ → TimedTurn
+pass_turn c times now w None = writes (begins c times now w) []
+pass_turn c times now w (Some last) =
+    if nat_lt now last then act_turn c times w (nothing_act w.station)
+    else due_turns c times (most_due w.deadlines) (record w { now = Some now })
+
 abbrev pub answer_turn : Settings → Times → List ℕ → Timed → Option ℕ → TimedTurn
 answer_turn c times line w None = act_turn c times w (asked_act c w.station (event_in c.wide c.role line))
-answer_turn c times line w (Some now) =
-    if nat_lt now w.now then act_turn c times w (nothing_act w.station)
-    else due_turns c times (most_due w.deadlines) (record w { now = now })
+answer_turn c times line w (Some now) = pass_turn c times now w w.now
 
 -- ---- its mark: the next moment at which something is due
 

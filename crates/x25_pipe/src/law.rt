@@ -16,9 +16,9 @@ pub fn answers_as_worked()
 /// What `timed_station` does with its clock is what one does who obeys it, of whom the laws of `x25_clock` speak. An
 /// event that a line asks for happens at the time that was said last, and the pull behind it too, where it is accepted;
 /// and so does what is told as due, which is asked. k is at most 7, and the link is settled, as from a new station on.
-/// Behind a line that says the time nothing is due: at one moment each channel is at most once, beside T1, an idle link
-/// and a restart, and each is asked once. So what
-/// any lines lead to is what some moments do, of which `awaited_deadlines_are_true` speaks.
+/// Behind a line that says the time, be it the first one, nothing is due: at one moment each channel is at most once,
+/// beside T1, an idle link and a restart, and each is asked once. So what any lines lead to is what some moments do, of
+/// which `awaited_deadlines_are_true` speaks: what came before the first time is as if it came at that time.
 pub fn clock_is_obeyed()
     ensures event { EventIsDone }
     ensures due { DueIsDone }

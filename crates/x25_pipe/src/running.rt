@@ -44,11 +44,12 @@ pub fn station<R: Source, W: Sink>(
     take_text(lines, piece, reader, writer)
 }
 
-/// As `station`, with a clock: a line `@ MS` says the time in milliseconds, which is 0 before it is said. At it all
-/// that is due is asked for: T1 fires, or a command is asked as if by the user, behind a line `END timeout` and the
-/// timer's name, with the channel where it is of one. The time is that until it is said again; a line with an earlier
-/// one, or with a number of 2^64 or more, becomes `? 60`. A mark has the next moment at which something is due in the
-/// place of what T1 does, `-` for none. Profile.
+/// As `station`, with a clock: a line `@ MS` says the time in milliseconds. With the first one all begins that is
+/// awaited then. At each later one all that is due is asked for: T1 fires, or a command is asked as if by the user,
+/// behind a line `END timeout` and the timer's name, with the channel where it is of one. The time is that until it is
+/// said again; a line with an earlier one, or with a number of 2^64 or more, becomes `? 60`. A mark has the next moment
+/// at which something is due in the place of what T1 does, `-` for none; before the first time it is counted from 0.
+/// Profile.
 pub fn timed_station<R: Source, W: Sink>(
     alloc: Global,
     end: Role,

@@ -128,6 +128,7 @@ fn timer_name(end: Role, awaits: Awaits, due: Due) -> &'static [u8]
     match (end, due, awaits) {
         (_, Due::T1, _) => b"T1",
         (_, Due::Probe, _) => b"T3",
+        (_, Due::Reset { .. }, _) => b"T26",
         (Role::Dte, Due::Relink, _) => b"T20",
         (Role::Dce, Due::Relink, _) => b"T10",
         (Role::Dte, Due::Clear { .. }, Awaits::ResetConfirmation) => b"T22",
@@ -145,7 +146,7 @@ pub(crate) fn channel_of(due: Due) -> u16
 {
     match due {
         Due::T1 | Due::Probe | Due::Relink => 0,
-        Due::Clear { channel } | Due::Restart { channel } => channel,
+        Due::Reset { channel } | Due::Clear { channel } | Due::Restart { channel } => channel,
     }
 }
 
@@ -163,10 +164,9 @@ fn push_channel(due: Due, text: &mut Text) -> Result<(), AllocError>
 {
     match due {
         Due::T1 | Due::Probe | Due::Relink => Ok(()),
-        Due::Clear { channel } | Due::Restart { channel } => text.try_push_number(
-            b" ch=",
-            u64::from(channel),
-        ),
+        Due::Reset { channel } | Due::Clear { channel } | Due::Restart { channel } => {
+            text.try_push_number(b" ch=", u64::from(channel))
+        }
     }
 }
 

@@ -1,7 +1,7 @@
 //! A station that has a clock, and what is told of both.
 ghost use Rattle.std.specs.Prelude.{◌≡◌, ◌≤◌, ◌<◌, ◌↔◌, ℕ, List, IsTrue, MatchOption, decimal, length};
 ghost use Rattle.x25_io.specs.HeldLine.{most_line};
-ghost use Rattle.x25_pipe.specs.Timed.{moment_in, time_in, time_said};
+ghost use Rattle.x25_pipe.specs.Timed.{moment_in, moment_of, time_in, time_said};
 
 use crate::pipe::Pipe;
 use crate::telling::{channel_of, tell_next, tell_timeout};
@@ -12,12 +12,19 @@ use x25_clock::{Clock, Due, Times};
 use x25_io::{Fault, Sink};
 use x25_station::{Cfg, Role};
 
-/// A station behind a pipe, its clock, and the time that was said last.
+/// A station behind a pipe, its clock, and the time that was said last, none before.
 #[derive(Drop)]
 pub(crate) struct TimedPipe {
     pub(crate) pipe: Pipe,
     clock: Clock,
-    now: u64,
+    now: Option<u64>,
+}
+
+/// The moment at which something happens: 0 before a time is said.
+fn moment_at(time: Option<u64>) -> u64
+    ensures { result ≡ moment_of time }
+{
+    time.unwrap_or(0)
 }
 
 /// Whether the text writes the number in decimal without leading zeros.
@@ -73,10 +80,10 @@ impl TimedPipe {
     ghost use Rattle.x25_station.specs.Station.{new_station};
     ghost use Rattle.x25_station.specs.code.FitsStation.{FitsStation};
     ghost use Rattle.x25_pipe.specs.Pipe.{Act, asked_act, event_in, nothing_act};
-    ghost use Rattle.x25_pipe.specs.Timed.{Timed, act_turn, answer_turn, due_turns, insist_turn, mark_turn};
+    ghost use Rattle.x25_pipe.specs.Timed.{Timed, act_turn, answer_turn, begins, due_turns, insist_turn, mark_turn};
     ghost use Rattle.x25_pipe.specs.Timed.{time_said};
     ghost use Rattle.x25_pipe.specs.code.Stands.{IsActed};
-    ghost use Rattle.x25_pipe.specs.code.TimedStands.{StandsTimedAt, TurnsTimed};
+    ghost use Rattle.x25_pipe.specs.code.TimedStands.{StandsTimed, StandsTimedAt, TurnsTimed};
 
     /// A station that never was up, a clock by which nothing is awaited, and nothing was told.
     pub(crate) fn new(alloc: Global, end: Role, cfg: Cfg, times: Times) -> Result<TimedPipe, Fault>
@@ -87,7 +94,8 @@ impl TimedPipe {
         ensures is_refused { IfOk result (λ p. p.pipe.is_refused ≡ false) }
         ensures clock { IfOk result (λ p. plain p.clock ≡ nothing_awaited cfg.channels.count) }
         ensures times { IfOk result (λ p. p.clock.times ≡ times) }
-        ensures now { IfOk result (λ p. p.now ≡ 0) }
+        ensures channels { IfOk result (λ p. p.clock.channels ≡ cfg.channels.count) }
+        ensures now { IfOk result (λ p. p.now ≡ None) }
         ensures memory { IfErr result (λ fault. fault ≡ Fault.NoMemory) }
     {
         let clock = Clock::new(alloc, times, cfg.channels.count)?;
@@ -95,7 +103,7 @@ impl TimedPipe {
         Ok(TimedPipe {
             pipe,
             clock,
-            now: 0,
+            now: None,
         })
     }
 
@@ -119,12 +127,13 @@ impl TimedPipe {
         ensures { (c : Settings) (times : Times) (old now : Option (List ℕ)) (w : Timed) (told : List ℕ)
             (refused : Bool) (a : Act)
             → IsActed c old now self.old.pipe told refused a → plain self.old.clock ≡ w.deadlines
-            → self.old.clock.times ≡ times → self.old.now ≡ w.now
+            → self.old.clock.times ≡ times → self.old.clock.channels ≡ c.channels.count → self.old.now ≡ w.now
             → StandsTimedAt c times old now self.new told refused (act_turn c times w a) }
     {
         let pipe = &self.pipe;
+        let now = moment_at(self.now);
         self.clock
-            .heed(self.now, &pipe.station, &pipe.step, pipe.has_come);
+            .heed(now, &pipe.station, &pipe.step, pipe.has_come);
     }
 
     /// A line asks for nothing.
@@ -175,7 +184,7 @@ impl TimedPipe {
     {
         let mut left = self.clock.most_due();
         while left > 0 {
-            let Some(due) = self.clock.due(self.now) else {
+            let Some(due) = self.clock.due(moment_at(self.now)) else {
                 return Ok(());
             };
             self.insist(due, writer)?;
@@ -184,18 +193,33 @@ impl TimedPipe {
         Ok(())
     }
 
-    /// A line says the time, at which what is due is asked for; one before the time that was said last asks for
-    /// nothing.
+    /// The clock begins, as the first time is said.
+    fn begin(&mut self, now: u64)
+        ensures { (c : Settings) (times : Times) (old written : Option (List ℕ)) (w : Timed) (told : List ℕ)
+            (refused : Bool)
+            → StandsTimed c times old written self.old w told refused
+            → StandsTimed c times old written self.new (begins c times now w) told refused }
+    {
+        self.clock.begin(now, &self.pipe.station);
+        self.now = Some(now);
+    }
+
+    /// A line says the time, at which what is due is asked for; the first time has the clock begin, and one before the
+    /// time that was said last asks for nothing.
     fn pass<W: Sink>(&mut self, now: u64, writer: &mut W) -> Result<(), Fault>
         ensures turns { (c : Settings) (times : Times) (old : Option (List ℕ)) (line : List ℕ)
             → TurnsTimed c times old (W.contents writer.old) (W.contents writer.new) self.old self.new result
             (λ w. answer_turn c times line w (Some now)) }
         ensures faults { MarksFaults W.Sink writer.old writer.new result }
     {
-        if now < self.now {
+        let Some(last) = self.now else {
+            self.begin(now);
+            return Ok(());
+        };
+        if now < last {
             return self.read_nothing(writer);
         }
-        self.now = now;
+        self.now = Some(now);
         self.ask_due(writer)
     }
 

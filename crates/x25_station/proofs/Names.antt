@@ -10,14 +10,14 @@ pub use Rattle.std.specs.{List.{list_all, sum_by, list_any}, Option.{unwrap_or},
 pub use Rattle.x25_bits.specs.{Bits.{bit}, declared.role.Role.{Role}, declared.role.Role.TheVariants.{Dce, Dte}}
 pub use Rattle.x25_circuit.specs.Calling.{Request, Calls, outcome, Accepts, Done, Sends, send_in, Clears, Interrupts, call_in, clear_in, pulled, Pulled}
 pub use Rattle.x25_circuit.specs.Calling.{accept_in, interrupt_in, pull_in, pull_open, Resets, SaysNotReady, SaysReady, data_packet, does, is_address_text}
-pub use Rattle.x25_circuit.specs.Circuit.{Circuit, CircuitSettings, Talk, is_open_in, is_open, outgoing, unconfirmed, incoming, talking}
+pub use Rattle.x25_circuit.specs.Circuit.{Circuit, CircuitSettings, Talk, is_open_in, is_open, outgoing, unconfirmed, incoming, talking, awaited_by}
 pub use Rattle.x25_circuit.specs.Hearing.{answers, Answer, row_accept, row_call, row_clear, undecoded, confirms, data_ground, hears_status, number_ground}
 pub use Rattle.x25_circuit.specs.Hearing.{request_in, row_clear_conf, row_data, row_reset, row_reset_conf, row_undecoded, takes}
 pub use Rattle.x25_circuit.specs.Message.{Piece, joining, no_part, piece_of, Last, Message, More, Partial, asked_in, cut, cut_from}
 pub use Rattle.x25_circuit.specs.Notice.{CallRequest, PlainNotice, connected, collided}
 pub use Rattle.x25_circuit.specs.declared.state.State.TheVariants.{Free, Open, Calling, Clearing, Collision, Resetting, Arriving}
 pub use Rattle.x25_circuit.specs.declared.{notice.Notice.{Notice}, params.Params.{Params}, state.State.{State}}
-pub use Rattle.x25_circuit.specs.{Awaits.{awaited_in}, Calling.{may_call, pulls_nothing, ready_in, reset_in}, Cause.{may_clear_for, may_restart_for}}
+pub use Rattle.x25_circuit.specs.{Awaits.{awaited_in}, Calling.{may_call, pulls_nothing, ready_in, reset_in}, Cause.{may_clear_for, may_reset_for, may_restart_for}}
 pub use Rattle.x25_circuit.specs.{Params.{Proposal, in_brief, default_params, may_answer, said_in, field_for}, Request.{plain_request}}
 pub use Rattle.x25_circuit.specs.{code.Replies.{plain_notice}, declared.awaits.Awaits.{Awaits}, declared.error.CircuitError.{CircuitError}}
 pub use Rattle.x25_frame.specs.{Frame.{PlainFrame, disc}, Reading.{frame_of}}

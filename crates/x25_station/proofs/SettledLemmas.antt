@@ -14,7 +14,7 @@ use Rattle.x25_link.specs.{Link.{is_idle, connects as link_connects}, Outgoing.{
 use Rattle.x25_link.specs.laws.RestLaw.{HasSaidAll, TakeSaysAll, PutSaysAll, TimerSaysAll, ConnectSaysAll, DisconnectSaysAll, AbandonSaysAll, NoTimerIsIdle}
 use Rattle.x25_link.specs.laws.WindowLaw.{IsSound, Follows, TakeFollows, PutFollows, TimerFollows, AbandonFollows, ending_of, brought_by, window_of}
 use Rattle.x25_link.specs.laws.WindowMachine.{Input, nothing}
-use Rattle.x25_station.proofs.{AwaitLemmas.{awaits_in, SameStates, rounds_same}, MayLemmas.{where_holds}, Names.{runs}}
+use Rattle.x25_station.proofs.{AwaitLemmas.{awaits_on, SameAwaited, rounds_same}, MayLemmas.{where_holds}, Names.{runs}}
 use Rattle.x25_station.{proofs.UnheardLemmas.{Lasts, ended_lasts, put_lasts, all_put_lasts}, specs.Station.Told.{is_at_rest}}
 use Rattle.x25_station.specs.laws.SettledLaw.{IsSettled, SettledBy, NewIsSettled, StaysSettled, SettledAsks, GoesOn, PullsGoOn}
 use Rattle.x25_layer.specs.declared.error.LayerError.TheVariants as layer_error
@@ -272,11 +272,11 @@ pulls_go_on c s h = by (is_up s.link.phase) s.layer.restarting refl
     by true false is =
         let begins : Putting = begin (is_ready s.layer.restarts s.layer.circuits) None in
         let n : Putting = rounds view (layer_settings c) begins in
-        let same : SameStates begins.layer n.layer = rounds_same view (layer_settings c) begins in
+        let same : SameAwaited begins.layer n.layer = rounds_same view (layer_settings c) begins in
         record {
           told = no_entry c s.layer full s.layer.restarting;
           restarting = same.0 ∙ sym is;
-          awaits = λ k. ap (awaits_in (is_channel c.channels k)) (same.1 k);
+          awaits = λ k. ap (awaits_on (is_channel c.channels k)) (same.1 k);
           acked = (all_put_lasts lc n.put (alone s.link)).acked;
           rests = rests n.put;
         }

@@ -1,8 +1,8 @@
 -- No step of a station makes an answer awaited anew, and the end of a wait is told; where none is given clear and
 -- restart lead on.
 use Rattle.x25_station.proofs.Names.{◌≡◌, ℕ, ◌<◌, ◌≤◌, ◌==◌, ◌⊎◌, inl, inr, List, [], ◌∷◌, ◌++◌, Bool, true, false, ◌||◌, if◌then◌else◌, Option, Some, None}
-use Rattle.x25_station.proofs.Names.{refl, sym, ap, subst, ◌∙◌, arith, or-true, true≢false, eqb-true, eq-eqb, list_any, awaited_in, Clears, clear_in, does}
-use Rattle.x25_station.proofs.Names.{CircuitSettings, Circuit, default_params, Awaits, State, Free, Calling, Collision, Resetting, Clearing, PlainGiven}
+use Rattle.x25_station.proofs.Names.{refl, sym, ap, subst, ◌∙◌, arith, or-true, true≢false, eqb-true, eq-eqb, list_any, awaited_by, Clears, clear_in, does}
+use Rattle.x25_station.proofs.Names.{CircuitSettings, Circuit, default_params, Awaits, State, Resetting, Clearing, PlainGiven, Resets, reset_in, Request, Done, outcome, reset}
 use Rattle.x25_station.proofs.Names.{LayerRequest, Asks, Restarts, LayerOutcome, Accepted, Declined, outcome_on, outcome_in, layer_outcome, LayerSettings}
 use Rattle.x25_station.proofs.Names.{Layer, LayerAnswer, is_channel, is_ready, put_at, restarting_from, packet_on, LinkView, Putting, begin, rounds, went}
 use Rattle.x25_station.proofs.Names.{Refuses, LinkStep, probe_refusal, relink_refusal, relink_step, waits, Side, is_up, alone, take_step, timer_refusal}
@@ -15,12 +15,13 @@ use Rattle.x25_station.proofs.Names.{entries_beside, entries_behind, link_up, li
 use Rattle.x25_station.proofs.Names.{with_puts, layer_at, layer_answer, confirmed_by, entries_of_answer, follows, led_by, unless, abandons, entries_heard}
 use Rattle.x25_station.proofs.Names.{entries_of_outcome, did, requests, with_given, gave, requests_of, where_asked, gives, tells_link, is_of_link}
 use Rattle.std.proofs.lemmas.List.Folds.{list_any-append}
-use Rattle.x25_circuit.specs.Circuit.{entered}
+use Rattle.x25_circuit.specs.{Circuit.{entered}, declared.awaits.Awaits.TheVariants.{Nothing, ResetConfirmation, ClearConfirmation}}
 use Rattle.x25_layer.specs.code.FitsLayer.{awaited_at}
-use Rattle.x25_station.proofs.AwaitLemmas.{Kind, in_call, in_collision, in_reset, in_clear, state_of, awaits_in, EndsOn, LayerMoves, OutcomeMoves, answer_moves}
-use Rattle.x25_station.proofs.{AwaitLemmas.{asked_moves, SameStates, rounds_same, moves_on}, KeepLemmas.{LinkLaws}, MayLemmas.{where_holds}}
+use Rattle.x25_station.proofs.AwaitLemmas.{Kind, in_call, in_collision, in_reset, in_clear, in_interrupt, state_of, awaits_of, IsKind, kind_of}
+use Rattle.x25_station.proofs.AwaitLemmas.{awaits_on, EndsOn, LayerMoves, OutcomeMoves, answer_moves}
+use Rattle.x25_station.proofs.{AwaitLemmas.{asked_moves, SameAwaited, rounds_same, moves_on}, KeepLemmas.{LinkLaws}, MayLemmas.{where_holds}}
 use Rattle.x25_station.proofs.{Names.{is_answered_on, is_left_on, rank_in, rank_of}, PutLemmas.{all_up}, UnheardLemmas.{all_given_last}}
-use Rattle.x25_station.specs.laws.{EndLaw.{IsTold, EndIsTold}, WayOutLaw.{rank, ClearLeadsOn, RestartLeadsOn, AwaitsStill, LeadsOn, NothingLeadsBack}}
+use Rattle.x25_station.specs.laws.{EndLaw.{IsTold, EndIsTold}, WayOutLaw.{rank, ResetLeadsOn, ClearLeadsOn, RestartLeadsOn, AwaitsStill, IsNearer, LeadsOn, NothingLeadsBack}}
 use Rattle.x25_layer.specs.declared.error.LayerError.TheVariants as layer_error
 use Rattle.x25_station.specs.laws.TimerLaw as timer
 
@@ -47,7 +48,7 @@ module _ (c : Settings) (s : Station) (h : ℕ) where
 
   -- what is awaited is what was, or fewer steps are left and the entries tell that
   abbrev Leads : Station → List StationEntry → Type 0
-  Leads next entries = AwaitsStill c s next h ⊎ ((rank c next h < rank c s h) × EndsOn h (awaited_at lc s.layer h) (rank c next h) entries)
+  Leads next entries = AwaitsStill c s next h ⊎ (IsNearer c s next h × EndsOn h (awaited_at lc s.layer h) (rank c next h) entries)
 
   leads : (next : Station) (entries : List StationEntry) → is_up s.link.phase ≡ true → is_up next.link.phase ≡ true
       → LayerMoves lc h s.layer next.layer entries → Leads next entries
@@ -57,8 +58,11 @@ module _ (c : Settings) (s : Station) (h : ℕ) where
       let low : here next.link.phase < rank_of Up s.layer.restarting (awaited_at lc s.layer h) =
       subst (λ (p : Phase). here p < rank_of Up s.layer.restarting (awaited_at lc s.layer h)) (sym (up_is next.link.phase is)) x.0 in
       inr (
-        subst (λ (p : Phase). rank c next h < rank_of p s.layer.restarting (awaited_at lc s.layer h)) (sym (up_is s.link.phase up)) low,
-        subst (λ (p : Phase). EndsOn h (awaited_at lc s.layer h) (here p) entries) (sym (up_is next.link.phase is)) x.1,
+        record {
+          low = subst (λ (p : Phase). rank c next h < rank_of p s.layer.restarting (awaited_at lc s.layer h)) (sym (up_is s.link.phase up)) low;
+          no_call = x.1;
+        },
+        subst (λ (p : Phase). EndsOn h (awaited_at lc s.layer h) (here p) entries) (sym (up_is next.link.phase is)) x.2,
       )
 
   -- more is told behind it
@@ -197,7 +201,7 @@ goes_on laws c s h (timer.Asks Relinks) high =
 pub nothing_leads_back : LinkLaws → NothingLeadsBack
 nothing_leads_back laws c s h event high = by (timer.outcome c s event) (goes_on laws c s h event high)
   where
-    forgets : (next : Station) (entries : List StationEntry) → Leads c s h next entries → AwaitsStill c s next h ⊎ (rank c next h < rank c s h)
+    forgets : (next : Station) (entries : List StationEntry) → Leads c s h next entries → AwaitsStill c s next h ⊎ IsNearer c s next h
     forgets next entries (inl still) = inl still
     forgets next entries (inr x) = inr x.0
 
@@ -254,13 +258,13 @@ not_full n low = test (n == 256) refl
     test true is = let e : n ≡ 256 = eqb-true n 256 is in absurd (omega (arith, e, low))
     test false is = refl
 
--- a station whose link is up, by whether a restart is under way and by the state of a channel
-rank_is : (c : Settings) (t : Station) (h : ℕ) (r : Bool) (x : State) → is_up t.link.phase ≡ true → t.layer.restarting ≡ r → (t.layer.circuits h).state ≡ x
-    → rank c t h ≡ rank_of Up r (awaits_in (is_channel c.channels h) x)
-rank_is c t h r x up restarting state =
+-- a station whose link is up, by whether a restart is under way and by what a channel awaits
+rank_is : (c : Settings) (t : Station) (h : ℕ) (r : Bool) (a : Awaits) → is_up t.link.phase ≡ true → t.layer.restarting ≡ r
+    → awaited_by (t.layer.circuits h) ≡ a → rank c t h ≡ rank_of Up r (awaits_on (is_channel c.channels h) a)
+rank_is c t h r a up restarting awaits =
     ap (λ (p : Phase). rank_of p t.layer.restarting (awaited_at (layer_settings c) t.layer h)) (up_is t.link.phase up)
     ∙ ap (λ (b : Bool). rank_of Up b (awaited_at (layer_settings c) t.layer h)) restarting
-    ∙ ap (λ (y : State). rank_of Up r (awaits_in (is_channel c.channels h) y)) state
+    ∙ ap (λ (d : Awaits). rank_of Up r (awaits_on (is_channel c.channels h) d)) awaits
 
 -- an accepted request of the layer, where fewer than 256 packets wait
 module _ (tells : PutTells) (c : Settings) (s : Station) (request : LayerRequest) (next : Layer) (packet : Option PlainPacket) (up : is_up s.link.phase ≡ true)
@@ -283,64 +287,101 @@ module _ (tells : PutTells) (c : Settings) (s : Station) (request : LayerRequest
       (went view lc (layer_outcome lc b s.layer request))) (not_full (waits s.link.outgoing) low)
       ∙ ap (λ (o : LayerOutcome). did c (alone s.link) (entries_of_outcome lc s.layer request o) (went view lc o)) is
 
-  accepted_rank : (h : ℕ) (r : Bool) (x : State) → next.restarting ≡ r → (next.circuits h).state ≡ x → rank c accepted_step.near h
-      ≡ rank_of Up r (awaits_in (is_channel c.channels h) x)
-  accepted_rank h r x restarting state =
-      let same : SameStates next put.layer = rounds_same (view_of (link_settings c) s.turn s.link) (layer_settings c) (begin next packet) in
-      rank_is c accepted_step.near h r x (all_up tells (link_settings c) put.put (alone s.link) up) (same.0 ∙ restarting) (same.1 h ∙ state)
+  accepted_rank : (h : ℕ) (r : Bool) (a : Awaits) → next.restarting ≡ r → awaited_by (next.circuits h) ≡ a → rank c accepted_step.near h
+      ≡ rank_of Up r (awaits_on (is_channel c.channels h) a)
+  accepted_rank h r a restarting awaits =
+      let same : SameAwaited next put.layer = rounds_same (view_of (link_settings c) s.turn s.link) (layer_settings c) (begin next packet) in
+      rank_is c accepted_step.near h r a (all_up tells (link_settings c) put.put (alone s.link) up) (same.0 ∙ restarting) (same.1 h ∙ awaits)
 
--- what a rank of 4 says
-pub record IsOldest (p : Phase) (r b : Bool) (x : State) : Type 0 where
+-- ---- what a rank of more than 2 says: what the channel awaits
+
+unlike : {A : Type 0} (m n : ℕ) → (m == n) ≡ false → m ≡ n → A
+unlike m n differs is = absurd (true≢false (sym (eq-eqb m n is) ∙ differs))
+
+low_two : {A : Type 0} (m n : ℕ) → m ≤ 2 → 3 ≤ n → m ≡ n → A
+low_two m n low high is = absurd (omega (arith, low, high, is))
+
+pub record IsRanked (n : ℕ) (p : Phase) (r b : Bool) (x : Circuit) : Type 0 where
   pub phase : is_up p ≡ true
   pub ready : r ≡ false
   pub configured : b ≡ true
-  pub kind : Kind
-  pub state : x ≡ state_of kind
-  pub awaits : rank_in (awaited_in (state_of kind)) ≡ 4
+  pub kind : IsKind x
+  pub rank : rank_in (awaits_of kind.kind) ≡ n
 
-not_four : {A : Type 0} (n : ℕ) → n ≤ 3 → n ≡ 4 → A
-not_four n low is = absurd (omega (arith, low, is))
+ranked : (n : ℕ) → 3 ≤ n → (p : Phase) (r b : Bool) (x : Circuit) → rank_of p r (awaits_on b (awaited_by x)) ≡ n → IsRanked n p r b x
+ranked n high Down r b x is = low_two 0 n (omega arith) high is
+ranked n high Waiting r b x is = low_two 1 n (omega arith) high is
+ranked n high Closed r b x is = low_two 0 n (omega arith) high is
+ranked n high Up true b x is = low_two 2 n (omega arith) high is
+ranked n high Up false false x is = low_two 0 n (omega arith) high is
+ranked n high Up false true x is =
+    let kind : IsKind x = kind_of x 2 (omega (arith, high, is)) in
+    record { phase = refl; ready = refl; configured = refl; kind = kind; rank = ap rank_in (sym kind.awaits) ∙ is }
 
-oldest : (p : Phase) (r b : Bool) (x : State) → rank_of p r (awaits_in b x) ≡ 4 → IsOldest p r b x
-oldest Down r b x is = not_four 0 (omega arith) is
-oldest Waiting r b x is = not_four 1 (omega arith) is
-oldest Closed r b x is = not_four 0 (omega arith) is
-oldest Up true b x is = not_four 2 (omega arith) is
-oldest Up false false x is = not_four 0 (omega arith) is
-oldest Up false true Calling is = record { phase = refl; ready = refl; configured = refl; kind = in_call; state = refl; awaits = refl }
-oldest Up false true Collision is = record { phase = refl; ready = refl; configured = refl; kind = in_collision; state = refl; awaits = refl }
-oldest Up false true Resetting is = record { phase = refl; ready = refl; configured = refl; kind = in_reset; state = refl; awaits = refl }
-oldest Up false true Clearing is = not_four 3 (omega arith) is
-oldest Up false true x is = not_four 0 (omega arith) is
-
-clears_it : (c : CircuitSettings) (x : Circuit) (k : Kind) → rank_in (awaited_in (state_of k)) ≡ 4 → clear_in c x (state_of k) 0 0
+clears_it : (c : CircuitSettings) (x : Circuit) (k : Kind) → rank_in (awaits_of k) ≡ 4 → clear_in c x (state_of k) 0 0
     ≡ does x Clearing default_params false (clear 1 0 0)
 clears_it c x in_call is = refl
 clears_it c x in_collision is = refl
 clears_it c x in_reset is = refl
-clears_it c x in_clear is = not_four 3 (omega arith) is
+clears_it c x in_clear is = unlike 3 4 refl is
+clears_it c x in_interrupt is = unlike 5 4 refl is
+
+resets_it : (c : CircuitSettings) (x : Circuit) (k : Kind) → rank_in (awaits_of k) ≡ 5 → reset_in c x (state_of k) 0 0
+    ≡ does x Resetting x.params x.calls (reset 1 0 0)
+resets_it c x in_call is = unlike 4 5 refl is
+resets_it c x in_collision is = unlike 4 5 refl is
+resets_it c x in_reset is = unlike 4 5 refl is
+resets_it c x in_clear is = unlike 3 5 refl is
+resets_it c x in_interrupt is = refl
+
+-- a clear or a reset of a channel that is ranked so is accepted, and another answer is awaited then
+module _ (tells : PutTells) (c : Settings) (s : Station) (h : ℕ) (low : waits s.link.outgoing < 256) where
+  abbrev at_channel : Circuit
+  at_channel = s.layer.circuits h
+
+  abbrev on_channel : Request → LayerOutcome
+  on_channel request = if is_channel c.channels h
+      then outcome_on s.layer.restarts s.layer.circuits h (outcome (layer_settings c).circuit at_channel request)
+      else Declined layer_error.NoSuchChannel
+
+  leads_to : (n : ℕ) (request : Request) (gone : Circuit) (packet : PlainPacket) (a : Awaits)
+      → IsRanked n s.link.phase s.layer.restarting (is_channel c.channels h) at_channel
+      → may_ask c.wide (Asks h request) ≡ true
+      → outcome_in (layer_settings c) false false s.layer.restarts s.layer.circuits (Asks h request) ≡ on_channel request
+      → outcome (layer_settings c).circuit at_channel request ≡ Done gone (Some packet) → awaited_by gone ≡ a
+      → (step : Step) × (requests c s (Asks h request) ≡ Did step) × (rank c step.near h ≡ rank_in a)
+  leads_to n request gone packet a old may on_it done awaits =
+      let lc : LayerSettings = layer_settings c in
+      let l : Layer = s.layer in
+      let asks : LayerRequest = Asks h request in
+      let next : Layer = is_ready l.restarts (put_at l.circuits h gone) in
+      let owed : Option PlainPacket = packet_on h (Some packet) in
+      let found : layer_outcome lc false l asks ≡ Accepted next owed =
+      ap (λ (r : Bool). outcome_in lc false r l.restarts l.circuits asks) old.ready ∙ on_it
+      ∙ ap (λ (b : Bool). if b then outcome_on l.restarts l.circuits h (outcome lc.circuit at_channel request) else Declined layer_error.NoSuchChannel)
+      old.configured
+      ∙ ap (outcome_on l.restarts l.circuits h) done in
+      let at_h : awaited_by (next.circuits h) ≡ a = ap (λ (b : Bool). let y : Circuit = if b then gone else at_channel in awaited_by y) (eq-eqb h h refl) ∙ awaits in (
+        accepted_step tells c s asks next owed old.phase low found,
+        accepted tells c s asks next owed old.phase low found may,
+        accepted_rank tells c s asks next owed old.phase low found h false a refl at_h ∙ ap (λ (b : Bool). rank_of Up false (awaits_on b a)) old.configured,
+      )
 
 pub clear_leads_on : PutTells → ClearLeadsOn
 clear_leads_on tells c s h is low =
-    let lc : LayerSettings = layer_settings c in
-    let l : Layer = s.layer in
-    let x : Circuit = l.circuits h in
-    let old : IsOldest s.link.phase l.restarting (is_channel c.channels h) x.state = oldest s.link.phase l.restarting (is_channel c.channels h) x.state is in
-    let gone : Circuit = entered x Clearing default_params false in
-    let next : Layer = is_ready l.restarts (put_at l.circuits h gone) in
-    let request : LayerRequest = Asks h (Clears 0 0) in
-    let packet : Option PlainPacket = packet_on h (Some (clear 1 0 0)) in
-    let found : layer_outcome lc false l request ≡ Accepted next packet =
-    ap (λ (r : Bool). outcome_in lc false r l.restarts l.circuits request) old.ready
-    ∙ ap (λ (b : Bool). if b then outcome_on l.restarts l.circuits h (clear_in lc.circuit x x.state 0 0) else Declined layer_error.NoSuchChannel) old.configured
-    ∙ ap (λ (y : State). outcome_on l.restarts l.circuits h (clear_in lc.circuit x y 0 0)) old.state
-    ∙ ap (outcome_on l.restarts l.circuits h) (clears_it lc.circuit x old.kind old.awaits) in
-    let at_h : (next.circuits h).state ≡ Clearing = ap (λ (b : Bool). let y : Circuit = if b then gone else x in y.state) (eq-eqb h h refl) in (
-      accepted_step tells c s request next packet old.phase low found,
-      accepted tells c s request next packet old.phase low found refl,
-      accepted_rank tells c s request next packet old.phase low found h false Clearing refl at_h
-          ∙ ap (λ (b : Bool). rank_of Up false (awaits_in b Clearing)) old.configured,
-    )
+    let x : Circuit = s.layer.circuits h in
+    let old : IsRanked 4 s.link.phase s.layer.restarting (is_channel c.channels h) x =
+    ranked 4 (omega arith) s.link.phase s.layer.restarting (is_channel c.channels h) x is in
+    leads_to tells c s h low 4 (Clears 0 0) (entered x Clearing default_params false) (clear 1 0 0) ClearConfirmation old refl refl
+    (ap (λ (y : State). clear_in (layer_settings c).circuit x y 0 0) old.kind.is ∙ clears_it (layer_settings c).circuit x old.kind.kind old.rank) refl
+
+pub reset_leads_on : PutTells → ResetLeadsOn
+reset_leads_on tells c s h is low =
+    let x : Circuit = s.layer.circuits h in
+    let old : IsRanked 5 s.link.phase s.layer.restarting (is_channel c.channels h) x =
+    ranked 5 (omega arith) s.link.phase s.layer.restarting (is_channel c.channels h) x is in
+    leads_to tells c s h low 5 (Resets 0 0) (entered x Resetting x.params x.calls) (reset 1 0 0) ResetConfirmation old refl refl
+    (ap (λ (y : State). reset_in (layer_settings c).circuit x y 0 0) old.kind.is ∙ resets_it (layer_settings c).circuit x old.kind.kind old.rank) refl
 
 pub restart_leads_on : PutTells → RestartLeadsOn
 restart_leads_on tells c s up ready low =
@@ -352,5 +393,5 @@ restart_leads_on tells c s up ready low =
     let found : layer_outcome lc false l request ≡ Accepted next packet = ap (λ (r : Bool). outcome_in lc false r l.restarts l.circuits request) ready in (
       accepted_step tells c s request next packet up low found,
       accepted tells c s request next packet up low found refl,
-      λ h. accepted_rank tells c s request next packet up low found h true Free refl refl,
+      λ h. accepted_rank tells c s request next packet up low found h true Nothing refl refl,
     )

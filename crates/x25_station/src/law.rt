@@ -14,7 +14,7 @@ ghost use Rattle.x25_station.specs.laws.TimerLaw.{OffIsRefused, PullIsHeeded};
 ghost use Rattle.x25_station.specs.laws.SettledLaw.{NewIsSettled, PullsGoOn, SettledAsks, StaysSettled};
 ghost use Rattle.x25_station.specs.laws.UnheardLaw.{UnheardAsksOn};
 ghost use Rattle.x25_station.specs.laws.WayOutLaw.{ClearLeadsOn, FiringLeadsOn, NothingLeadsBack, RelinkLeadsOn};
-ghost use Rattle.x25_station.specs.laws.WayOutLaw.{RestartLeadsOn};
+ghost use Rattle.x25_station.specs.laws.WayOutLaw.{ResetLeadsOn, RestartLeadsOn};
 ghost use Rattle.x25_station.specs.laws.EndLaw.{EndIsTold};
 ghost use Rattle.x25_station.specs.laws.ConfirmLaw.{ConfirmedIsAcknowledged, ToldIsConfirmed};
 
@@ -125,15 +125,16 @@ pub fn deadlines_are_true()
     ensures due_pulled { BeginsBehindPull }
 {}
 
-/// Where the other end doesn't answer, four steps lead on, whatever it does. A call or a reset that isn't answered may
-/// be cleared, and where clearing isn't confirmed all may be restarted, while fewer than 256 packets wait in the link.
-/// A link that is up may be set up anew by `Relink`, whatever is awaited and whatever waits: LinkDown is told, and UA
-/// is awaited, with all tries left. Where UA is awaited, N2 firings of T1 and one more at most lead to Down, and
-/// LinkDown is told. And no step leads back, whatever comes and whatever is asked: until LinkUp or LinkDown is told,
-/// what a channel awaits is what it did, or fewer of these steps are left. Where it isn't what it did, the step tells
-/// that: the answer, on that channel or of a restart, LinkUp or LinkDown; or that the channel is cleared or all are
-/// restarted, and then an answer to that is awaited.
+/// Where the other end doesn't answer, five steps lead on, whatever it does. A channel whose interrupt isn't confirmed
+/// may be reset, a call or a reset that isn't answered may be cleared, and where clearing isn't confirmed all may be
+/// restarted, while fewer than 256 packets wait in the link. A link that is up may be set up anew by `Relink`, whatever
+/// is awaited and whatever waits: LinkDown is told, and UA is awaited, with all tries left. Where UA is awaited, N2
+/// firings of T1 and one more at most lead to Down, and LinkDown is told. And no step leads back, whatever comes and
+/// whatever is asked: until LinkUp or LinkDown is told, what a channel awaits is what it did, or fewer of these steps
+/// are left. Where it isn't what it did, the step tells that: the answer, on that channel or of a restart, LinkUp or
+/// LinkDown; or that the channel is reset or cleared or all are restarted, and then an answer to that is awaited.
 pub fn ways_out_lead_on()
+    ensures reset { ResetLeadsOn }
     ensures clear { ClearLeadsOn }
     ensures restart { RestartLeadsOn }
     ensures relink { RelinkLeadsOn }

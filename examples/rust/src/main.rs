@@ -13,7 +13,7 @@ const CHANNELS: u16 = 16;
 const PIECE: u16 = 4096;
 const ROOM: usize = 65_536;
 const MOST_WAIT: u64 = 1000;
-const TIMES: Times = Times { t1: 200, t3: 1000, t20: 180_000, t21: 200_000, t22: 180_000, t23: 180_000 };
+const TIMES: Times = Times { t1: 200, t3: 1000, t20: 180_000, t21: 200_000, t22: 180_000, t23: 180_000, t26: 180_000 };
 const KILOBYTES: Sizes = Sizes { size_called: 10, size_calling: 10, window_called: 7, window_calling: 7 };
 
 // What the standard library doesn't have, with the numbers of Linux: POLLIN 1, POLLOUT 4, SIGTERM 15, SOL_SOCKET 1, SO_LINGER 13.
@@ -172,9 +172,10 @@ fn main() -> Result<()> {
         if is_dte {
             port.did(Station::connect); // refused where it is up, or being set up
         }
-        if let Some((channel, answer)) = waiting.as_ref().and_then(|_| port.station.call("1", "2", b"", Some(KILOBYTES)).ok()) {
+        if let Some(answer) = waiting.as_ref().and_then(|_| port.station.call("1", "2", b"", Some(KILOBYTES)).ok()) {
+            let channel = answer.channel().map_or(0, usize::from);
             port.did(|_| Ok(answer));
-            circuits[usize::from(channel)] = Circuit { state: State::Calling, connection: waiting.take(), ..Circuit::default() };
+            circuits[channel] = Circuit { state: State::Calling, connection: waiting.take(), ..Circuit::default() };
         }
         let accepts = listener.as_ref().filter(|_| waiting.is_none()).map_or(-1, TcpListener::as_raw_fd);
         let mut files = vec![PollFd(port.line.as_raw_fd(), 1, 0), PollFd(accepts, 1, 0)];

@@ -37,17 +37,6 @@ with_rest rest t = record {
   own_ready = t.own_ready;
 }
 
-abbrev pub with_interrupt : Bool → Talk → Talk
-with_interrupt out t = record {
-  sent = t.sent;
-  taken = t.taken;
-  acked = t.acked;
-  rest = t.rest;
-  int_out = out;
-  peer_ready = t.peer_ready;
-  own_ready = t.own_ready;
-}
-
 abbrev pub with_peer : Bool → Talk → Talk
 with_peer is_ready t = record {
   sent = t.sent;

@@ -1,5 +1,5 @@
 -- What the fields of a cutter stand for.
-use Rattle.std.specs.Prelude.{◌-◌, ◌≤◌, if◌then◌else◌, [], ◌∷◌, length, take, drop, vec_capacity}
+use Rattle.std.specs.Prelude.{◌-◌, ◌≤◌, if◌then◌else◌, [], ◌∷◌, length, take, drop, max, vec_capacity}
 use Rattle.x25_circuit.specs.declared.cutter.Cutter.TheInside.{Inside}
 use Rattle.x25_circuit.specs.code.Cutter.{ShownCutter}
 
@@ -12,4 +12,6 @@ shown c = record {
 pub record IsSound (c : Inside) : Type 0 where
   pub lent : c.lent ≤ c.start
   pub start : c.start ≤ length c.user.items
-  pub memory : vec_capacity c.user ≤ 65535
+  pub short : length c.user.items ≤ 65535
+  -- as many octets as the message has, or at most 4,096
+  pub memory : vec_capacity c.user ≤ max (length c.user.items) 4096

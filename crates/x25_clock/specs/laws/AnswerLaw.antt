@@ -1,6 +1,7 @@
 -- That one who obeys his clock is told the answer (profile): on the channel, that of a restart, or LinkUp or LinkDown.
 use Rattle.std.specs.Prelude.{◌≡◌, ℕ, ◌+◌, ◌^◌, ◌<◌, ◌≤◌, Bool, false, List, [], ◌∷◌}
 use Rattle.std.specs.List.{list_any}
+use Rattle.x25_circuit.specs.declared.awaits.Awaits.{Awaits}
 use Rattle.x25_layer.specs.code.FitsLayer.{awaited_at}
 use Rattle.x25_station.specs.Config.{Settings, layer_settings}
 use Rattle.x25_station.specs.Station.{Station}
@@ -27,6 +28,7 @@ IsUntold c times h (deed ∷ deeds) w = (tells (outcome_of c deed w) ≡ false)
 abbrev pub AnswerIsTold : Type 0
 AnswerIsTold = (c : Settings) (times : Times) (h : ℕ) (moments : List Moment) (deeds : List Deed) →
     let w : Watched = watched c times moments in
-    let longest : ℕ = longest_wait times w.station.layer.restarting (awaited_at (layer_settings c) w.station.layer h) in
-    AreSet times → w.now + longest < 2 ^ 64 → 2 ≤ rank c w.station h
+    let awaits : Awaits = awaited_at (layer_settings c) w.station.layer h in
+    let longest : ℕ = longest_wait times w.station.layer.restarting awaits in
+    AreSet times awaits → w.now + longest < 2 ^ 64 → 2 ≤ rank c w.station h
     → AreObeyed c times deeds w → IsUntold c times h deeds w → (all_done c times deeds w).now ≤ w.now + longest

@@ -4,7 +4,7 @@
 use Rattle.std.specs.Prelude.{◌≡◌, ℕ, ◌+◌, ◌^◌, ◌<◌, ◌≤◌, Bool, true, false, List, [], ◌∷◌, Option, Some, None}
 use Rattle.x25_circuit.specs.declared.awaits.Awaits.{Awaits}
 use Rattle.x25_circuit.specs.declared.awaits.Awaits.TheVariants.{Nothing, Acceptance, ResetConfirmation}
-use Rattle.x25_circuit.specs.declared.awaits.Awaits.TheVariants.{ClearConfirmation}
+use Rattle.x25_circuit.specs.declared.awaits.Awaits.TheVariants.{ClearConfirmation, InterruptConfirmation}
 use Rattle.x25_layer.specs.code.FitsLayer.{awaited_at}
 use Rattle.x25_station.specs.Config.{Settings, layer_settings}
 use Rattle.x25_station.specs.Station.{Station}
@@ -83,25 +83,28 @@ AwaitsAll c times h [] w = 2 ≤ rank c w.station h
 AwaitsAll c times h (deed ∷ deeds) w = (2 ≤ rank c w.station h) × (tells (outcome_of c deed w) ≡ false)
     × AwaitsAll c times h deeds (done c times deed w)
 
--- how long it may: until its time passes, T23 that of clearing, and T20 that of the restart
+-- how long it may: until its time passes, T22 that of a reset, T23 that of clearing, and T20 that of the restart
 abbrev pub longest_wait : Times → Bool → Awaits → ℕ
 longest_wait times true awaits = times.t20
 longest_wait times false Nothing = 0
 longest_wait times false Acceptance = times.t21 + (times.t23 + times.t20)
 longest_wait times false ResetConfirmation = times.t22 + (times.t23 + times.t20)
 longest_wait times false ClearConfirmation = times.t23 + times.t20
+longest_wait times false InterruptConfirmation = times.t26 + (times.t22 + (times.t23 + times.t20))
 
--- none is for ever
-pub record AreSet (times : Times) : Type 0 where
+-- none is for ever, that of an interrupt where one is awaited
+pub record AreSet (times : Times) (awaits : Awaits) : Type 0 where
   pub t20 : 0 < times.t20
   pub t21 : 0 < times.t21
   pub t22 : 0 < times.t22
   pub t23 : 0 < times.t23
+  pub t26 : awaits ≡ InterruptConfirmation → 0 < times.t26
 
 -- After any moments: one who obeys from there on, while a channel awaits an answer, does so no longer than that.
 abbrev pub NothingWaits : Type 0
 NothingWaits = (c : Settings) (times : Times) (h : ℕ) (moments : List Moment) (deeds : List Deed) →
     let w : Watched = watched c times moments in
-    let longest : ℕ = longest_wait times w.station.layer.restarting (awaited_at (layer_settings c) w.station.layer h) in
-    AreSet times → w.now + longest < 2 ^ 64
+    let awaits : Awaits = awaited_at (layer_settings c) w.station.layer h in
+    let longest : ℕ = longest_wait times w.station.layer.restarting awaits in
+    AreSet times awaits → w.now + longest < 2 ^ 64
     → AreObeyed c times deeds w → AwaitsAll c times h deeds w → (all_done c times deeds w).now ≤ w.now + longest

@@ -37,14 +37,17 @@ unfolding digits event_act event_in lines_of line_in parts_of number_in lose_in 
     low_bits add divisor due_turns moment_in next_line time_said timed timed_turn timed_turns timeout_line
 sabm_goes_again =
     let p0 : Program = nothing_read in
-    let p1 : Program = record p0 { read = codes "dte connect\n"; out = sabm ∷ [] } in
-    let r1 : ReachedTimed ours times p1 = goes_on p0 p1 at_start
+    let pa : Program = record p0 { read = codes "@ 0\n" } in
+    let ra : ReachedTimed ours times pa = goes_on p0 pa at_start
+    (Reads (codes "@ 0") (record { is_line = opens (codes "@ 0") refl; is_no_frame = tt; in_time = tt })) in
+    let p1 : Program = record p0 { read = codes "@ 0\ndte connect\n"; out = sabm ∷ [] } in
+    let r1 : ReachedTimed ours times p1 = goes_on pa p1 ra
     (Reads (codes "dte connect") (record { is_line = opens (codes "dte connect") refl; is_no_frame = tt; in_time = tt })) in
     let v2 : BesideSessions = record (bare ours times p1) { out = [] } in
     let p2 : Program = record p1 { out = [] } in
     let r2 : ReachedTimed ours times p2 = goes_on p1 p2 r1 (Elsewhere v2
     (beside.Links (links v2) (record { does = λ crossing. moves _ (loses 0 [] (gone _ _)); left = (0, gone _ _); puts = nothing }))) in
-    let p3 : Program = record p2 { read = codes "dte connect\n@ 3000\n"; out = sabm ∷ [] } in
+    let p3 : Program = record p2 { read = codes "@ 0\ndte connect\n@ 3000\n"; out = sabm ∷ [] } in
     let r3 : ReachedTimed ours times p3 = goes_on p2 p3 r2
     (Reads (codes "@ 3000") (record {
       is_line = opens (codes "@ 3000") refl;
@@ -62,8 +65,11 @@ unfolding digits decode_pairs event_act event_in lines_of line_in parts_of numbe
     facilities_of is_sealed fcs_of number_of divided low_bits add divisor due_turns moment_in next_line time_said timed timed_turn timed_turns timeout_line
 link_is_set_up = record {
   possible = (
-    record { is_line = opens (codes "dte connect") refl; is_no_frame = tt; in_time = tt },
-    (tt, (record { is_line = opens (codes "@ 3000") refl; is_no_frame = tt; in_time = refl }, (tt, (tt, (tt, (tt, (tt, (tt, tt)))))))),
+    record { is_line = opens (codes "@ 0") refl; is_no_frame = tt; in_time = tt },
+    (
+      record { is_line = opens (codes "dte connect") refl; is_no_frame = tt; in_time = tt },
+      (tt, (record { is_line = opens (codes "@ 3000") refl; is_no_frame = tt; in_time = refl }, (tt, (tt, (tt, (tt, (tt, (tt, tt)))))))),
+    ),
   );
   near = refl;
   far = refl;

@@ -18,8 +18,8 @@ use Rattle.x25_station.specs.Station.{Station}
 use Rattle.x25_station.specs.Station.Told.{awaits_answers, is_idle}
 use Rattle.x25_station.specs.laws.TimerLaw.{StationEvent}
 use Rattle.x25_pipe.specs.Pipe.{Saying, asked_act, event_in, saying_line}
-use Rattle.x25_pipe.specs.Timed.{Timed, awaited_for, insist_turn, new_timed, next_line, time_said, timed, timed_turn}
-use Rattle.x25_pipe.specs.Timed.{timeout_line, told_due}
+use Rattle.x25_pipe.specs.Timed.{Timed, awaited_for, insist_turn, moment_of, new_timed, next_line, time_said, timed}
+use Rattle.x25_pipe.specs.Timed.{timed_turn, timeout_line, told_due}
 use Rattle.x25_joined.specs.laws.Joined.{entries_in, frames_in}
 
 -- ---- what is played
@@ -50,13 +50,18 @@ first_due c times rest w (Some due) =
 -- what is due, at most so much
 abbrev pub due_plays : Settings → Times → ℕ → Timed → List Played
 due_plays c times zero w = []
-due_plays c times (suc n) w = first_due c times (due_plays c times n) w (due_of w.now w.deadlines)
+due_plays c times (suc n) w = first_due c times (due_plays c times n) w (due_of (moment_of w.now) w.deadlines)
+
+-- the first time that is said has nothing played
+abbrev pub pass_plays : Settings → Times → ℕ → Timed → Option ℕ → List Played
+pass_plays c times now w None = []
+pass_plays c times now w (Some last) =
+    if nat_lt now last then playing w Passes ∷ []
+    else due_plays c times (most_due w.deadlines) (record w { now = Some now })
 
 abbrev pub answer_plays : Settings → Times → List ℕ → Timed → Option ℕ → List Played
 answer_plays c times line w None = playing w (Answers line) ∷ []
-answer_plays c times line w (Some now) =
-    if nat_lt now w.now then playing w Passes ∷ []
-    else due_plays c times (most_due w.deadlines) (record w { now = now })
+answer_plays c times line w (Some now) = pass_plays c times now w w.now
 
 -- of a line
 abbrev pub line_plays : Settings → Times → List ℕ → Timed → List Played
@@ -141,6 +146,7 @@ abbrev pub due_words : Role → Due → List ℕ
 due_words end due.T1 = codes "t1 " ++ end_text end
 due_words end due.Probe = end_text end ++ (codes " " ++ codes "probe")
 due_words end due.Relink = end_text end ++ (codes " " ++ codes "relink")
+due_words end (due.Reset h) = end_text end ++ (codes " " ++ (codes "reset " ++ (decimal h ++ [])))
 due_words end (due.Clear h) = end_text end ++ (codes " " ++ (codes "clear " ++ (decimal h ++ [])))
 due_words end (due.Restart h) = end_text end ++ (codes " " ++ (codes "restart" ++ []))
 

@@ -3,10 +3,10 @@ use Rattle.std.specs.Prelude.{◌≡◌, ◌≤◌, ℕ, zero, suc, ◌+◌, ◌
 use Rattle.std.specs.Prelude.{false, slice_get, if◌then◌else◌}
 use Rattle.x25_circuit.specs.declared.awaits.Awaits.{Awaits}
 use Rattle.x25_circuit.specs.declared.awaits.Awaits.TheVariants.{Nothing}
-use Rattle.x25_circuit.specs.Awaits.{awaited_in, is_any}
+use Rattle.x25_circuit.specs.Awaits.{is_any}
 use Rattle.x25_circuit.specs.declared.circuit.Circuit as circuit_code
 use Rattle.x25_circuit.specs.declared.params.Params.{Params}
-use Rattle.x25_circuit.specs.Circuit.{Circuit, is_open, waits}
+use Rattle.x25_circuit.specs.Circuit.{Circuit, awaited_by, is_open, waits}
 use Rattle.x25_circuit.specs.code.FitsCircuit.{FitsCircuit}
 use Rattle.x25_handshakes.specs.laws.Names.{Name}
 use Rattle.x25_layer.specs.declared.layer.Layer as code
@@ -53,13 +53,13 @@ is_open_at c l h = if is_channel c.channels h then is_open (l.circuits h) else f
 
 -- the answer that this end awaits on a channel, none where it isn't configured
 abbrev pub awaited_at : LayerSettings → Layer → ℕ → Awaits
-awaited_at c l h = if is_channel c.channels h then awaited_in (l.circuits h).state else Nothing
+awaited_at c l h = if is_channel c.channels h then awaited_by (l.circuits h) else Nothing
 
 -- on how many of the channels up to a number an answer is awaited
 abbrev pub awaited_up_to : (ℕ → Circuit) → ℕ → ℕ
 awaited_up_to circuits zero = 0
 awaited_up_to circuits (suc n) = awaited_up_to circuits n
-    + (if is_any (awaited_in (circuits (suc n)).state) then 1 else 0)
+    + (if is_any (awaited_by (circuits (suc n))) then 1 else 0)
 
 -- how many messages wait in the circuits of the channels up to a number
 abbrev pub waits_up_to : (ℕ → Circuit) → ℕ → ℕ

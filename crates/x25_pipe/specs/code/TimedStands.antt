@@ -15,6 +15,7 @@ pub record StandsTimed (c : Settings) (times : Times) (old now : Option (List �
   pub pipe : Stands c old now p.pipe w.station told refused
   pub deadlines : plain p.clock ≡ w.deadlines
   pub timers : p.clock.times ≡ times
+  pub channels : p.clock.channels ≡ c.channels.count
   pub time : p.now ≡ w.now
 
 -- how it stands, by the turn that led there

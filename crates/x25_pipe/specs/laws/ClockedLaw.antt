@@ -12,10 +12,11 @@ use Rattle.x25_clock.specs.laws.ClockLaw.{Moment, Watched, watched}
 use Rattle.x25_clock.specs.laws.PullLaw.{pull}
 use Rattle.x25_clock.specs.laws.WaitLaw.{Deed, Happens, IsAsked, outcome_of, all_done}
 use Rattle.x25_pipe.specs.Pipe.{event_act}
-use Rattle.x25_pipe.specs.Timed.{Timed, act_turn, insist_turn, new_timed, time_said, timed_turn, timed_turns, told_due}
+use Rattle.x25_pipe.specs.Timed.{Timed, act_turn, insist_turn, moment_of, new_timed, time_said, timed_turn, timed_turns}
+use Rattle.x25_pipe.specs.Timed.{told_due}
 
 abbrev pub watched_in : Timed → Watched
-watched_in w = record { station = w.station; deadlines = w.deadlines; now = w.now }
+watched_in w = record { station = w.station; deadlines = w.deadlines; now = moment_of w.now }
 
 -- a deed, and the pull behind it
 abbrev pub with_pull : Deed → Outcome → List Deed
@@ -41,7 +42,7 @@ DueIsDone = (c : Settings) (times : Times) (due : Due) (w : Timed) → c.window 
 abbrev pub NothingIsDue : Type 0
 NothingIsDue = (c : Settings) (times : Times) (lines : List (List ℕ)) (line : List ℕ) (now : ℕ) →
     let w : Timed = (timed_turns c times lines (new_timed c)).next in
-    time_said line ≡ Some now → w.now ≤ now → due_of now (timed_turn c times line w).next.deadlines ≡ None
+    time_said line ≡ Some now → moment_of w.now ≤ now → due_of now (timed_turn c times line w).next.deadlines ≡ None
 
 -- So what any lines lead to is what some moments do, of which x25_clock says that all deadlines are true.
 abbrev pub PipeIsWatched : Type 0

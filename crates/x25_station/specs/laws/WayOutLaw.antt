@@ -1,5 +1,6 @@
--- What leads on where the other end doesn't answer (profile): what isn't answered is cleared, then all is restarted,
--- then the link is set up anew, and that ends, up or down. No clause speaks of what the other end does.
+-- What leads on where the other end doesn't answer (profile): an interrupt that isn't confirmed is reset, what else
+-- isn't answered is cleared, then all is restarted, then the link is set up anew, and that ends, up or down. No clause
+-- speaks of what the other end does.
 use Rattle.std.specs.Prelude.{◌≡◌, ℕ, suc, ◌+◌, ◌<◌, ◌≤◌, ◌⊎◌, Bool, true, false, [], ◌∷◌}
 use Rattle.x25_link.specs.declared.phase.Phase.{Phase}
 use Rattle.x25_link.specs.declared.phase.Phase.TheVariants.{Down, Waiting, Up, Closed}
@@ -8,8 +9,8 @@ use Rattle.x25_link.specs.Outgoing.{waits}
 use Rattle.x25_link.specs.Station.{is_up}
 use Rattle.x25_circuit.specs.declared.awaits.Awaits.{Awaits}
 use Rattle.x25_circuit.specs.declared.awaits.Awaits.TheVariants.{Nothing, Acceptance, ResetConfirmation}
-use Rattle.x25_circuit.specs.declared.awaits.Awaits.TheVariants.{ClearConfirmation}
-use Rattle.x25_circuit.specs.Calling.{Clears}
+use Rattle.x25_circuit.specs.declared.awaits.Awaits.TheVariants.{ClearConfirmation, InterruptConfirmation}
+use Rattle.x25_circuit.specs.Calling.{Clears, Resets}
 use Rattle.x25_layer.specs.Layer.{rested}
 use Rattle.x25_layer.specs.Calls.{Asks, Restarts}
 use Rattle.x25_layer.specs.code.FitsLayer.{awaited_at}
@@ -23,12 +24,13 @@ use Rattle.x25_station.specs.laws.TimerLaw as timer
 
 -- ---- how many steps are left where nothing is answered
 
--- p2 and p5 of a DTE, and p3 of a DCE; d2, and d3; p6, and p7
+-- p2 and p5 of a DTE, and p3 of a DCE; d2, and d3; p6, and p7; and j2, and j4, in p4 with d1
 abbrev pub rank_in : Awaits → ℕ
 rank_in Nothing = 0
 rank_in Acceptance = 4
 rank_in ResetConfirmation = 4
 rank_in ClearConfirmation = 3
+rank_in InterruptConfirmation = 5
 
 -- while UA is awaited it is 1, and in r2 of a DTE and r3 of a DCE it is 2
 abbrev pub rank_of : Phase → Bool → Awaits → ℕ
@@ -43,6 +45,11 @@ abbrev pub rank : Settings → Station → ℕ → ℕ
 rank c s h = rank_of s.link.phase s.layer.restarting (awaited_at (layer_settings c) s.layer h)
 
 -- ---- the steps
+
+-- Where an interrupt isn't confirmed `reset` is accepted, but for 256 packets that wait in the link.
+abbrev pub ResetLeadsOn : Type 0
+ResetLeadsOn = (c : Settings) (s : Station) (h : ℕ) → rank c s h ≡ 5 → waits s.link.outgoing < 256
+    → (step : Step) × (commands c s (Requests (Asks h (Resets 0 0))) ≡ Did step) × (rank c step.near h ≡ 4)
 
 -- Where a call or a reset isn't answered `clear` is accepted, but for 256 packets that wait in the link.
 abbrev pub ClearLeadsOn : Type 0
@@ -92,13 +99,21 @@ pub record AwaitsStill (c : Settings) (s next : Station) (h : ℕ) : Type 0 wher
   pub restarting : next.layer.restarting ≡ s.layer.restarting
   pub awaits : awaited_at (layer_settings c) next.layer h ≡ awaited_at (layer_settings c) s.layer h
 
+abbrev pub is_call : Awaits → Bool
+is_call Acceptance = true
+is_call awaits = false
+
+-- fewer steps are left, and no call of this end is awaited
+pub record IsNearer (c : Settings) (s next : Station) (h : ℕ) : Type 0 where
+  pub low : rank c next h < rank c s h
+  pub no_call : is_call (awaited_at (layer_settings c) next.layer h) ≡ false
+
 abbrev pub LeadsOn : Settings → Station → ℕ → Outcome → Type 0
-LeadsOn c s h (Did step) = tells_link step.entries ≡ false
-    → AwaitsStill c s step.near h ⊎ (rank c step.near h < rank c s h)
+LeadsOn c s h (Did step) = tells_link step.entries ≡ false → AwaitsStill c s step.near h ⊎ IsNearer c s step.near h
 LeadsOn c s h (Refused e) = Unit {0}
 
--- Whatever comes and whatever is asked, a channel of rank 2 or more awaits what it did, or its rank is lower, or the
--- step tells LinkUp or LinkDown.
+-- Whatever comes and whatever is asked, a channel of rank 2 or more awaits what it did, or its rank is lower and it
+-- awaits no acceptance, or the step tells LinkUp or LinkDown.
 abbrev pub NothingLeadsBack : Type 0
 NothingLeadsBack = (c : Settings) (s : Station) (h : ℕ) (event : timer.StationEvent) → 2 ≤ rank c s h
     → LeadsOn c s h (timer.outcome c s event)

@@ -34,7 +34,7 @@ returns-in-Err g c =
     c.in-Err.ensures.faults
     (λ input. mark_failed k times written (g.W.Sink.contents c.mark.new.writer) c.mark.new.self input
     (c.in-Err.ensures.turns k times written (new_timed k) [] false
-    (stands_first_timed k times written q first.fits first.role first.empty first.is_refused first.clock first.times first.now)))
+    (stands_first_timed k times written q first.fits first.role first.empty first.is_refused first.clock first.times first.channels first.now)))
 
 pub returns : goal.returns
 returns g c =
@@ -51,5 +51,5 @@ returns g c =
     c.in_ok-held.held
     c.new-lines.ensures.held c.new-lines.ensures.taker c.in_ok-held.ensures
     (c.in_default.ensures.turns k times written (new_timed k) [] false
-    (stands_first_timed k times written q first.fits first.role first.empty first.is_refused first.clock first.times first.now))))
+    (stands_first_timed k times written q first.fits first.role first.empty first.is_refused first.clock first.times first.channels first.now))))
     c.take_text.ensures.marks

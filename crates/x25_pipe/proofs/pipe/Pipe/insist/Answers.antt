@@ -11,6 +11,7 @@ use Rattle.x25_pipe.proofs.pipe.Pipe.insist.Goals as goal
 none_come : (d : Due) → false ≡ comes (event_for d)
 none_come due.T1 = refl
 none_come due.Probe = refl
+none_come (due.Reset h) = refl
 none_come (due.Clear h) = refl
 none_come (due.Restart h) = refl
 none_come due.Relink = refl

@@ -5,12 +5,12 @@ use Rattle.x25_station.specs.Config.{layer_settings}
 use Rattle.x25_station.specs.Station.Told.{is_at_rest}
 use Rattle.x25_station.specs.Timer.{tells_link}
 use Rattle.x25_station.specs.declared.timer.Timer.{Timer}
-use Rattle.x25_pipe.specs.Timed.{seen_at}
+use Rattle.x25_pipe.specs.Timed.{moment_of, seen_at}
 use Rattle.x25_pipe.proofs.TimedLemmas.{heeded_alike}
 use Rattle.x25_pipe.proofs.timed.TimedPipe.heed.Goals as goal
 
 pub returns : goal.returns
-returns c = λ k times old now w told refused a h deadlines is_times time.
+returns c = λ k times old now w told refused a h deadlines is_times channels time.
     let step = c.args.self.now.pipe.step in
     let by : Timer → Bool → Bool → Seen = λ t noted heard. record {
       timer = t;
@@ -25,7 +25,9 @@ returns c = λ k times old now w told refused a h deadlines is_times time.
     ∙ ap₂ (λ entries heard. by a.timer (tells_link entries) heard) h.entries h.is_heard in
     record {
       pipe = h.stands;
-      deadlines = c.heed.ensures.heeds k a.next h.stands.fits ∙ heeded_alike _ times _ w.now _ (seen_at k a) _ w.deadlines is_times time same deadlines;
+      deadlines = c.heed.ensures.heeds k a.next h.stands.fits
+          ∙ heeded_alike _ times _ (moment_of w.now) _ (seen_at k a) _ w.deadlines is_times (c.moment_at-now.ensures ∙ ap moment_of time) same deadlines;
       timers = c.heed.ensures.times ∙ is_times;
+      channels = c.heed.ensures.channels ∙ channels;
       time = time;
     }

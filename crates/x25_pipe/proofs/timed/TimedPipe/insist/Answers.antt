@@ -65,4 +65,4 @@ returns-clause-turns g c = λ k times old w told refused h.
           (c.in_ok-tell_timeout.ensures.tells old told h.pipe.tells);
       status = h.pipe.status ∙ sym (or-false refused);
     }))
-    h.deadlines h.timers h.time)
+    h.deadlines h.timers h.channels h.time)

@@ -31,5 +31,5 @@ returns-clause-turns g c = λ k times old w told refused h.
           (c.in_ok-tell_next.ensures.tells old told h.pipe.tells);
       status = h.pipe.status ∙ sym (or-false refused);
     }))
-    (λ _ stands. record { pipe = stands; deadlines = h.deadlines; timers = h.timers; time = h.time })
+    (λ _ stands. record { pipe = stands; deadlines = h.deadlines; timers = h.timers; channels = h.channels; time = h.time })
     (λ _ b. b)

@@ -10,4 +10,4 @@ returns-in_err-answer-clause-turns g c = λ k times old text line w told refused
 pub returns-clause-turns : goal.returns-clause-turns
 returns-clause-turns g c = λ k times old text line w told refused h.
     c.heed.ensures k times old _ w told refused (asked_act k w.station (event_in k.wide k.role text))
-    (c.in_ok-answer.ensures.acts k old text line w.station told refused h.pipe) h.deadlines h.timers h.time
+    (c.in_ok-answer.ensures.acts k old text line w.station told refused h.pipe) h.deadlines h.timers h.channels h.time

@@ -10,4 +10,4 @@ returns-in_err-read_nothing-clause-turns g c = λ k times old w told refused h.
 pub returns-clause-turns : goal.returns-clause-turns
 returns-clause-turns g c = λ k times old w told refused h.
     c.heed.ensures k times old _ w told refused (nothing_act w.station) (c.in_ok-read_nothing.ensures.acts k old w.station told refused h.pipe) h.deadlines
-    h.timers h.time
+    h.timers h.channels h.time

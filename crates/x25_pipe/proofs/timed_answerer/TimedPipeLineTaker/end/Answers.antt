@@ -30,6 +30,7 @@ returns-clause-all g c = λ setting old input l.
       pipe = c.in_ok-flush.ensures.stands k old l.at.station l.text l.status l.stands.pipe;
       deadlines = l.stands.deadlines;
       timers = l.stands.timers;
+      channels = l.stands.channels;
       time = l.stands.time;
     } in
     let done = whole_told k times old _ _ whole (left_written k times old _ _ p _ [] false whole (timed_turns k times []) l stands)

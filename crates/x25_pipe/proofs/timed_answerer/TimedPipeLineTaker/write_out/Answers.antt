@@ -16,7 +16,7 @@ returns-clause-on g c = λ setting old lines input l.
     c.flush.ensures.written)
     (λ _ t.
     let stands : StandsTimed k times old (g.W.Sink.contents c.flush.new.writer) (record p { pipe = c.flush.new.self }) l.at l.text l.status =
-    record { pipe = t.0; deadlines = l.stands.deadlines; timers = l.stands.timers; time = l.stands.time } in
+    record { pipe = t.0; deadlines = l.stands.deadlines; timers = l.stands.timers; channels = l.stands.channels; time = l.stands.time } in
     let left = left_written k times old _ _ p _ [] false whole (timed_turns k times lines) l stands in (
       left,
       ended_written k times old _ _ whole p _ lines l t.1 stands,
