@@ -5,3 +5,4 @@ pub mod Watching
 pub mod Explaining
 pub mod VerdictClaims
 pub mod Tapes
+pub mod DoubtClaims

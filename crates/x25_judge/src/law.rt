@@ -5,6 +5,8 @@ ghost use Rattle.x25_judge.specs.laws.VerdictClaims.{GuiltyAreTold, JudgedFinals
 ghost use Rattle.x25_judge.specs.laws.VerdictClaims.{ToldAreGuilty, NoSessionIsAccused, NoStationIsAccused};
 ghost use Rattle.x25_judge.specs.laws.VerdictClaims.{SilenceMeansOrder, SilenceMeansRules, SetUpsBegin};
 ghost use Rattle.x25_judge.specs.laws.VerdictClaims.{SilenceMeansNumbers};
+ghost use Rattle.x25_judge.specs.laws.DoubtClaims.{GapsLeaveDoubt, LossesAreTold, LossesLeaveDoubt, OctetsAreCertain};
+ghost use Rattle.x25_judge.specs.laws.DoubtClaims.{PacketsStayInDoubt};
 ghost use Rattle.x25_line.specs.laws.{LawsBelow.{Laws}, PeerClaims.{KeepsOrder, OnAnySilentTape}};
 ghost use Rattle.x25_line.specs.laws.StationClaims.{EachEventHandsOne};
 
@@ -78,6 +80,17 @@ pub fn guilty_are_told()
     ensures told { ToldAreGuilty }
     ensures sendings { JudgedSendingsAreTold }
     ensures finals { JudgedFinalsAreTold }
+{}
+
+/// What is told where frames or packets may be missing is in doubt: after a gap, until both ends are settled and the
+/// one to which frames may be missing has acknowledged eight I frames; of packets, where not all was seen since a
+/// set-up; and of an end of which the line may have lost lines. Octets that spell no frame never are.
+pub fn missing_frames_leave_doubt()
+    ensures gaps { GapsLeaveDoubt }
+    ensures packets { PacketsStayInDoubt }
+    ensures octets { OctetsAreCertain }
+    ensures losses { LossesLeaveDoubt }
+    ensures worked { LossesAreTold }
 {}
 
 fn laws_below()

@@ -11,7 +11,7 @@ use Rattle.x25_packet_judge.specs.Book as book
 use Rattle.x25_packet_judge.specs.Channel as channels
 
 -- which packet it is
-takes_is : (from : Role) (of : ℕ) (packet : PlainPacket) (b : Book) (all : Bool) → is_of_all packet ≡ all
+pub takes_is : (from : Role) (of : ℕ) (packet : PlainPacket) (b : Book) (all : Bool) → is_of_all packet ≡ all
     → book.takes from of packet b ≡ (if all then book.restarts from (item_of packet) (is_restart packet) (book.spoken from b)
     else book.follows from of (item_of packet) (is_quiet from b) (book.spoken from b))
 unfolding book.takes

@@ -4,3 +4,5 @@ mod TellingLemmas
 mod BookLemmas
 mod TapeLemmas
 mod RestartLemmas
+mod UnseenLemmas
+mod NotedLemmas

@@ -1,6 +1,7 @@
 //! What is told of an end by a book, as laws: each is the contract of a function that does nothing.
 ghost use Rattle.x25_packet_judge.specs.laws.BookClaims.{BooksFollowTapes, BooksTellExactly};
 ghost use Rattle.x25_packet_judge.specs.laws.BookClaims.{InnocentTapesStayUntold, RestartsBegin};
+ghost use Rattle.x25_packet_judge.specs.laws.UnseenClaims.{UnjudgedIsNoted, UnseenIsUnknown, WholeBooksFollow};
 
 use x25_possible::{innocents_stay_untold, polite_stay_untold, sets_tell_exactly};
 
@@ -32,4 +33,19 @@ pub fn innocent_tapes_stay_untold()
 /// Such tapes there are: behind a set-up of the link one end restarts, and the other one confirms it.
 pub fn restarts_begin()
     ensures { RestartsBegin }
+{}
+
+/// Where frames weren't seen, or an N(R) shows that packets weren't, no end is known and the book isn't whole.
+pub fn unseen_is_unknown()
+    ensures { UnseenIsUnknown }
+{}
+
+/// The sets of a whole book are those that all packets since the set-up leave.
+pub fn whole_books_follow()
+    ensures { WholeBooksFollow }
+{}
+
+/// What isn't judged is noted, once since both ends were known; octets that are no packet break a rule.
+pub fn unjudged_is_noted()
+    ensures { UnjudgedIsNoted }
 {}

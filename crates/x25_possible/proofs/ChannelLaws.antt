@@ -21,7 +21,7 @@ nth_least low t h = omega arith
 nth_mod : (low t : ℕ) → nth low (t % 8) % 8 ≡ t % 8
 nth_mod low t = omega arith
 
-nth_from : (low n : ℕ) → low ≤ nth low n
+pub nth_from : (low n : ℕ) → low ≤ nth low n
 nth_from low n = omega arith
 
 -- ---- as good
@@ -61,10 +61,10 @@ from_one (Some s) r (inr h) = absurd h
 
 -- ---- acknowledgements
 
-record Acknowledges (t : ℕ) (k : Talk) (pr : ℕ) : Type 0 where
-  number : pr ≡ t % 8
-  rising : k.told ≤ t
-  taken : t ≤ k.taken
+pub record Acknowledges (t : ℕ) (k : Talk) (pr : ℕ) : Type 0 where
+  pub number : pr ≡ t % 8
+  pub rising : k.told ≤ t
+  pub taken : t ≤ k.taken
 
 acknowledges : (t : ℕ) (k : Talk) (pr : ℕ) → may_ack t k pr ≡ true → Acknowledges t k pr
 acknowledges t k pr h =
@@ -72,7 +72,7 @@ acknowledges t k pr h =
     let b = and_parts (pr == t % 8) (nat_le k.told t) a.0 in
     record { number = eqb-true pr (t % 8) b.0; rising = leb-true k.told t b.1; taken = leb-true t k.taken a.1 }
 
-may_acknowledge : (t : ℕ) (k : Talk) (pr : ℕ) → Acknowledges t k pr → may_ack t k pr ≡ true
+pub may_acknowledge : (t : ℕ) (k : Talk) (pr : ℕ) → Acknowledges t k pr → may_ack t k pr ≡ true
 may_acknowledge t k pr h =
     and_from (pr == t % 8 && nat_le k.told t) (nat_le t k.taken)
     (and_from (pr == t % 8) (nat_le k.told t) (eq-eqb pr (t % 8) h.number) (le-leb k.told t h.rising))

@@ -9,3 +9,4 @@ mod RoomLemmas
 mod MannerLemmas
 mod TapeLemmas
 mod AloneLemmas
+mod BeyondLemmas

@@ -1,3 +1,4 @@
 -- What the laws of this crate say (src/law.rt).
 pub mod Possible
 pub mod Sets
+pub mod Beyond

@@ -3,7 +3,8 @@ ghost use Rattle.std.specs.Prelude.{List};
 ghost use Rattle.x25_bits.specs.declared.role.Role.{Role};
 ghost use Rattle.x25_possible.specs.laws.Possible.{Choices, TellsExactly, patient, rules_of};
 ghost use Rattle.x25_possible.specs.Channel.{channel_choices, channel_rules};
-ghost use Rattle.x25_possible.specs.rows.Rows.{RowsAreKnown, RowsAreTold, RowsAreUntold};
+ghost use Rattle.x25_possible.specs.laws.Beyond.{NumbersGoOn, RequestsGoAgain};
+ghost use Rattle.x25_possible.specs.rows.Rows.{RowsAreKnown, RowsAreTold, RowsAreUntold, RowsGoOn};
 ghost use Rattle.x25_possible.specs.laws.Sets.{GuiltyAreTold, InnocentsStayUntold, SendsExactly, ShowsExactly};
 ghost use Rattle.x25_possible.specs.laws.Sets.{FoundStayUntold, PoliteStayUntold, StaysKnown};
 ghost use Rattle.x25_possible.specs.declared.phase.Phase.{Phase};
@@ -25,6 +26,7 @@ pub fn rows_are_told()
     ensures told { RowsAreTold }
     ensures untold { RowsAreUntold }
     ensures known { RowsAreKnown }
+    ensures goes_on { RowsGoOn }
 {}
 
 /// What a set tells of an end, packet by packet.
@@ -56,4 +58,14 @@ pub fn guilty_are_told()
 /// Nor are manners told of one that keeps these too.
 pub fn polite_stay_untold()
     ensures { PoliteStayUntold }
+{}
+
+/// After a packet that breaks a rule of numbers the one with the next P(S) breaks none.
+pub fn numbers_go_on()
+    ensures { NumbersGoOn }
+{}
+
+/// A request goes again where it leaves the end in the state in which it was, wherever that may be.
+pub fn requests_go_again()
+    ensures { RequestsGoAgain }
 {}

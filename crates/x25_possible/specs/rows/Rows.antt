@@ -2,17 +2,19 @@
 use Rattle.std.specs.Prelude.{◌≡◌, ℕ, Bool, true, false, List, [], ◌∷◌, ◌++◌, map, None}
 use Rattle.x25_possible.specs.laws.Possible.{Item, Own, Other, Place, possible}
 use Rattle.x25_possible.specs.Channel.{channel_choices}
-use Rattle.x25_possible.specs.code.Steps.{any, begun, doubted, is_known, lost, played, ready}
+use Rattle.x25_possible.specs.code.Steps.{any, begun, behind, doubted, is_known, lost, played, ready}
+use Rattle.x25_possible.specs.code.Steps.{repeats, sends_to}
 use Rattle.x25_possible.specs.declared.packet.Said.{Said}
 use Rattle.x25_possible.specs.declared.packet.Packet.{Packet}
 use Rattle.x25_possible.specs.declared.packet.Packet.TheVariants.{Call, Accept, Clear, ClearConf, Reset, ResetConf}
-use Rattle.x25_possible.specs.declared.packet.Packet.TheVariants.{Restart, RestartConf, Rr, InterruptConf, Elsewhere}
-use Rattle.x25_possible.specs.declared.packet.Packet.TheVariants.{Data}
+use Rattle.x25_possible.specs.declared.packet.Packet.TheVariants.{Restart, RestartConf, Rr, Interrupt, InterruptConf}
+use Rattle.x25_possible.specs.declared.packet.Packet.TheVariants.{Data, Elsewhere}
 use Rattle.x25_possible.specs.declared.packet.Terms.{Terms}
 use Rattle.x25_possible.specs.declared.phase.Phase.{Phase}
 use Rattle.x25_bits.specs.declared.role.Role.{Role}
 use Rattle.x25_bits.specs.declared.role.Role.TheVariants.{Dte, Dce}
 use Rattle.x25_possible.specs.declared.phase.Phase.TheVariants.{Idle}
+use Rattle.x25_possible.specs.declared.set.Told.TheVariants.{Nothing}
 
 abbrev pub usual : Terms
 usual = record { calling_size = 128; called_size = 128; calling_window = 2; called_window = 2 }
@@ -54,6 +56,10 @@ pub record RowsAreTold : Type 0 where
   pub elsewhere : is_told Dte (Own Elsewhere ∷ Own Restart ∷ []) ≡ true
   -- P(R) out of range while the other end's RESET and then its CLEAR are
   pub pr_behind_both : is_told Dte (Own (Rr 4) ∷ Other Clear ∷ Other Reset ∷ calling) ≡ true
+  -- an eighth data packet where none is acknowledged, a P(S) that isn't the next, a second interrupt
+  pub eighth : is_told Dte (sending (7 ∷ 6 ∷ 5 ∷ 4 ∷ 3 ∷ 2 ∷ 1 ∷ 0 ∷ []) ++ calling) ≡ true
+  pub number : is_told Dte (sending (2 ∷ []) ++ calling) ≡ true
+  pub interrupts : is_told Dte (Own Interrupt ∷ Own Interrupt ∷ calling) ≡ true
 
 pub record RowsAreUntold : Type 0 where
   -- RESTART again, as timer T20 has it, and one confirmation; CLEAR and RESET again, as T23 and T22 have it
@@ -86,6 +92,11 @@ pub record RowsAreUntold : Type 0 where
   pub dropped_before_restart_conf :
       is_told Dte (Own (Rr 0) ∷ calling ++ Own RestartConf ∷ Other Restart ∷ Other (Call usual) ∷ Other Restart ∷ [])
       ≡ false
+  -- seven, and the eighth once one is acknowledged; an interrupt once the one before is confirmed
+  pub seventh : is_told Dte (sending (6 ∷ 5 ∷ 4 ∷ 3 ∷ 2 ∷ 1 ∷ 0 ∷ []) ++ calling) ≡ false
+  pub eighth :
+      is_told Dte (sending (7 ∷ []) ++ Other (Rr 1) ∷ sending (6 ∷ 5 ∷ 4 ∷ 3 ∷ 2 ∷ 1 ∷ 0 ∷ []) ++ calling) ≡ false
+  pub interrupts : is_told Dte (Own Interrupt ∷ Other InterruptConf ∷ Own Interrupt ∷ calling) ≡ false
   -- two resets on the way, of which it has taken one
   pub resets : is_told Dte (Own (Rr 0) ∷ Own ResetConf ∷ Other Reset ∷ Other Reset ∷ calling) ≡ false
 
@@ -121,3 +132,15 @@ pub record RowsAreKnown : Type 0 where
   pub restarts : is_known (played (any Dte) (Own Restart ∷ [])) ≡ false
   pub of_before : is_known (played (any Dte) (Own (Rr 0) ∷ Other (Rr 0) ∷ [])) ≡ false
   pub in_doubt : is_known (played (doubted (any Dte)) (Own (Rr 0) ∷ called)) ≡ false
+
+-- what a set tells after a fault, and of requests that go again
+pub record RowsGoOn : Type 0 where
+  -- the next number after one that was wrong, and after that
+  pub number : (sends_to (Data false false 3 0 9) (behind Dte (sending (2 ∷ []) ++ calling))).told ≡ Nothing
+  pub numbers : (sends_to (Data false false 4 0 9) (behind Dte (sending (3 ∷ 2 ∷ []) ++ calling))).told ≡ Nothing
+  pub known : is_known (behind Dte (sending (3 ∷ 2 ∷ []) ++ calling)) ≡ true
+  -- RESET, CLEAR and RESTART before their answer, and a first one
+  pub reset : repeats Reset (behind Dte (Own Reset ∷ calling)) ≡ true
+  pub clear : repeats Clear (behind Dte (Own Clear ∷ calling)) ≡ true
+  pub restart : repeats Restart (behind Dte (Own Restart ∷ calling)) ≡ true
+  pub first : repeats Reset (behind Dte calling) ≡ false

@@ -11,7 +11,8 @@ use Rattle.x25_world.specs.World.{refusal_of, after, run, AreAccepted, establish
 use Rattle.x25_world.specs.laws.Claims.{AreInOctets, IsUpOnce, IsUpAtMostOnce, IsBeginning, NoneConnects}
 use Rattle.x25_world.specs.laws.Claims.{IsLawful, IsNamed, ArrivesAll}
 use Rattle.x25_world.specs.laws.SessionClaims.{SessionsKeepOrder}
-use Rattle.x25_world.specs.{laws.BesideClaims.{BesideIsGiven}, laws.SessionWindow.{StaysInWindow, SessionsStayInWindow}}
+use Rattle.x25_world.specs.laws.{BesideClaims.{BesideIsGiven}, ConfirmedClaims.{ConfirmedAreHandedUp}}
+use Rattle.x25_world.specs.laws.SessionWindow.{StaysInWindow, SessionsStayInWindow}
 use Rattle.x25_world.specs.{code.ShownLine.{ShownLine, line_to}, BitDamage.{bit_damage, RefusesBits}}
 use Rattle.x25_world.specs.code.ShownWorld.{ShownWorld, line_of, TakesFewPlaces}
 use Rattle.x25_world.specs.declared.error.WorldError.{WorldError}
@@ -76,7 +77,7 @@ pub record Leaves (Holds : Cfg → World → Type 0) (cfg : Cfg) (from : World) 
 
 -- These events lead here. Up to the moment at which an end goes up a second time `lawful`, `named` and `arrives` hold,
 -- and from a link just set up `window`; `up_once` from there, where no `connect` is accepted; of each run, also where
--- the link is set up anew, `sessions`, `links` and `beside`.
+-- the link is set up anew, `sessions`, `links`, `beside` and `confirmed`.
 pub record RunHolds (cfg : Cfg) (from : World) (v : ShownWorld) (events : List Event) : Type 0 where
   pub fits : FitsRun cfg from v events
   pub lawful : IsUpAtMostOnce cfg (run cfg events from) → IsLawful cfg (run cfg events from)
@@ -88,6 +89,7 @@ pub record RunHolds (cfg : Cfg) (from : World) (v : ShownWorld) (events : List E
   pub sessions : SessionsKeepOrder cfg (run cfg events from)
   pub links : SessionsStayInWindow cfg from events (run cfg events from)
   pub beside : BesideIsGiven cfg from events (run cfg events from)
+  pub confirmed : ConfirmedAreHandedUp cfg (run cfg events from)
 
 abbrev pub EachRunHolds : Type 0
 EachRunHolds = (cfg : Cfg) (from : World) (v : ShownWorld) (events : List Event) → IsBeginning cfg from

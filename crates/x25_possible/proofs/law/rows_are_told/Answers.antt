@@ -3,7 +3,7 @@ use Rattle.x25_possible.proofs.law.rows_are_told.Goals as goal
 
 pub returns : goal.returns
 returns c = record {
-  told = record { pr_behind_restart = refl; conf_behind_restart = refl; rr_behind_reset = refl; elsewhere = refl; pr_behind_both = refl };
+  told = record { pr_behind_restart = refl; conf_behind_restart = refl; rr_behind_reset = refl; elsewhere = refl; pr_behind_both = refl; eighth = refl; number = refl; interrupts = refl };
   untold = record {
     restart_again = refl;
     clear_again = refl;
@@ -18,6 +18,9 @@ returns c = record {
     dropped_before_clear_conf = refl;
     dropped_before_reset_conf = refl;
     dropped_before_restart_conf = refl;
+    seventh = refl;
+    eighth = refl;
+    interrupts = refl;
     resets = refl;
   };
   known = record {
@@ -40,4 +43,5 @@ returns c = record {
     of_before = refl;
     in_doubt = refl;
   };
+  goes_on = record { number = refl; numbers = refl; known = refl; reset = refl; clear = refl; restart = refl; first = refl };
 }

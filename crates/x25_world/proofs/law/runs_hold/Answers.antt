@@ -27,5 +27,6 @@ returns c =
         sessions = sessions cfg h.settings from begins events h.octets;
         links = of.window cfg h.settings from begins events h.octets;
         beside = of.beside cfg h.settings from begins events h.octets;
+        confirmed = of.confirmed cfg h.settings from begins events h.octets;
       };
     }
