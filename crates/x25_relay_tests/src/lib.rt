@@ -1,6 +1,8 @@
-//! Tests of `x25_relay` and `x25_routes`: each of their public functions with ample memory.
+//! Tests of `x25_relay`, `x25_routes` and `x25_crossing`: each of their public functions with ample memory.
 #![tactic(auto)]
 
+#[cfg(test)]
+mod crossings;
 #[cfg(test)]
 mod relays;
 #[cfg(test)]

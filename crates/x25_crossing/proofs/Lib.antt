@@ -1,0 +1,3 @@
+mod CauseLemmas
+mod EndLemmas
+mod HandingLemmas

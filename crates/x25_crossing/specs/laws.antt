@@ -1,0 +1,3 @@
+pub mod CauseLaw
+pub mod EndLaw
+pub mod HandingLaw

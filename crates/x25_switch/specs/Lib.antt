@@ -1,0 +1,5 @@
+pub mod Leg
+pub mod Calls
+pub mod Switch
+pub mod Request
+pub mod code
