@@ -20,7 +20,7 @@ _x25() {
             station:station) words="dte dce --help" ;;
             station:*)
                 words="--long --say-sizes --wide --k --n2 --channels --incoming --outgoing --message --clock --help"
-                [[ " ${COMP_WORDS[*]} " != *" --clock "* ]] || words+=" --t1 --t3 --t20 --t21 --t22 --t23"
+                [[ " ${COMP_WORDS[*]} " != *" --clock "* ]] || words+=" --t1 --t3 --t20 --t21 --t22 --t23 --t26"
                 ;;
             judge:--at) words="line dte dce either" ;;
             judge:*) words="--k --at --long --loose --wide --manners --strict --help" ;;

@@ -27,6 +27,7 @@ use Rattle.x25_settings.specs.declared.options.GivenTimes.{GivenTimes}
 use Rattle.x25_settings.specs.declared.options.Place.{Place}
 use Rattle.x25_settings.specs.declared.options.Simulation.{Simulation}
 use Rattle.x25_settings.specs.declared.options.StationOptions.{StationOptions}
+use Rattle.x25_settings.specs.declared.words.Asked.{Asked}
 use Rattle.x25_settings.specs.declared.words.Task.{Task}
 use Rattle.x25_settings.specs.declared.words.Task.TheVariants.{Decode, Vectors, Sim, Station, Judge, Deframe, Frame}
 use Rattle.x25_sim.specs.code.Stream as simulating
@@ -69,6 +70,7 @@ times_in end given = record {
   t21 = unwrap_or given.t21 (standard end).t21;
   t22 = unwrap_or given.t22 (standard end).t22;
   t23 = unwrap_or given.t23 (standard end).t23;
+  t26 = unwrap_or given.t26 (standard end).t26;
 }
 
 -- one station, with a clock or without
@@ -141,3 +143,13 @@ pub record EndsOnOne (F : Type 0) (remaining : F → Option (List ℕ)) (task : 
 abbrev pub EndsOnFile : (F : Type 0) → (F → Option (List ℕ)) → Task → ℕ → Option (List ℕ) → Option (List ℕ) → Type 0
 EndsOnFile F remaining task status old now =
     EndsOnOne F remaining task status old now ⊎ ((status ≡ 2) × (now ≡ old))
+
+-- how what words ask for ends: on what the reader gives, or on a file
+abbrev pub EndsBy : (F : Type 0) → (F → Option (List ℕ)) → Task → Option ℕ → ℕ
+    → Option (List ℕ) → Option (List ℕ) → Option (List ℕ) → Type 0
+EndsBy F remaining task None status input old now = Ends task status input old now
+EndsBy F remaining task (Some place) status input old now = EndsOnFile F remaining task status old now
+
+abbrev pub EndsOn : (F : Type 0) → (F → Option (List ℕ)) → Asked → ℕ
+    → Option (List ℕ) → Option (List ℕ) → Option (List ℕ) → Type 0
+EndsOn F remaining asked status input old now = EndsBy F remaining asked.task asked.file status input old now

@@ -1,7 +1,7 @@
-//! What is said on standard error of the lines that are none of a script.
+//! What is said on standard error of the lines of a script that are none, and of those that are refused.
+use crate::nearest::Nearest;
 use std::alloc::Global;
 use std::str;
-use strsim::levenshtein;
 use x25_sim::Reporter;
 
 /// A word that says what a line asks for, and the form of such a line.
@@ -110,45 +110,43 @@ static OF_THE_LINE: [Form; 8] = [
     },
 ];
 
-/// The most edits that lead from a word to one that may be meant, and so of a short word.
-const MOST_EDITS: usize = 2;
-
-const MOST_OF_SHORT: usize = 1;
-
-/// The most octets of a short word.
-const SHORT: usize = 3;
-
-/// The most octets of a word that is compared.
-const MOST_WORD: usize = 16;
+/// What the number of an error says of what a line asks for.
+fn meaning<'a>(error: u8) -> &'a str {
+    match error {
+        9 => "the link isn't up",
+        10 => "256 packets wait",
+        11 => "timer T1 isn't running",
+        12 => "the link is being set up",
+        13 => "the link was ended",
+        15 => "the link is up",
+        30 => "not in this state of the channel",
+        31 => "8 messages wait",
+        32 => "a message that is too long",
+        33 => "an interrupt isn't confirmed yet",
+        34 => "a parameter is out of range",
+        40 => "a restart is under way",
+        41 => "no channel is free",
+        42 => "no such channel",
+        50 => "nothing is on the line",
+        51 => "no frame at that place",
+        52 => "the damage can't be seen: the octets pass the frame check sequence",
+        54 => "timer T1, while the SABM of the end or a UA to it is on the line",
+        _ => "refused",
+    }
+}
 
 /// The form of the lines with a word.
 fn form_of<'a>(word: &str, forms: &'a [Form]) -> Option<&'a Form> {
     forms.iter().find(|form| form.word == word)
 }
 
-/// The word that is nearest to another one, where few edits lead there.
-fn nearest<'a>(alloc: Global, word: &str, forms: &'a [Form]) -> Option<&'a Form> {
-    if word.len() > MOST_WORD {
-        return None;
-    }
-    let mut found = None;
-    let mut least = if word.len() > SHORT {
-        MOST_EDITS
-    } else {
-        MOST_OF_SHORT
-    };
+/// The word of a form that may be meant by another one.
+fn nearest(alloc: Global, word: &str, forms: &'static [Form]) -> Option<&'static str> {
+    let mut nearest = Nearest::new(alloc, word);
     for form in forms {
-        match levenshtein(alloc, word, form.word) {
-            Ok(edits) if edits <= least => {
-                if found.is_none() || edits < least {
-                    found = Some(form);
-                }
-                least = edits;
-            }
-            _ => {}
-        }
+        nearest = nearest.or(form.word);
     }
-    found
+    nearest.found()
 }
 
 /// The word of a line that says what it asks for, and the forms that it may have.
@@ -235,10 +233,8 @@ impl<'a, E: Eprint + AllocGlobal> Explainer<'a, E> {
             }
         } else if let Some(near) = nearest(self.rt.alloc(), word, forms) {
             eprintln!(self.rt;
-                "line {number}: no such event '{line:.60}' (did you mean {}?)",
-                near.word
-            )
-            .ok();
+                "line {number}: no such event '{line:.60}' (did you mean {near}?)"
+            ).ok();
         } else {
             let hint = if line.starts_with('#') {
                 " (--loose takes comments)"
@@ -247,6 +243,19 @@ impl<'a, E: Eprint + AllocGlobal> Explainer<'a, E> {
             };
             eprintln!(self.rt; "line {number}: no such event '{line:.60}'{hint}").ok();
         }
+    }
+
+    /// Whether one line more may be told of; of the last one it says so.
+    fn may_tell(&mut self) -> bool {
+        if self.told == MOST_TOLD {
+            self.told += 1;
+            eprintln!(self.rt; "no more is said of such lines").ok();
+        }
+        if self.told > MOST_TOLD {
+            return false;
+        }
+        self.told += 1;
+        true
     }
 
     /// Says what is wrong with a line that isn't empty.
@@ -277,13 +286,20 @@ impl<'a, E: Eprint + AllocGlobal> Reporter for Explainer<'a, E> {
             }
             return;
         }
-        if self.told >= MOST_TOLD {
+        if self.may_tell() {
+            self.tell(number, line);
+        }
+    }
+
+    fn refuse(&mut self, number: u64, error: u8, line: &[u8]) {
+        if !self.may_tell() {
             return;
         }
-        self.told += 1;
-        self.tell(number, line);
-        if self.told == MOST_TOLD {
-            eprintln!(self.rt; "no more is said of such lines").ok();
-        }
+        let text = str::from_utf8(line).unwrap_or("");
+        eprintln!(self.rt;
+            "line {number}: ! {error}, {}: '{text:.60}'",
+            meaning(error)
+        )
+        .ok();
     }
 }

@@ -70,6 +70,7 @@ fn times_of(end: Role, given: GivenTimes) -> Times
         t21: given.t21.unwrap_or(usual.t21),
         t22: given.t22.unwrap_or(usual.t22),
         t23: given.t23.unwrap_or(usual.t23),
+        t26: given.t26.unwrap_or(usual.t26),
     }
 }
 

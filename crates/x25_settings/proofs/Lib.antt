@@ -1,3 +1,4 @@
 pub mod NumberLemmas
-pub mod ChoiceLemmas
-pub mod TaskLemmas
+pub mod ItemLemmas
+pub mod RangeLemmas
+pub mod WordLemmas

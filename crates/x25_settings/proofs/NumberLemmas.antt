@@ -3,7 +3,7 @@ use Rattle.std.proofs.Common.{◌≡◌, ◌∙◌, ◌<◌, ◌≤◌, ℕ, tru
 use Rattle.std.proofs.lemmas.{Bool.{and_parts, and_from}, Bool.Decides.{nat_tests}, Fmt.{decimal_is_IsNumeral, parse-decimal}, Option.{cond_some}}
 use Rattle.std.{proofs.lemmas.Slice.Eq.{bytes_eq-Decides}, specs.Prelude.{cond, ◌&&◌}, specs.Result.{result_ok}, specs.Str.{bytes_eq}}
 use Rattle.std.specs.Str.Parse.{ParsesUnsigned, digits_value}
-use Rattle.x25_settings.specs.Options.Choosing.{number_in}
+use Rattle.x25_settings.specs.Options.{number_in}
 
 -- what is read is in its range, and written so
 pub number_found : (least most : ℕ) (text : List ℕ) (n : ℕ) → number_in least most text ≡ Some n → (least ≤ n) × (n ≤ most) × (text ≡ decimal n)

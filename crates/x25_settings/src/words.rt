@@ -1,17 +1,17 @@
 //! What the words of the command line ask for.
-ghost use Rattle.std.specs.Prelude.{◌≡◌, Ok, IfOk, map};
-ghost use Rattle.x25_settings.specs.Options.Choosing.{deframe_in, task_behind, task_in, vectors_in};
-ghost use Rattle.x25_settings.specs.Words.{AreInRange, Say};
-ghost use Rattle.x25_settings.specs.declared.words.SettingsError.TheVariants.{NoMemory};
-ghost use Rattle.x25_settings.specs.declared.words.Task.{Task as TaskValue};
+ghost use Rattle.std.specs.Prelude.{◌≡◌, false, IfOk, Some, Err, map, length};
+ghost use Rattle.x25_settings.specs.Items.{items};
+ghost use Rattle.x25_settings.specs.Words.{AreInRange, asked_behind, asked_in, clock_of, end_of};
+ghost use Rattle.x25_settings.specs.Words.{file_of, front_fault, placed_at, station_of, task_of};
 
-use crate::options::{
-    Decoding, End, Judging, Place, Simulation, end_word, is, read_decode, read_frame, read_judging,
-    read_place, read_simulation, split_word,
+use crate::items::{
+    Named, asks_help, asks_version, first_fault, given, is_chosen, number_of, operand_of, place_of,
+    split_word,
 };
-use crate::parser::command;
-use clap::error::ErrorKind;
-use std::alloc::{AllocError, Global};
+use crate::options::{
+    At, Choice, Command, Decoding, End, GivenTimes, Judging, Place, Simulation, StationOptions,
+    command_named, is,
+};
 use std::convert::AsStr;
 
 /// What to run.
@@ -30,160 +30,240 @@ pub enum Task {
     },
 }
 
-/// Why nothing runs.
-#[derive(Debug, Drop)]
-pub enum SettingsError {
-    /// The words are not plain. The parser's text says why.
-    Usage(clap::Error),
-    /// The parser was refused memory.
-    NoMemory,
+/// What the words ask for.
+#[derive(Clone, Copy, Debug, PartialEq, Eq)]
+pub struct Asked {
+    pub task: Task,
+    /// Which of the words, from 0 on, names the file that is read in place of standard input.
+    pub file: Option<usize>,
 }
 
-impl SettingsError {
-    ghost use Rattle.x25_settings.specs.Words.SettingsError.{number_of, exit_status_of};
-
-    /// The number of the error: 63 for words that aren't plain, 70 no memory.
-    pub fn number(&self) -> u8
-        ensures { result ≡ number_of self.now }
-    {
-        match self {
-            SettingsError::Usage(_) => 63,
-            SettingsError::NoMemory => 70,
-        }
-    }
-
-    /// The exit status that the error gives the program: 2 for words that aren't plain, 3 for want of memory. Profile.
-    pub fn exit_status(&self) -> u8
-        ensures { result ≡ exit_status_of self.now }
-    {
-        match self {
-            SettingsError::Usage(_) => 2,
-            SettingsError::NoMemory => 3,
-        }
-    }
+/// Why words ask for nothing.
+#[derive(Clone, Copy, Debug, PartialEq, Eq)]
+pub enum Why {
+    /// They ask for help.
+    Help,
+    /// They ask for the version.
+    Version,
+    NoCommand,
+    UnknownCommand,
+    UnknownOption,
+    /// The command hasn't got this option.
+    NotHere,
+    /// The option comes again.
+    Twice,
+    WantsValue,
+    WantsNone,
+    /// The value is no number from the first to the second, written without a sign and leading zeros.
+    Number(u32, u32),
+    /// The value is no place of a trace.
+    Place,
+    NoEnd,
+    /// The word is no end.
+    End,
+    TooMany,
+    /// A time is given, and no clock.
+    NoClock,
+    /// More channels are one-way than there are.
+    OneWay,
 }
 
-impl From<AllocError> for SettingsError {
-    ghost from_gives = { λ _ e. e ≡ NoMemory };
-
-    fn from(_error: AllocError) -> SettingsError {
-        SettingsError::NoMemory
-    }
+/// Words that ask for nothing.
+#[derive(Clone, Copy, Debug, PartialEq, Eq)]
+pub struct Refusal {
+    /// Their command.
+    pub command: Option<Command>,
+    /// Which word is refused, from 0 on; their number where none of them is.
+    pub place: usize,
+    pub why: Why,
 }
 
-/// What the words behind `vectors` say, where they are plain.
-fn read_vectors<S: AsStr>(words: &[S]) -> Option<Task>
-    ensures { result ≡ vectors_in (map S.text words.now) }
+fn refuse(command: Command, place: usize, why: Why) -> Refusal
+    ensures { result ≡ record { command = Some command; place = place; why = why } }
 {
-    match words {
-        [] => Some(Task::Vectors),
+    Refusal {
+        command: Some(command),
+        place,
+        why,
+    }
+}
+
+/// What a station is run with.
+fn station_of<S: AsStr>(command: Command, words: &[S]) -> StationOptions
+    ensures { result ≡ station_of (items command false (map S.text words.now)) }
+{
+    StationOptions {
+        long: is_chosen(command, words, Choice::Long),
+        say_sizes: is_chosen(command, words, Choice::SaySizes),
+        wide: is_chosen(command, words, Choice::Wide),
+        k: number_of(command, words, Choice::Window) as u8,
+        n2: number_of(command, words, Choice::Tries) as u8,
+        channels: number_of(command, words, Choice::Channels) as u16,
+        incoming: number_of(command, words, Choice::Incoming) as u16,
+        outgoing: number_of(command, words, Choice::Outgoing) as u16,
+        message: number_of(command, words, Choice::Message) as u16,
+    }
+}
+
+/// The times of the clock, where there is one.
+fn clock_of<S: AsStr>(command: Command, words: &[S]) -> Option<GivenTimes>
+    ensures { result ≡ clock_of (items command false (map S.text words.now)) }
+{
+    if !is_chosen(command, words, Choice::Clock) {
+        return None;
+    }
+    Some(GivenTimes {
+        t1: given(command, words, Choice::T1),
+        t3: given(command, words, Choice::T3),
+        t20: given(command, words, Choice::T20),
+        t21: given(command, words, Choice::T21),
+        t22: given(command, words, Choice::T22),
+        t23: given(command, words, Choice::T23),
+        t26: given(command, words, Choice::T26),
+    })
+}
+
+/// The end that is named.
+fn end_of<S: AsStr>(command: Command, words: &[S]) -> Option<End>
+    ensures { result ≡ end_of (items command false (map S.text words.now)) }
+{
+    match operand_of(command, words, false) {
+        Some((_, Named::End(end))) => Some(end),
         _ => None,
     }
 }
 
-/// What the words behind `deframe` say, where they are plain.
-fn read_deframe<S: AsStr>(words: &[S]) -> Option<Task>
-    ensures { result ≡ deframe_in (map S.text words.now) }
+/// The file that is named, by how many words are left there.
+fn file_of<S: AsStr>(command: Command, words: &[S]) -> Option<usize>
+    ensures { result ≡ file_of command (items command false (map S.text words.now)) }
 {
-    match words {
-        [word] => Some(Task::Deframe(end_word(word.as_str())?)),
-        _ => None,
+    match operand_of(command, words, command.has_end()) {
+        None | Some((_, Named::Input)) => None,
+        Some((left, _)) => Some(left),
     }
 }
 
-/// What a word and those behind it say, where they are plain.
-fn read_behind<S: AsStr>(word: &str, words: &[S]) -> Option<Task>
-    ensures { result ≡ task_behind word.now (map S.text words.now) }
+/// What the words behind `station` say.
+fn station<S: AsStr>(command: Command, words: &[S]) -> Result<Task, Why>
+    ensures { result ≡ placed_at (items command false (map S.text words.now))
+        (end_of (items command false (map S.text words.now))) }
 {
-    if is(word, "decode") {
-        Some(Task::Decode(read_decode(words)?))
-    } else if is(word, "vectors") {
-        read_vectors(words)
-    } else if is(word, "sim") {
-        Some(Task::Sim(read_simulation(words)?))
-    } else if is(word, "station") {
-        Some(Task::Station(read_place(words)?))
-    } else if is(word, "judge") {
-        Some(Task::Judge(read_judging(words)?))
-    } else if is(word, "deframe") {
-        read_deframe(words)
-    } else if is(word, "frame") {
-        Some(Task::Frame {
-            loose: read_frame(words)?,
-        })
+    let Some(end) = end_of(command, words) else {
+        return Err(Why::NoEnd);
+    };
+    let station = station_of(command, words);
+    let one_way = usize::from(station.incoming) + usize::from(station.outgoing);
+    if one_way <= usize::from(station.channels) {
+        let clock = clock_of(command, words);
+        Ok(Task::Station(Place {
+            end,
+            station,
+            clock,
+        }))
     } else {
-        None
+        Err(Why::OneWay)
     }
 }
 
-/// What the words say, where they are plain.
-fn read_task<S: AsStr>(words: &[S]) -> Option<Task>
-    ensures { result ≡ task_in (map S.text words.now) }
+/// What the words behind a command say.
+fn task_of<S: AsStr>(command: Command, words: &[S]) -> Result<Task, Why>
+    ensures { result ≡ task_of command (items command false (map S.text words.now)) }
 {
-    let (word, behind) = split_word(words)?;
-    read_behind(word, behind)
+    Ok(match command {
+        Command::Decode => Task::Decode(Decoding {
+            long: is_chosen(command, words, Choice::Long),
+            loose: is_chosen(command, words, Choice::Loose),
+            wide: is_chosen(command, words, Choice::Wide),
+        }),
+        Command::Vectors => Task::Vectors,
+        Command::Sim => Task::Sim(Simulation {
+            down: is_chosen(command, words, Choice::Down),
+            tap: is_chosen(command, words, Choice::Tap),
+            events: is_chosen(command, words, Choice::Events),
+            loose: is_chosen(command, words, Choice::Loose),
+            station: station_of(command, words),
+        }),
+        Command::Station => return station(command, words),
+        Command::Judge => Task::Judge(Judging {
+            long: is_chosen(command, words, Choice::Long),
+            loose: is_chosen(command, words, Choice::Loose),
+            manners: is_chosen(command, words, Choice::Manners),
+            strict: is_chosen(command, words, Choice::Strict),
+            wide: is_chosen(command, words, Choice::Wide),
+            k: number_of(command, words, Choice::Window) as u8,
+            at: place_of(command, words),
+        }),
+        Command::Deframe => Task::Deframe(end_of(command, words).ok_or(Why::NoEnd)?),
+        Command::Frame => Task::Frame {
+            loose: is_chosen(command, words, Choice::Loose),
+        },
+    })
 }
 
-/// What is said of words that the parser takes and that aren't plain.
-const NOT_PLAIN: &str =
-    "each option is one word, and its number the next one, without a sign and leading zeros: `--k 3`; \
-     and no more channels are one-way than there are";
-
-/// What the parser says of words, `None` where it takes them.
-fn parser_fault<'a, S: AsStr>(
-    alloc: Global,
-    words: &'a [S],
-) -> Result<Option<clap::Error>, AllocError> {
-    match command(alloc)?.try_get_matches_from(words) {
-        Ok(matches) => {
-            drop(matches);
-            Ok(None)
+/// What the words behind a command ask for, where so many words are there in all.
+fn asked_behind<S: AsStr>(command: Command, count: usize, words: &[S]) -> Result<Asked, Refusal>
+    ensures { result ≡ asked_behind command count (items command false (map S.text words.now)) }
+{
+    if let Some((left, why)) = first_fault(command, words) {
+        return Err(refuse(command, count.saturating_sub(left), why));
+    }
+    match task_of(command, words) {
+        Err(why) => Err(refuse(command, count, why)),
+        Ok(task) => {
+            let file = match file_of(command, words) {
+                Some(left) => Some(count.saturating_sub(left)),
+                None => None,
+            };
+            Ok(Asked { task, file })
         }
-        Err(error) => Ok(Some(error)),
     }
 }
 
-/// The fault of words that the parser takes and that aren't plain, as `--k=3`.
-fn not_plain(alloc: Global) -> Result<clap::Error, AllocError> {
-    let mut program = command(alloc)?;
-    let error = program.error(ErrorKind::UnknownArgument, NOT_PLAIN);
-    drop(program);
-    error
-}
-
-/// The parser's fault of words that aren't plain, or that of words that it takes.
-fn fault_of<'a, S: AsStr>(alloc: Global, words: &'a [S]) -> Result<clap::Error, AllocError> {
-    match parser_fault(alloc, words)? {
-        Some(error) => Ok(error),
-        None => not_plain(alloc),
-    }
-}
-
-/// The usage fault of words that aren't plain.
-fn usage_fault<'a, S: AsStr>(alloc: Global, words: &'a [S]) -> SettingsError {
-    match fault_of(alloc, words) {
-        Ok(error) if error.kind() != ErrorKind::OutOfMemory => SettingsError::Usage(error),
-        _ => SettingsError::NoMemory,
+/// Why words whose first one is no command ask for nothing.
+fn front_refusal<S: AsStr>(word: &str, words: &[S]) -> Refusal
+    ensures { Err result ≡ front_fault word.now (map S.text words.now) }
+{
+    let (command, why) = if is(word, "help") {
+        let command = match split_word(words) {
+            Some((word, _)) => command_named(word),
+            None => None,
+        };
+        (command, Why::Help)
+    } else if asks_help(word) {
+        (None, Why::Help)
+    } else if asks_version(word) {
+        (None, Why::Version)
+    } else {
+        (None, Why::UnknownCommand)
+    };
+    Refusal {
+        command,
+        place: 0,
+        why,
     }
 }
 
 /// What the words after the program's name ask for.
 ///
-/// Plain words are a command and its options, each at most once and in any order, or `vectors` alone, or `deframe` and
-/// `dte` or `dce`. Options of `decode` are `--long`, `--loose` and `--wide`; of `judge` these, `--manners`,
-/// `--strict`, `--at` and `line`, `dte`, `dce` or `either`, and `--k N`; of `frame` `--loose`; of `station`, behind
-/// `dte` or `dce`, `--long`, `--say-sizes`, `--wide`, `--k N`, `--n2 N`, `--channels N` and `--message N`; of `sim`
-/// these, `--down`, `--events`, `--loose` and `--tap`. N is decimal without leading zeros, from 1 to 7, 255, 4,095, of
-/// `sim` 16, and 65,535; what isn't said is 7, 10, 1 and 65,535. `station` has `--incoming N` and `--outgoing N` too,
-/// which aren't more than the channels together, and `--clock`, and with it `--t1 N`, `--t3 N` and `--t20 N` to `--t23
-/// N`, from 0 to 86,400,000. All others are a usage fault, help words too. Plain words take no memory. Profile.
-pub fn settings<'a, S: AsStr>(alloc: Global, words: &'a [S]) -> Result<Task, SettingsError>
-    ensures plain { (task : TaskValue) → Say (map S.text words.now) task → result ≡ Ok task }
-    ensures only { IfOk result (Say (map S.text words.now)) }
-    ensures range { IfOk result AreInRange }
+/// The first word is the command. After it stand its options, an end where it is of one, and a file to read in place
+/// of standard input, which `-` is, in any order. An option is there once. Its value is the next word, or stands in
+/// its own word after `=`. After `--` no word is an option. A number is decimal without leading zeros. Profile.
+///
+/// Of `station`, no more channels are one-way than there are, and times are given with a clock alone. Err: the words
+/// ask for help or for the version, or the first of them that is wrong. It takes no memory.
+pub fn settings<S: AsStr>(words: &[S]) -> Result<Asked, Refusal>
+    ensures asked { result ≡ asked_in (map S.text words.now) }
+    ensures range { IfOk result (λ asked. AreInRange asked.task) }
 {
-    match read_task(words) {
-        Some(task) => Ok(task),
-        None => Err(usage_fault(alloc, words)),
+    let Some((word, behind)) = split_word(words) else {
+        return Err(Refusal {
+            command: None,
+            place: 0,
+            why: Why::NoCommand,
+        });
+    };
+    match command_named(word) {
+        Some(command) => asked_behind(command, words.len(), behind),
+        None => Err(front_refusal(word, behind)),
     }
 }

@@ -1,7 +1,6 @@
-use std::test::Fail;
 use x25_settings::{
-    At, Decoding, End, GivenTimes, Judging, Place, SettingsError, Simulation, StationOptions, Task,
-    settings,
+    Asked, At, Command, Decoding, End, GivenTimes, Judging, Place, Refusal, Simulation,
+    StationOptions, Task, Why, settings,
 };
 
 const DEFAULTS: StationOptions = StationOptions {
@@ -64,6 +63,7 @@ const USUAL_TIMES: GivenTimes = GivenTimes {
     t21: None,
     t22: None,
     t23: None,
+    t26: None,
 };
 
 /// A station with a clock.
@@ -345,8 +345,8 @@ fn takes_plain_words_alone(rt: HostRuntime) {
         ),
         (
             &[
-                "station", "dte", "--clock", "--t23", "23", "--t22", "22", "--t21", "21", "--t20",
-                "20",
+                "station", "dte", "--clock", "--t26", "26", "--t23", "23", "--t22", "22", "--t21",
+                "21", "--t20", "20",
             ],
             timed(
                 End::Dte,
@@ -355,225 +355,194 @@ fn takes_plain_words_alone(rt: HostRuntime) {
                     t21: Some(21),
                     t22: Some(22),
                     t23: Some(23),
+                    t26: Some(26),
                     ..USUAL_TIMES
                 },
             ),
         ),
     ];
     for (words, task) in plain {
-        let Ok(answer) = settings(rt.alloc(), words) else {
-            assert!(rt; false, "plain words");
-            return;
-        };
-        assert_eq!(rt; answer, task);
+        assert_eq!(rt; settings(words), Ok(Asked { task, file: None }));
     }
 }
 
+/// What words ask for, with the place of the word that names a file.
 #[test]
-fn takes_no_other_words(rt: HostRuntime) {
-    let others: [&[&str]; 84] = [
-        &[],
-        &["dec"],
-        &["decode", "decode"],
-        &["decode", "--"],
-        &["--", "decode"],
-        &["decode", "--k=3"],
-        &["decode", "--long", "--long"],
-        &["vectors", "--long"],
-        &["help"],
-        &["--help"],
-        &["sim", "--k", "8"],
-        &["sim", "--k", "0"],
-        &["sim", "--k", "03"],
-        &["sim", "--k", "+3"],
-        &["sim", "--k", "-3"],
-        &["sim", "--k", ""],
-        &["sim", "--k=3"],
-        &["sim", "--k"],
-        &["sim", "--k", "3", "--k", "3"],
-        &["sim", "--tap", "--tap"],
-        &["sim", "--long", "--long"],
-        &["sim", "--down", "--tap", "--down"],
-        &["sim", "--down=true"],
-        &["decode", "--down"],
-        &["sim", "--n2", "256"],
-        &["sim", "--channels", "17"],
-        &["station", "dte", "--channels", "0"],
-        &["station", "dte", "--channels", "4096"],
-        &["station", "dte", "--channels", "65537"],
-        &["station", "dte", "--incoming", "2"],
-        &[
-            "station",
-            "dte",
-            "--channels",
-            "4",
-            "--incoming",
-            "3",
-            "--outgoing",
-            "2",
-        ],
-        &["station", "dte", "--outgoing", "4096"],
-        &["station", "dte", "--message", "0"],
-        &["station", "dte", "--message", "65536"],
-        &["judge", "--message", "1"],
-        &["sim", "--incoming", "0"],
-        &["sim", "--chan", "2"],
-        &["sim", "--tap", "--"],
-        &["sim", "script"],
-        &["sim", "--help"],
-        &["station"],
-        &["station", "--k", "3"],
-        &["station", "DTE"],
-        &["station", "dte", "--tap"],
-        &["station", "dte", "--down"],
-        &["station", "--long", "dte"],
-        &["judge", "dte"],
-        &["judge", "--k", "8"],
-        &["judge", "--tap"],
-        &["judge", "--down"],
-        &["judge", "--say-sizes"],
-        &["judge", "--wide", "--wide"],
-        &["judge", "--at"],
-        &["judge", "--at", "DTE"],
-        &["judge", "--at", "dte", "--at", "dte"],
-        &["decode", "--at", "line"],
-        &["sim", "--at", "line"],
-        &["station", "dte", "--at", "dte"],
-        &["frame", "--at", "line"],
-        &["sim", "--strict"],
-        &["sim", "--manners"],
-        &["station", "dte", "--manners"],
-        &["station", "dte", "--say-sizes", "--say-sizes"],
-        &["judge", "--n2", "1"],
-        &["judge", "--channels", "1"],
-        &["deframe"],
-        &["deframe", "DTE"],
-        &["deframe", "dte", "dce"],
-        &["deframe", "dte", "--long"],
-        &["frame", "dte"],
-        &["frame", "--long"],
-        &["frame", "--loose", "--loose"],
-        &["station", "dte", "--loose"],
-        &["station", "dte", "--events"],
-        &["judge", "--events"],
-        &["decode", "--k", "3"],
-        &["vectors", "--loose"],
-        &["deframe", "dte", "--loose"],
-        &["station", "dte", "--t1", "5"],
-        &["station", "dte", "--clock", "--clock"],
-        &["station", "dte", "--clock", "--t1", "86400001"],
-        &["station", "dte", "--clock", "--t1", "1", "--t1", "1"],
-        &["station", "dte", "--clock", "--t21", "-1"],
-        &["sim", "--clock"],
+fn takes_words_in_any_order(rt: HostRuntime) {
+    let window = StationOptions { k: 3, ..DEFAULTS };
+    let decoding = Task::Decode(PLAIN_DECODING);
+    let loose = Task::Decode(Decoding {
+        loose: true,
+        ..PLAIN_DECODING
+    });
+    let rows: [(&[&str], Task, Option<usize>); 22] = [
+        (&["sim", "--k=3"], simulation(false, false, window), None),
+        (&["station", "--k=3", "dte"], place(End::Dte, window), None),
+        (
+            &["station", "--k", "3", "dce"],
+            place(End::Dce, window),
+            None,
+        ),
+        (
+            &["station", "dte", "script", "--k", "3"],
+            place(End::Dte, window),
+            Some(2),
+        ),
+        (
+            &["station", "--k", "3", "dte", "--", "dce"],
+            place(End::Dte, window),
+            Some(5),
+        ),
+        (&["decode", "trace"], decoding, Some(1)),
+        (&["decode", "trace", "--loose"], loose, Some(1)),
+        (&["decode", "--loose", "trace"], loose, Some(2)),
+        (&["decode", "decode"], decoding, Some(1)),
+        (&["decode", "dte"], decoding, Some(1)),
+        (&["decode", "--"], decoding, None),
+        (&["decode", "-"], decoding, None),
+        (&["decode", "-", "--loose"], loose, None),
+        (&["decode", "--", "-"], decoding, None),
+        (&["decode", "--loose", "--", "--loose"], loose, Some(3)),
+        (&["decode", "--", "--help"], decoding, Some(2)),
+        (&["decode", "--", "--"], decoding, Some(2)),
+        (&["decode", ""], decoding, Some(1)),
+        (&["judge", "--at=line", "f"], judging_at(At::Line), Some(2)),
+        (&["judge", "f", "--at", "dce"], judging_at(At::Dce), Some(1)),
+        (&["deframe", "dte", "dte"], Task::Deframe(End::Dte), Some(2)),
+        (&["vectors", "--"], Task::Vectors, None),
     ];
-    for words in others {
-        let is_usage = matches!(settings(rt.alloc(), words), Err(SettingsError::Usage(_)));
-        assert!(rt; is_usage);
+    for (words, task, file) in rows {
+        assert_eq!(rt; settings(words), Ok(Asked { task, file }));
     }
 }
-/// What a usage fault says, in the words of `clap`.
-const SAYS: &str =
-    "error: unrecognized subcommand 'quux'\n\nUsage: x25 <COMMAND>\n\nFor more information, try '--help'.\n";
 
-/// What asks for help is told.
-const HELP: &str =
-    "X.25 packet layer over LAPB, on lines of text\n\nUsage: x25 <COMMAND>\n\nCommands:\n  \
-decode   Answer lines of octets, `> HEX` from the DTE and `< HEX` from the DCE, by lines of text\n  \
-vectors  Run the stored test vectors\n  \
-sim      Run a script of two stations joined by a line, and write what each end is told\n  \
-station  Run one station: lines of the other end and of its user in, what it does out\n  \
-judge    Answer lines of a trace of both ends as `decode` does, in its place, and say which end broke which rule\n  \
-deframe  Answer octets of a synchronous line by the lines of a trace that it carries\n  \
-frame    Answer lines of a trace by octets of a synchronous line that carries their frames\n  \
-help     Print this message or the help of the given subcommand(s)\n\nOptions:\n  \
--h, --help     Print help\n  -V, --version  Print version\n";
-
-/// A number that is out of its range.
-const RANGE: &str =
-    "error: invalid value '8' for '--k <N>': 8 is not in 1..=7\n\nFor more information, try '--help'.\n";
-
-/// As many channels as a station may have are too many for a simulation.
-const TOO_MANY: &str = "error: invalid value '4095' for '--channels <N>': 4095 is not in 1..=16\n\n\
-For more information, try '--help'.\n";
-
-/// Words that the parser takes.
-const PLAIN: &str =
-    "error: each option is one word, and its number the next one, without a sign and leading zeros: `--k 3`; \
-and no more channels are one-way than there are\n\n\
-Usage: x25 <COMMAND>\n\nFor more information, try '--help'.\n";
-
-/// The help of `decode`.
-const DECODE: &str =
-    "Answer lines of octets, `> HEX` from the DTE and `< HEX` from the DCE, by lines of text\n\n\
-Usage: x25 decode [--long] [--loose] [--wide] [FILE]\n\nOptions:\n      \
---long   Take up to 128 octets of user data in a CALL, in place of 16\n      \
---loose  Read a time and a tab before a line, comments (#), empty lines and CR LF too\n      \
---wide   Read packets in all the forms that X.25 lets equipment send, and mark those by `~ wide`\n  \
--h, --help   Print help\n";
-
-/// The help of `sim`.
-const SIM: &str =
-    "Run a script of two stations joined by a line, and write what each end is told\n\n\
-Usage: x25 sim [OPTIONS] [FILE]\n\nOptions:\n      \
---tap           Tell the frames of each step behind its entries, as lines for `decode`\n      \
---down          Begin with both links down, in place of just set up\n      \
---events        Tell each event behind what it made\n      \
---loose         Read a time and a tab before a line, comments (#), empty lines and CR LF too\n      \
---long          Take up to 128 octets of user data in a CALL, in place of 16\n      \
---say-sizes     Say packet sizes and windows in each CALL and CALL ACCEPTED, also where they are the default\n      \
---wide          Take packets in all the forms that X.25 lets equipment send\n      \
---k <N>         The window of the link: 1 to 7 [default: 7]\n      \
---n2 <N>        How often an unanswered command of the link is sent again: 1 to 255 [default: 10]\n      \
---channels <N>  The number of logical channels: 1 to 16 [default: 1]\n      \
---message <N>   The most octets of a message, for which each call has memory: 1 to 65535 [default: 65535]\n  \
--h, --help          Print help\n\nExamples:\n  x25 sim < examples/call.script\n  \
-x25 sim --tap < examples/call.script | grep '^[<>]' | x25 decode\n";
-
-/// The help of `judge`.
-const JUDGE: &str =
-    "Answer lines of a trace of both ends as `decode` does, in its place, and say which end broke which rule\n\n\
-Usage: x25 judge [OPTIONS] [FILE]\n\nOptions:\n      \
---k <N>       The window of the link: 1 to 7 [default: 7]\n      \
---at <PLACE>  What the trace may lack, as `!?` says: nothing (line), what the line lost before this end (dte, dce), \
-any frame (either) [default: either] [possible values: line, dte, dce, either]\n      \
---long        Take up to 128 octets of user data in a CALL, in place of 16\n      \
---loose       Read a time and a tab before a line, comments (#), empty lines and CR LF too\n      \
---wide        Read packets in all the forms that X.25 lets equipment send, and mark those by `~ wide`\n      \
---manners     Answer status 1 too where manners were broken\n      \
---strict      Answer status 1 too where something wasn't judged, or missing frames may explain a rule\n  \
--h, --help        Print help\n\nExamples:\n  x25 judge < examples/exchange.trace\n  \
-x25 sim --tap < examples/losses.script | grep '^[<>]' | x25 judge --at line\n";
-
+/// The command, the place of the word that is refused, and why.
 #[test]
-fn says_what_is_wrong(rt: HostRuntime) -> Result<(), Fail> {
-    let rows: [(&[&str], &str); 9] = [
-        (&["quux"], SAYS),
-        (&["--help"], HELP),
-        (&["decode", "--help"], DECODE),
-        (&["sim", "--k", "8"], RANGE),
-        (&["sim", "--channels", "4095"], TOO_MANY),
-        (&["sim", "--k=3"], PLAIN),
-        (&["station", "dte", "--channels=4095"], PLAIN),
-        (&["sim", "--help"], SIM),
-        (&["judge", "--help"], JUDGE),
+fn says_why_it_takes_no_other_words(rt: HostRuntime) {
+    let channels = Why::Number(1, 16);
+    let (decode, sim, station) = (
+        Some(Command::Decode),
+        Some(Command::Sim),
+        Some(Command::Station),
+    );
+    let (judge, deframe) = (Some(Command::Judge), Some(Command::Deframe));
+    let rows: [(&[&str], Option<Command>, usize, Why); 68] = [
+        (&[], None, 0, Why::NoCommand),
+        (&["dec"], None, 0, Why::UnknownCommand),
+        (&["--", "decode"], None, 0, Why::UnknownCommand),
+        (&["--loose", "decode"], None, 0, Why::UnknownCommand),
+        (&["trace"], None, 0, Why::UnknownCommand),
+        (&["-h"], None, 0, Why::Help),
+        (&["--help"], None, 0, Why::Help),
+        (&["help"], None, 0, Why::Help),
+        (&["help", "sim"], sim, 0, Why::Help),
+        (&["help", "quux"], None, 0, Why::Help),
+        (&["--version"], None, 0, Why::Version),
+        (&["-V"], None, 0, Why::Version),
+        (&["sim", "--help"], sim, 1, Why::Help),
+        (&["station", "--k", "3", "-h"], station, 3, Why::Help),
+        (&["sim", "--k", "8", "--help"], sim, 1, Why::Number(1, 7)),
+        (&["sim", "-V"], sim, 1, Why::Version),
+        (&["decode", "--foo"], decode, 1, Why::UnknownOption),
+        (&["decode", "--foo=3"], decode, 1, Why::UnknownOption),
+        (&["decode", "-x"], decode, 1, Why::UnknownOption),
+        (&["decode", "--lon"], decode, 1, Why::UnknownOption),
+        (&["decode", "--="], decode, 1, Why::UnknownOption),
+        (&["decode", "--k=3"], decode, 1, Why::NotHere),
+        (&["decode", "--down"], decode, 1, Why::NotHere),
+        (&["decode", "--at", "line"], decode, 1, Why::NotHere),
+        (&["sim", "--incoming", "0"], sim, 1, Why::NotHere),
+        (&["sim", "--clock"], sim, 1, Why::NotHere),
+        (&["sim", "--strict"], sim, 1, Why::NotHere),
+        (&["station", "dte", "--loose"], station, 2, Why::NotHere),
+        (&["station", "dte", "--at", "dte"], station, 2, Why::NotHere),
+        (&["judge", "--message", "1"], judge, 1, Why::NotHere),
+        (&["judge", "--clock"], judge, 1, Why::NotHere),
+        (&["deframe", "dte", "--long"], deframe, 2, Why::NotHere),
+        (&["frame", "--long"], Some(Command::Frame), 1, Why::NotHere),
+        (
+            &["vectors", "--long"],
+            Some(Command::Vectors),
+            1,
+            Why::NotHere,
+        ),
+        (&["decode", "--long", "--long"], decode, 1, Why::Twice),
+        (&["sim", "--k", "3", "--k=3"], sim, 1, Why::Twice),
+        (
+            &["sim", "f", "--down", "--tap", "--down"],
+            sim,
+            2,
+            Why::Twice,
+        ),
+        (&["judge", "--at=dte", "--at", "dte"], judge, 1, Why::Twice),
+        (&["sim", "--k"], sim, 1, Why::WantsValue),
+        (&["judge", "f", "--at"], judge, 2, Why::WantsValue),
+        (&["sim", "--down=true"], sim, 1, Why::WantsNone),
+        (&["sim", "--down="], sim, 1, Why::WantsNone),
+        (&["sim", "--k", "8"], sim, 1, Why::Number(1, 7)),
+        (&["sim", "--k", "0"], sim, 1, Why::Number(1, 7)),
+        (&["sim", "--k", "03"], sim, 1, Why::Number(1, 7)),
+        (&["sim", "--k=+3"], sim, 1, Why::Number(1, 7)),
+        (&["sim", "--k", "-3"], sim, 1, Why::Number(1, 7)),
+        (&["sim", "--k", ""], sim, 1, Why::Number(1, 7)),
+        (&["sim", "--k="], sim, 1, Why::Number(1, 7)),
+        (&["sim", "--n2", "256"], sim, 1, Why::Number(1, 255)),
+        (&["sim", "f", "--channels", "17"], sim, 2, channels),
+        (&["sim", "--channels=17", "f"], sim, 1, channels),
+        (
+            &["station", "dte", "--channels", "65537"],
+            station,
+            2,
+            Why::Number(1, 4095),
+        ),
+        (
+            &["station", "dte", "--outgoing", "4096"],
+            station,
+            2,
+            Why::Number(0, 4095),
+        ),
+        (
+            &["station", "dte", "--message", "65536"],
+            station,
+            2,
+            Why::Number(1, 65_535),
+        ),
+        (
+            &["station", "dte", "--clock", "--t1", "86400001"],
+            station,
+            3,
+            Why::Number(0, 86_400_000),
+        ),
+        (&["judge", "--at", "DTE"], judge, 1, Why::Place),
+        (&["judge", "--at="], judge, 1, Why::Place),
+        (&["station"], station, 1, Why::NoEnd),
+        (&["station", "--k", "3"], station, 3, Why::NoEnd),
+        (&["deframe"], deframe, 1, Why::NoEnd),
+        (&["station", "DTE"], station, 1, Why::End),
+        (&["deframe", "-"], deframe, 1, Why::End),
+        (&["decode", "f", "g"], decode, 2, Why::TooMany),
+        (&["deframe", "dte", "f", "g"], deframe, 3, Why::TooMany),
+        (&["vectors", "-"], Some(Command::Vectors), 1, Why::TooMany),
+        (&["station", "dte", "--t1", "5"], station, 2, Why::NoClock),
+        (
+            &[
+                "station",
+                "dte",
+                "--channels=4",
+                "--incoming=3",
+                "--outgoing=2",
+            ],
+            station,
+            5,
+            Why::OneWay,
+        ),
     ];
-    for (words, text) in rows {
-        let Err(error) = settings(rt.alloc(), words) else {
-            return Err("these words ask for nothing".into());
+    for (words, command, place, why) in rows {
+        let refusal = Refusal {
+            command,
+            place,
+            why,
         };
-        assert_eq!(rt; error.number(), 63);
-        assert_eq!(rt; error.exit_status(), 2);
-        let SettingsError::Usage(error) = error else {
-            return Err("a usage fault".into());
-        };
-        let told = format!(in rt.alloc(); "{error}")?;
-        assert_eq!(rt; told.as_str(), text);
+        assert_eq!(rt; settings(words), Err(refusal));
     }
-    Ok(())
-}
-
-#[test]
-fn has_a_number_without_memory(rt: HostRuntime) {
-    assert_eq!(rt; SettingsError::NoMemory.number(), 70);
-    assert_eq!(rt; SettingsError::NoMemory.exit_status(), 3);
 }

@@ -1,9 +1,13 @@
-//! Who is told which lines of a script ask for nothing.
+//! Who is told which lines of a script ask for nothing, or for what is refused.
 
-/// Is told of the lines that are none. What it is told of, and what becomes of that, changes nothing of a run.
+/// Is told of the lines that are none, and of refusals. What it is told of, and what becomes of that, changes nothing
+/// of a run.
 pub trait Reporter: Drop {
     /// The line of that number, counted from 1, is none of a script; `None` where it is longer than any that is held.
     fn report(&mut self, number: u64, line: Option<&[u8]>);
+
+    /// What the line of that number asks for is refused, by the number of an error.
+    fn refuse(&mut self, number: u64, error: u8, line: &[u8]);
 }
 
 /// Tells nobody.
@@ -12,4 +16,6 @@ pub struct Silent;
 
 impl Reporter for Silent {
     fn report(&mut self, _number: u64, _line: Option<&[u8]>) {}
+
+    fn refuse(&mut self, _number: u64, _error: u8, _line: &[u8]) {}
 }

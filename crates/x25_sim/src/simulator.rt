@@ -6,7 +6,7 @@ use x25_io::{Fault, LineTaker, Sink};
 use x25_script::{Command, HexDigits, Role, ScriptTaker, read_line};
 use x25_world::Event;
 
-/// The octets of a line, the stations, and who is told of lines that are none.
+/// The octets of a line, the stations, and who is told of lines that are none and of refusals.
 #[derive(Drop)]
 pub(crate) struct Simulator<P: Reporter> {
     octets: Vec<u8>,
@@ -16,6 +16,8 @@ pub(crate) struct Simulator<P: Reporter> {
     number: u64,
     // The last line that was read is none.
     is_none: bool,
+    // How many refusals were reported.
+    reported: u64,
 }
 
 impl<P: Reporter> Simulator<P> {
@@ -37,6 +39,7 @@ impl<P: Reporter> Simulator<P> {
             reporter,
             number: 0,
             is_none: false,
+            reported: 0,
         }
     }
 
@@ -50,6 +53,26 @@ impl<P: Reporter> Simulator<P> {
         }
     }
 
+    /// Reports what the line that was read asks for, where that was refused.
+    #[inline(always)]
+    fn report_refusal(&mut self, line: &[u8])
+        ensures { self.new.stage ≡ self.old.stage }
+    {
+        if self.stage.refusals() != self.reported {
+            self.report_refused(line);
+        }
+    }
+
+    #[cold]
+    #[inline(never)]
+    fn report_refused(&mut self, line: &[u8])
+        ensures { self.new.stage ≡ self.old.stage }
+    {
+        self.reported = self.stage.refusals();
+        self.reporter
+            .refuse(self.number, self.stage.last_error(), line);
+    }
+
     /// Does what a line asks for.
     #[inline(always)]
     fn read<W: Sink>(&mut self, line: &[u8], writer: &mut W) -> Result<(), Fault>
@@ -60,6 +83,7 @@ impl<P: Reporter> Simulator<P> {
     {
         let result = read_line(line, self, writer);
         self.report_none(line);
+        self.report_refusal(line);
         result
     }
 }

@@ -32,6 +32,9 @@ pub(crate) struct Stage {
     shown: Shown,
     output: Output,
     is_refused: bool,
+    // How many events were refused, as far as that is counted, and the number of the last one's error.
+    refusals: u64,
+    last_error: u8,
 }
 
 /// How many deliveries follow one another at most, and how many rounds of them, where frames arrive until there is
@@ -109,6 +112,8 @@ impl Stage {
             shown,
             output,
             is_refused: false,
+            refusals: 0,
+            last_error: 0,
         })
     }
 
@@ -170,7 +175,20 @@ impl Stage {
     {
         unless_memory(error)?;
         self.is_refused = true;
+        self.refusals = self.refusals.saturating_add(1);
+        self.last_error = refusal_number(error);
         tell_refusal(refusal_number(error), &mut self.output, writer)
+    }
+
+    /// How many events were refused, as far as that is counted.
+    #[inline(always)]
+    pub(crate) fn refusals(&self) -> u64 {
+        self.refusals
+    }
+
+    /// The number of the error of the last one.
+    pub(crate) fn last_error(&self) -> u8 {
+        self.last_error
     }
 
     /// Tells an event, where events are told.

@@ -1,7 +1,7 @@
 use Rattle.std.proofs.Common.{◌≡◌, ◌∙◌, ap, sym, arith, decimal, Some, None}
 use Rattle.x25_settings.proofs.{NumberLemmas.{number_read, number_refused, parsed}, options.number.Goals.{else-least-n-via-else-least-n}}
 use Rattle.x25_settings.proofs.options.number.Goals.{else-least-n-via-then-least-n+then-n-most+else-is_decimal, else-least-n-via-then-least-n+else-n-most}
-use Rattle.x25_settings.specs.Options.Choosing.{number_in}
+use Rattle.x25_settings.specs.Options.{number_in}
 use Rattle.x25_settings.proofs.options.number.Goals as goal
 
 pub returns-in_err-n-clause-number : goal.returns-in_err-n-clause-number
