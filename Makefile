@@ -124,7 +124,7 @@ interop:
 
 PREFIX = /usr/local
 PROGRAM = build/x25
-VERSION := $(shell sed -n 's/.*\.version("\(.*\)").*/\1/p' crates/x25_settings/src/parser.rt)
+VERSION := $(shell sed -n 's/.*\.version("\(.*\)").*/\1/p' crates/x25/src/help.rt)
 INSTALLED = $(DESTDIR)$(PREFIX)
 DOCUMENTS = $(INSTALLED)/share/doc/x25
 # Where the library for C is installed from, if it is there.

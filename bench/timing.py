@@ -20,7 +20,7 @@ def timed(words, file, statuses=(0,)):
     """Runs the words on the file: the seconds of processor time, those on the clock, and the peak memory in kB."""
     file.seek(0)
     start = time.perf_counter()
-    child = subprocess.Popen(words, stdin=file, stdout=subprocess.DEVNULL)
+    child = subprocess.Popen(words, stdin=file, stdout=subprocess.DEVNULL, stderr=subprocess.DEVNULL)
     peak = 0
     while True:
         peak = max(peak, peak_memory(child.pid))

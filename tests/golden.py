@@ -3,15 +3,18 @@
 
     golden.py [--program PROGRAM] [NAME ..]
 
-A case is a command, its input, what standard output has to be, and the exit status, under its name in a file SUBJECT/FILE.cases. CONTRIBUTING.md
-says how one is written, and where its answer comes from. A NAME is SUBJECT/NAME, or SUBJECT for all of its cases; with none, all cases. Exit
-status: 0 all agree, 1 one differs, 2 there is no program or no such case.
+A case is a command, its input, what standard output has to be, and the exit status, under its name
+in a file SUBJECT/FILE.cases. CONTRIBUTING.md says how one is written, and where its answer comes
+from. A NAME is SUBJECT/NAME, or SUBJECT for all of its cases; with none, all cases.
+
+Exit status: 0 all agree, 1 one differs, 2 there is no program or no such case.
 """
 
 from __future__ import annotations
 
 import argparse
 import ast
+import functools
 import os
 import re
 import shlex
@@ -25,8 +28,16 @@ from program import find_program
 FOLDER = os.path.join(os.path.dirname(os.path.abspath(__file__)), "golden")
 SECONDS = 60
 FORM = re.compile(r"\$ x25(.*)\n== input(.*)\n((?:(?!== ).*\n)*)== answer(.*)\n((?:(?!== ).*\n)*)== status (\d)\n\n?")
-# The name above a case.
-NAMED = re.compile(r"^(\w+)\n(?=\$ x25)", re.MULTILINE)
+# A case as rows: `INPUT => ANSWER / ANSWER`, or ` -> ` where the answer begins with the two
+# characters of its line of a trace.
+ROWS = re.compile(r"x25(.*) = (\d)\n((?:.+\n)*)\n?")
+ROW = re.compile(r"(.*?)(?:(?:^| )(=>|->)(?: (.*))?)?$")
+# What a row of counts begins with: those of an end, of a channel of it, and of what is told.
+COUNTS = "counts "
+# The name of a case, above it or before its command.
+NAMED = re.compile(r"^(\w+)(?:\n(?=\$ x25)|: (?=x25\b))", re.MULTILINE)
+# The rows with which many cases begin, by their names; the row `= NAME` stands for them.
+BEGINNINGS = os.path.join(FOLDER, "beginnings.txt")
 
 
 class Case:
@@ -34,13 +45,15 @@ class Case:
 
     def __init__(self, name: str, text: str) -> None:
         self.name = name
-        form = FORM.fullmatch(text)
-        if form is None:
+        rows, form = ROWS.fullmatch(text), FORM.fullmatch(text)
+        if rows is not None:
+            self.words, self.status = shlex.split(rows[1]), int(rows[2])
+            self.input, self.output = both(rows[3])
+        elif form is not None:
+            self.words, self.status = shlex.split(form[1]), int(form[6])
+            self.input, self.output = octets(form[2], form[3]), octets(form[4], form[5])
+        else:
             raise ValueError(f"{name} has not the form of a case")
-        self.words = shlex.split(form[1])
-        self.input = octets(form[2], form[3])
-        self.output = octets(form[4], form[5])
-        self.status = int(form[6])
 
     def difference(self, program: str) -> str | None:
         """Runs the case; answers None where all agrees, else what differs first, in a line."""
@@ -70,12 +83,63 @@ def octets(how: str, text: str) -> bytes:
         return text.encode()
     if how == " without final LF":
         return text[:-1].encode()
+    if how == " in rows":
+        return ended(text.replace("\n/ ", " / ")[:-1].split(" / "))
+    if how == " in rows without final LF":
+        return octets(" in rows", text)[:-1]
     if how == " in hex":
         return bytes.fromhex(text)
     if how == " in Python":
         values = [eval(compile(ast.Expression(it.value), "case", "eval")) for it in cast("list[ast.Expr]", ast.parse(text).body)]
         return b"".join(it.encode("ascii") if isinstance(it, str) else it for it in values)
     raise ValueError(f"'{how}' doesn't say how a section is written")
+
+
+@functools.lru_cache(maxsize=None)
+def beginnings() -> dict[str, str]:
+    """The rows with which many cases begin, by their names."""
+    with open(BEGINNINGS, encoding="ascii") as file:
+        return dict(re.findall(r"^(\w+)\n((?:.+\n)+)", file.read(), re.MULTILINE))
+
+
+def both(rows: str) -> tuple[bytes, bytes]:
+    """The input and the answer that rows stand for."""
+    given: list[str] = []
+    answers: list[str] = []
+    for name in re.findall(r"^= (\w+)$", rows, re.MULTILINE):
+        rows = rows.replace(f"= {name}\n", beginnings()[name])
+    for row in re.sub(r"\n {4}(?=/ )", " ", rows).splitlines():
+        if row.startswith(COUNTS):
+            answers += counted(row)
+            continue
+        found = ROW.fullmatch(row)
+        assert found
+        asked, arrow, told = found.groups()
+        given += asked.split(" / ") if asked else []
+        if told:
+            answers += [asked[:2] + told] if arrow == "->" else told.split(" / ")
+    return ended(given), ended(answers)
+
+
+def ended(lines: list[str]) -> bytes:
+    """The octets of lines, each with its line feed."""
+    return "".join(f"{line}\n" for line in lines).encode()
+
+
+def counted(row: str) -> list[str]:
+    """The lines that a row of counts stands for."""
+    lines, end = [], ""
+    for part in row.removeprefix(COUNTS).split(", "):
+        name, *numbers = part.split(" ")
+        if name == "told":
+            doubt = f", {numbers[2]} in doubt" if numbers[2:] else ""
+            lines.append(f"# told: {numbers[0]} rules, {numbers[1]} manners{doubt}")
+            continue
+        is_end = name in ("dte", "dce")
+        end = name if is_end else end
+        what = f"{end}: {numbers[0]} frames" if is_end else f"{end} channel {name}: {numbers[0]} packets"
+        lines.append(f"# {what}, {numbers[1]} judged, {numbers[2]} not judged")
+    return lines
 
 
 def texts() -> dict[str, str]:

@@ -18,6 +18,7 @@ from __future__ import annotations
 import argparse
 import collections
 import os
+import re
 import shutil
 import subprocess
 import sys
@@ -47,6 +48,8 @@ CASES = [
 FIRST = 20
 NO_MEMORY, DONE_WITHOUT = "no memory", "done without"
 REFUSED = b" refused\n"
+# What is said beside of what a line of a script asks for and doesn't get.
+BESIDE = re.compile(rb"^line \d+: ! .*\n", re.MULTILINE)
 
 
 class Refusing:
@@ -78,13 +81,14 @@ def chosen(count: int, every: int) -> list[int]:
 def case_answer(refusing: Refusing, case: golden.Case, number: int) -> str:
     """Runs a golden case with this allocation refused; answers NO_MEMORY or DONE_WITHOUT where all is as it has to be, else what isn't."""
     done = refusing.run(case.words, case.input, REFUSE=str(number))
-    if (done.stdout, done.returncode, done.stderr) == (case.output, case.status, b""):
+    said = BESIDE.sub(b"", done.stderr)
+    if (done.stdout, done.returncode, said) == (case.output, case.status, b""):
         return DONE_WITHOUT
     if case.words[0] in ("decode", "deframe") and done.stdout:
         return f"{case.words[0]}, which takes its memory first, wrote {done.stdout[:200]!r}"
     if not case.output.startswith(done.stdout):
         return golden.first_difference(case.output, done.stdout)
-    if (done.returncode, done.stderr) != (3, b"no memory\n"):
+    if (done.returncode, said) != (3, b"no memory\n"):
         return f"status {done.returncode}, standard error {done.stderr!r}"
     return NO_MEMORY
 

@@ -30,7 +30,7 @@ SYNOPSIS = {
     "vectors": "",
     "sim": "[--tap] [--down] [--events] [--loose] [--long] [--say-sizes] [--wide] [--k N] [--n2 N] [--channels N] [--message N] [FILE]",
     "station": "dte|dce [--long] [--say-sizes] [--wide] [--k N] [--n2 N] [--channels N]"
-    " [--incoming N] [--outgoing N] [--message N] [--clock [--t1 MS] [--t3 MS] [--t20 MS] [--t21 MS] [--t22 MS] [--t23 MS]] [FILE]",
+    " [--incoming N] [--outgoing N] [--message N] [--clock [--t1 MS] [--t3 MS] [--t20 MS] [--t21 MS] [--t22 MS] [--t23 MS] [--t26 MS]] [FILE]",
     "judge": "[--long] [--loose] [--wide] [--manners] [--strict] [--k N] [--at line|dte|dce|either] [FILE]",
     "deframe": "dte|dce [FILE]",
     "frame": "[--loose] [FILE]",

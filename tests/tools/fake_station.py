@@ -3,7 +3,7 @@
     fake_station.py FILE station END ..
 
 FILE has the answers: lines as the station writes them, and before each answer a line `= EVENT`, what it has to be asked. Anything
-else that it is asked is told on standard error and answered by `? 60`. What was asked goes to FILE.asked, with the time; a carriage
+else that it is asked is told on standard error and answered by `? 60`. What was asked goes to FILE.asked, with the time that was said; a carriage
 return stands there, and in an EVENT, as \\r.
 
 The marks are written as those of a station without a clock: by `start` T1 begins anew, whose time --t1 has. `+MS` says that something is due
@@ -12,7 +12,6 @@ so much later, in place of what T1 does. Where that time is said, the next EVENT
 
 import re
 import sys
-import time
 
 MARK = re.compile(r"^\. (on|off|start|\+\d+) (\S+)$", re.MULTILINE)
 
@@ -21,11 +20,11 @@ class Clock:
     """The time that was said last, when something is due, and what there is to do."""
 
     def __init__(self, t1):
-        self._t1, self._now, self._due, self._work = t1, 0, None, "busy"
+        self._t1, self.now, self._due, self._work = t1, 0, None, "busy"
 
     def passes(self, now):
         """Takes the time; answers whether something is due."""
-        self._now = now
+        self.now = now
         is_due = self._due is not None and now >= self._due
         self._due = None if is_due else self._due
         return is_due
@@ -40,7 +39,7 @@ class Clock:
     def _mark(self, found):
         does, self._work = found.groups()
         if does != "on":
-            self._due = None if does == "off" else self._now + (self._t1 if does == "start" else int(does))
+            self._due = None if does == "off" else self.now + (self._t1 if does == "start" else int(does))
         return self.mark()
 
 
@@ -62,7 +61,7 @@ def main():
             event = wanted if is_due else event
             if is_due and wanted.startswith("t1 "):
                 answer = f"{wanted[3:]} timeout T1\n{answer}"
-            asked.write(f"{time.monotonic()} {event}\n")
+            asked.write(f"{clock.now / 1000} {event}\n")
             if event != wanted:
                 print(f"asked {event!r} for {wanted!r}", file=sys.stderr)
                 answer = "? 60\n. off busy"

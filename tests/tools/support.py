@@ -29,6 +29,23 @@ def has_station():
     return done.stdout.startswith(b". ")
 
 
+def is_unproved():
+    """Whether the program is one of `make look`. A sanitizer watches it, and it is slow."""
+    if not PROGRAM:
+        return False
+    done = subprocess.run([PROGRAM, "--version"], stdin=subprocess.DEVNULL, capture_output=True, timeout=60)
+    return done.stdout.endswith(b" unproved\n")
+
+
+# How much shorter long inputs are for a program that is slow.
+SHARE = 100 if is_unproved() else 1
+
+
+def runs(count):
+    """How many random runs a test plays: so many with a program that is proved, else a tenth."""
+    return count if SHARE == 1 else max(1, count // 10)
+
+
 needs_station = unittest.skipUnless(has_station(), "the program has no word `station` yet" if PROGRAM else "the program x25 isn't built")
 
 
@@ -61,6 +78,25 @@ class Live:
         """Ends the input; answers the status and what else was written."""
         out, said = self._child.communicate(timeout=60)
         return self._child.returncode, out, said
+
+
+# Runs a command, and says on standard error, last, how much memory it had at most, in kilobytes.
+PEAK = """import resource, subprocess, sys
+status = subprocess.call(sys.argv[1:])
+sys.stderr.write(f"{resource.getrusage(resource.RUSAGE_CHILDREN).ru_maxrss}\\n")
+sys.exit(status)"""
+
+
+def run_with_peak(words, given):
+    """What the program does with an input, and how much memory it had at most, in kilobytes.
+
+    A program that a sanitizer watches gives back what it is done with at once."""
+    command = [sys.executable, "-c", PEAK, PROGRAM, *words]
+    environment = {**os.environ, "ASAN_OPTIONS": "quarantine_size_mb=0"}
+    done = subprocess.run(command, input=given, env=environment, capture_output=True, timeout=60)
+    *said, peak = done.stderr.splitlines(keepends=True)
+    done.stderr = b"".join(said)
+    return done, int(peak)
 
 
 def decode(trace, *words):

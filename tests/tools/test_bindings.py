@@ -29,7 +29,7 @@ import x25  # where linked finds it
 BINDING = os.path.join(support.ROOT, "bindings", "python")
 RUST = os.path.join(support.ROOT, "bindings", "rust")
 LIBRARY, ARCHIVE = find_library("so"), find_library("a")
-TIMES = ("t1", "t3", "t20", "t21", "t22", "t23")
+TIMES = ("t1", "t3", "t20", "t21", "t22", "t23", "t26")
 TIMES_OF_NONE = x25.Times(*[0] * len(TIMES))
 needs_library = unittest.skipUnless(LIBRARY and ARCHIVE, "the library for C isn't built")
 
@@ -272,6 +272,24 @@ class Python(unittest.TestCase):
             told(dce.accept(channel), dce, dte)
             with self.assertRaisesRegex(x25.Refused, "34: "):
                 dte.send(channel, b"A", confirm=True)
+
+    def test_open_calls(self):
+        """Those that are up, and those on which an answer is awaited."""
+        with x25.Station(x25.DTE, library=LIBRARY, channels=2) as dte, x25.Station(x25.DCE, library=LIBRARY, channels=2) as dce:
+            counts = []
+            for caller, other, ask in (
+                (dte, dce, dte.connect),
+                (dte, dce, lambda: dte.call("1", "2")),
+                (dce, dte, lambda: dce.accept(2)),
+                (dte, dce, lambda: dte.call("1", "2")),
+                (dte, dce, lambda: dte.clear(1)),
+                (dce, dte, lambda: dce.restart(3)),
+            ):
+                answer = ask()
+                counts.append((dte.open_calls, dce.open_calls))
+                told(answer, caller, other)
+            counts.append((dte.open_calls, dce.open_calls))
+            self.assertEqual(counts, [(0, 0), (1, 0), (1, 1), (2, 1), (2, 1), (1, 0), (0, 0)])
 
     def test_one_way_channels(self):
         """Of two, 1 is one-way incoming: the DTE calls on 2 alone, and the DCE on 1."""

@@ -1,14 +1,14 @@
 """`deframe` and `frame` where a golden case is too short: many frames, each place in an octet, memory, answers before the end."""
 
 import random
-import resource
 import subprocess
 import unittest
 
 import support
 
-FRAMES = 1_000_000
-MEMORY = 16 << 20
+FRAMES = 1_000_000 // support.SHARE
+# How much more memory a long input may take than a short one, in kilobytes.
+MORE = 500
 FLAG = "01111110"
 
 
@@ -36,11 +36,6 @@ def some_frames(count, seed):
 
 def trace_of(mark, frames):
     return b"".join(b"%s %s\n" % (mark, frame.hex().encode()) for frame in frames)
-
-
-def few_megabytes():
-    """Bounds the memory of the program that is begun next."""
-    resource.setrlimit(resource.RLIMIT_AS, (MEMORY, MEMORY))
 
 
 @support.needs_program
@@ -88,10 +83,18 @@ class BitLine(unittest.TestCase):
             self.assertEqual(child.stdout.read(), b"")
 
     def test_memory_does_not_grow_with_the_input(self):
-        self.assertEqual(self.answer(["deframe", "dte"], b"\x7e" + b"\x55" * (20 << 20) + b"\x7e", preexec_fn=few_megabytes), b"# long\n")
-        self.assertEqual(self.answer(["frame"], b"# a comment of some length\n" * (1 << 20), preexec_fn=few_megabytes), b"")
         frame = b"> " + b"ff" * 4103 + b"\n"
-        self.answer(["frame"], frame * 1000, preexec_fn=few_megabytes)
+        for words, short, long in (
+            (["deframe", "dte"], b"\x7e" + b"\x55" * 5000 + b"\x7e", b"\x7e" + b"\x55" * ((20 << 20) // support.SHARE) + b"\x7e"),
+            (["frame"], b"# a comment of some length\n", b"# a comment of some length\n" * ((1 << 20) // support.SHARE)),
+            (["frame"], frame, frame * (2000 // support.SHARE)),
+        ):
+            with self.subTest(words):
+                (done, least), (longer, most) = (support.run_with_peak(words, it) for it in (short, long))
+                self.assertEqual((longer.returncode, longer.stderr), (0, b""))
+                if short != frame:
+                    self.assertEqual(longer.stdout, done.stdout)
+                self.assertLess(most, least + MORE)
 
     def test_lines_that_are_left_out_are_said(self):
         for given, said in ((b"> 013febdf\n> 0\n\n", b"left out: lines that are no frame\n"), (b"# a comment\n> ..\n", b"")):

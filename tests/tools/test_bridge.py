@@ -14,7 +14,9 @@ import time
 import unittest
 from unittest import mock
 
+import counted
 import support
+from counted import CountedCase
 from support import ToolCase
 
 from x25tools import bridge, places, tcp, users, wires, x25lines
@@ -191,7 +193,7 @@ class Prospects(unittest.TestCase):
                 self.assertEqual(self.told(notices).cannot_come(text), "")
 
 
-class Joined(ToolCase):
+class Steps:
     """A bridge over TCP whose other end is the test."""
 
     def begin(self, answers, *words, end="dte", user=b"", is_left_open=False):
@@ -201,27 +203,26 @@ class Joined(ToolCase):
         program = self.file("x25", f'#!/bin/sh\nexec "{sys.executable}" "{FAKE}" "{self.answers}" "$@"\n'.encode())
         os.chmod(program, 0o755)
         self.child = self.started("--x25", program, "--listen", "0", "--quiet", "0.3", *words, end)
-        self.addCleanup(self.child.kill)
         self.come = []
-        self.program, self.place = program, ("127.0.0.1", int(self.child.stderr.readline().rsplit(b":", 1)[1]))
+        said = self.child.stderr.readline()
+        self.program, self.place = program, ("127.0.0.1", int(said.rsplit(":", 1)[1]))
         self.join()
-        self.child.stdin.write(user)
-        self.child.stdin.flush()
+        self.gives(user)
         if not is_left_open:
             self.child.stdin.close()
+
+    def gives(self, commands):
+        """The user gives commands, as octets."""
+        left = memoryview(commands)
+        while left:
+            left = left[os.write(self.child.stdin.fileno(), left) :]
 
     def join(self):
         """Joins the bridge as a client."""
         self.line = socket.create_connection(self.place, timeout=10)
         self.addCleanup(self.line.close)
         self.come.append("# a connection has come from {}:{}".format(*self.line.getsockname()))
-        self.lines = self.line.makefile("r")
-        self.addCleanup(self.lines.close)
-
-    @staticmethod
-    def started(*words):
-        command = [sys.executable, os.path.join(support.TOOLS, "bridge.py"), *words]
-        return subprocess.Popen(command, stdin=subprocess.PIPE, stdout=subprocess.PIPE, stderr=subprocess.PIPE)
+        self.lines = self.lines_of(self.line)
 
     def sends(self, text):
         self.line.sendall(f"{text}\n".encode())
@@ -231,20 +232,41 @@ class Joined(ToolCase):
 
     def end(self):
         """Waits for the end of the bridge; answers the status, the notices but for those that the test has come, and what it said."""
-        with self.child.stdout as out, self.child.stderr as said:
-            notices, text = out.read().decode().splitlines(), said.read().decode()
+        notices, text = self.child.stdout.read().splitlines(), self.child.stderr.read()
         self.child.stdin.close()
         self.assertEqual([it for it in notices if " has come from " in it], self.come)
-        return self.child.wait(10), [it for it in notices if " has come from " not in it], text
+        return self.child.wait(), [it for it in notices if " has come from " not in it], text
 
     def asked(self, count=0):
         """What the station was asked, once it was asked so often: when, and what."""
-        path, last = self.answers + ".asked", time.monotonic() + 10
-        while time.monotonic() < last and support.read(path).count(b"\n") < count:
-            time.sleep(0.02)
+        path, turns = self.answers + ".asked", 0
+        while turns < 5000 and support.read(path).count(b"\n") < count:
+            self.sleep(0.02)
+            turns += 1
         with open(path, newline="\n") as file:
             rows = [row.rstrip("\n").split(" ", 1) for row in file]
         return [(float(when), event) for when, event in rows]
+
+    def play(self, *turns, words=(), user=b""):
+        """Begins a bridge whose station is asked these things in turn, each with what it answers."""
+        rows = "".join(f"= {event}\n{answer}\n. off idle\n" if answer else f"= {event}\n. off idle\n" for event, answer in turns)
+        self.begin(". off idle\n" + rows, *words, user=user)
+
+    def again(self):
+        """Joins the bridge once more, as another client."""
+        self.lines.close()
+        self.line.close()
+        self.join()
+
+
+class Joined(Steps, CountedCase):
+    """In counted time."""
+
+    def sleep(self, seconds):
+        self.clock.sleep(seconds)
+
+    def lines_of(self, line):
+        return counted.Pipe(self.clock, line.fileno(), is_own=False)
 
     def test_commands_frames_and_notices(self):
         self.begin(f". off busy\n= dte connect\ndte connect\n{SABM}\n. start busy\n= {UA}\ndte linkup\n{RESTARTED}\n. start busy\n= {RESTART}\ndte restarted cause=7 diag=0\n. off idle\n", "--t1", "60", user=b"dte connect\n")
@@ -266,7 +288,7 @@ class Joined(ToolCase):
     def test_on_leaves_t1_as_it_is(self):
         self.begin(f". off busy\n= dte connect\n{SABM}\n. start busy\n= {UA}\n. on busy\n= t1 dte\n. off idle\n", "--t1", "2", user=b"dte connect\n")
         self.gets()
-        time.sleep(1)
+        self.sleep(1)
         self.sends(UA)
         self.assertEqual(self.end()[0], 0)
         times = [when for when, _ in self.asked()]
@@ -285,18 +307,13 @@ class Joined(ToolCase):
         send = "dte send 1 0 41"
         self.begin(f". off idle\n= {send}\n! 10\n. off busy\n= {UA}\n. off busy\n= {send}\ndte send ch=1 at 1.0.0 q=0 data=41\n. off busy\n= dte ready 1\n! 30\n. off idle\n", user=f"{send}\ndte ready 1\n".encode())
         self.asked(1)
-        time.sleep(0.3)
+        self.sleep(0.3)
         self.assertEqual(len(self.asked()), 1)
         self.sends(UA)
         status, notices, said = self.end()
         words = "# ! 30, not in this state of the channel: 'dte ready 1'"
         self.assertEqual((status, notices, said), (1, ["dte send ch=1 at 1.0.0 q=0 data=41", "! 30", words], ""))
         self.assertEqual([event for _, event in self.asked()], [send, UA, send, "dte ready 1"])
-
-    def play(self, *turns, words=(), user=b""):
-        """Begins a bridge whose station is asked these things in turn, each with what it answers."""
-        rows = "".join(f"= {event}\n{answer}\n. off idle\n" if answer else f"= {event}\n. off idle\n" for event, answer in turns)
-        self.begin(". off idle\n" + rows, *words, user=user)
 
     def test_a_slow_circuit_holds_no_other(self):
         """Its messages stand aside in their order; what else is asked goes on, and a frame has them asked again."""
@@ -320,7 +337,7 @@ class Joined(ToolCase):
                 turns = [(sends[0], ""), (sends[1], "! 31"), (UA, ""), (sends[1], ""), (sends[2], "! 31"), (last, ""), *((it, "! 30") for it in sends[2:]), ("dte call 1 2 -", "")]
                 self.play(*turns, words=["--quiet", "0.7"], user="\n".join([*sends, last, "dte call 1 2 -"]).encode())
                 self.asked(2)
-                time.sleep(0.4)
+                self.sleep(0.4)
                 self.sends(UA)
                 status, notices, said = self.end()
                 asked = self.asked()
@@ -332,7 +349,7 @@ class Joined(ToolCase):
         self.begin(f". off idle\n= {UA}\ndte linkup\n. off idle\n= {RESTART}\ndte restarted cause=7 diag=0\n. off idle\n= dte call 1 2 -\n. off idle\n", user=b"wait dte restarted\ndte call 1 2 -\n")
         self.sends(UA)
         self.asked(1)
-        time.sleep(0.3)
+        self.sleep(0.3)
         self.assertEqual(len(self.asked()), 1)
         self.sends(RESTART)
         self.assertEqual(self.end()[0], 0)
@@ -360,9 +377,8 @@ class Joined(ToolCase):
 
     def test_wait_ends_in_its_time(self):
         self.play(("dte ready 1", "dte ready ch=1"), words=["--wait", "0.5"], user=b"wait dte incoming\ndte ready 1\n")
-        begun = time.monotonic()
         self.assertEqual(self.end(), (1, ["! 61", "# ! 61, it hasn't come in 0.5 seconds; 1 command behind it: 'wait dte incoming'", "dte ready ch=1"], ""))
-        self.assertGreaterEqual(self.asked()[0][0] - begun, 0.4)
+        self.assertGreaterEqual(self.asked()[0][0], 0.4)
 
     def test_a_wait_that_holds_commands_is_told(self):
         (reader, writer), clock = os.pipe(), [1.0]
@@ -426,13 +442,6 @@ class Joined(ToolCase):
         self.assertEqual(self.end(), (0, ["dte linkup"], ""))
         self.assertEqual([event for _, event in self.asked()], [UA, "dte call 1 2 -"])
 
-    def test_ten_million_octets_without_a_line_end(self):
-        self.begin(". off idle\n= dte connect\n. off idle\n", user=b"a" * 10_000_000 + b"\ndte connect\n")
-        status, notices, _ = self.end()
-        self.assertEqual((status, notices[0]), (1, "? 60"))
-        self.assertIn("131,264 characters", notices[1])
-        self.assertEqual(len(self.asked()), 1)
-
     def test_other_lines_of_the_line(self):
         packet = "\0\0\0\5\x10\1\x0b\0\0"
         for text, words in (("hello", "no line of a trace"), (SABM, "both ends are the DTE"), ("< 0", "no line of a trace"), (packet, "X.25 over TCP (--xot")):
@@ -468,12 +477,6 @@ class Joined(ToolCase):
         self.assertEqual((status, notices[-1]), (1, "# the connection has ended: the other end has closed it"))
         self.assertIn("the line has ended before all was done", said)
 
-    def again(self):
-        """Joins the bridge once more, as another client."""
-        self.lines.close()
-        self.line.close()
-        self.join()
-
     def test_with_stay_it_listens_again(self):
         self.begin(f". off busy\n= dte connect\n{SABM}\n. start busy\n= {UA}\ndte linkup\n. off idle\n= {RESTART}\n. off idle\n= dte disconnect\n. off busy\n", "--stay", "--t1", "60", user=b"dte connect\n")
         self.gets()
@@ -489,7 +492,7 @@ class Joined(ToolCase):
 
     def test_a_second_client_is_told_and_closed(self):
         self.begin(f". off idle\n= {UA}\n. off idle\n", "--stay")
-        time.sleep(0.2)
+        self.sleep(0.2)
         with socket.create_connection(self.place, timeout=10) as second:
             self.assertEqual(second.recv(100), b"# the line is taken\n")
             self.assertEqual(second.recv(100), b"")
@@ -499,85 +502,11 @@ class Joined(ToolCase):
         self.assertEqual(self.end()[1], ["# another client came, and was told that the line is taken"])
         self.assertEqual(len(self.come), 1)
 
-    def test_clients_of_other_protocols(self):
-        """They are closed, and the next one is served: octets of another protocol, ten million without a line end, a scan of ports."""
-        self.begin(f". off idle\n= {UA}\n. off idle\n", "--stay")
-        for octets in (b"GET / HTTP/1.1\r\n\r\n", b"\x16\x03\x01" * 100 + b"\n", b"a" * 10_000_000, b""):
-            with contextlib.suppress(ConnectionResetError, BrokenPipeError):
-                self.line.sendall(octets)
-                self.line.shutdown(socket.SHUT_WR)
-                self.line.recv(100)
-            self.again()
-        self.sends(UA)
-        self.assertEqual(len(self.asked(1)), 1)
-        self.child.terminate()
-        notices = self.end()[1]
-        self.assertEqual(len(notices), 4)
-        self.assertIn("'GET / HTTP/1.1', which is no line of a trace", notices[0])
-        self.assertIn("more characters than a line of a trace may have", notices[2])
-
-    def test_a_thousand_clients(self):
-        self.begin(f". off idle\n= {UA}\n. off idle\n", "--stay")
-        memory = self.memory()
-        for _ in range(1000):
-            self.again()
-        self.sends(UA)
-        self.assertEqual(len(self.asked(1)), 1)
-        self.assertLess(self.memory(), memory + 4000)
-        self.child.terminate()
-        self.assertEqual(self.end()[0], 143)
-
-    def memory(self):
-        """How much memory the bridge has, in kilobytes."""
-        return int(re.search(r"VmRSS:\s*(\d+)", support.read(f"/proc/{self.child.pid}/status").decode())[1])
-
-    def test_a_client_that_does_not_read(self):
-        """Commands wait while a megabyte and what the system holds stands unsent; they go on once it is read."""
-        count = 1500
-        frame = sealed(bytes(4000)).hex()
-        answer = f"= dte send 1 0 41\n> {frame}\n. off busy\n"
-        self.begin(". off busy\n" + count * answer, "--stay", user=count * b"dte send 1 0 41\n")
-        waiting = 0
-        while waiting != len(self.asked(1)):
-            waiting = len(self.asked())
-            time.sleep(0.3)
-        self.assertLess(waiting, count)
-        self.assertLess(self.memory(), 60_000)
-        for _ in range(count):
-            self.assertEqual(self.gets(), f"> {frame}")
-        self.assertEqual(len(self.asked(count)), count)
-        self.child.terminate()
-        self.assertEqual(self.end()[0], 143)
-
-    def test_two_bridges_on_one_port(self):
-        self.begin(". off idle\n", "--stay")
-        place = "{}:{}".format(*self.place)
-        with socket.socket(socket.AF_INET, socket.SOCK_DGRAM) as taken:
-            taken.bind(("127.0.0.1", 0))
-            port = taken.getsockname()[1]
-            for words, named in ((["--listen", place], place), (["--xot-listen", place], place), (["--udp", f"{port}:1"], f"127.0.0.1:{port}")):
-                done = support.run("bridge.py", "dce", *words, "--x25", self.program)
-                self.assert_refused(done, f"{named}: Address already in use")
-        self.child.terminate()
-        self.end()
-
     def test_comments_of_the_other_end(self):
         self.begin(f". off idle\n= {UA}\n. off idle\n", "--quiet", "1")
         self.sends("# the line is taken")
         self.sends(UA)
         self.assertEqual(self.end()[1], ["# the other end says 'the line is taken'"])
-
-    def test_signals_end_the_link(self):
-        self.addCleanup(signal.signal, signal.SIGHUP, signal.signal(signal.SIGHUP, signal.SIG_DFL))
-        for number, status in ((signal.SIGTERM, 143), (signal.SIGINT, 130), (signal.SIGHUP, 129)):
-            with self.subTest(number):
-                self.begin(f". off busy\n= {UA}\ndte linkup\n. off idle\n= dte disconnect\ndte disconnect\ndte linkdown local\n{DISC}\n. off busy\n= {UA}\n. off busy\n", "--t1", "60", "--stay")
-                self.sends(UA)
-                self.asked(1)
-                self.child.send_signal(number)
-                self.assertEqual(self.gets(), DISC)
-                self.sends(UA)
-                self.assertEqual(self.end(), (status, ["dte linkup", "dte disconnect", "dte linkdown local"], ""))
 
     def test_a_signal_waits_no_longer_than_t1(self):
         self.begin(f". off busy\n= {UA}\ndte linkup\n. off idle\n= dte disconnect\ndte disconnect\n{DISC}\n. off busy\n", "--t1", "0.5", "--stay")
@@ -586,51 +515,6 @@ class Joined(ToolCase):
         self.child.terminate()
         self.assertEqual(self.gets(), DISC)
         self.assertEqual(self.end()[0], 143)
-
-    def test_a_bridge_that_leaves_sleeps(self):
-        """Also where a `wait` that comes to nothing is first among the commands, and nobody answers DISC."""
-        self.begin(f". off busy\n= {UA}\ndte linkup\n. off idle\n= dte disconnect\ndte disconnect\n{DISC}\n. off busy\n", "--t1", "2", "--stay", user=b"wait dte linkup\nwait dte cleared\n", is_left_open=True)
-        self.sends(UA)
-        self.asked(1)
-        time.sleep(0.3)
-        self.child.terminate()
-        self.gets()
-        begin = self.processor_time()
-        time.sleep(1)
-        self.assertLess(self.processor_time() - begin, 0.3)
-        self.assertEqual(self.end()[0], 143)
-
-    def processor_time(self):
-        """How long the bridge has had a processor, in seconds."""
-        fields = support.read(f"/proc/{self.child.pid}/stat").decode().rpartition(")")[2].split()
-        return (int(fields[11]) + int(fields[12])) / os.sysconf("SC_CLK_TCK")
-
-    def test_a_second_signal_ends_it_at_once(self):
-        self.begin(f". off busy\n= {UA}\ndte linkup\n. off idle\n= dte disconnect\ndte disconnect\n{DISC}\n. off busy\n", "--t1", "60", "--stay")
-        self.sends(UA)
-        self.asked(1)
-        self.child.terminate()
-        self.gets()
-        self.child.terminate()
-        self.assertEqual(self.end()[0], -signal.SIGTERM)
-
-    def test_connect_behind_disconnect_begins_a_new_station(self):
-        """Once DISC is answered, or T1 has passed, as an answer that comes later would be taken for one to SABM."""
-        for answer in (UA, "< 010f68ee", None):
-            with self.subTest(answer):
-                dead = "dte connect\n! 13\n. off busy\n"
-                answers = f". off busy\n= dte disconnect\ndte disconnect\n{DISC}\n. off busy\n" + (f"= {answer}\n. off busy\n= " if answer else "= ") + dead
-                self.begin(answers, "--t1", "60" if answer else "3", user=b"dte disconnect\ndte connect\n")
-                self.assertEqual(self.gets(), DISC)
-                time.sleep(0.5)
-                self.assertEqual([event for _, event in self.asked()], ["dte disconnect"])
-                if answer:
-                    self.sends(answer)
-                # The new station reads the same answers, and is asked for something else than the first of them.
-                status, notices, said = self.end()
-                self.assertEqual((status, notices[:2]), (1, ["dte disconnect", "? 60"]))
-                self.assertIn("asked 'dte connect' for 'dte disconnect'", said)
-                self.assertEqual([event for _, event in self.asked()], ["dte connect"])
 
     def test_a_call_on_a_channel_that_there_is_not(self):
         for channel in (5, 300, 4095):
@@ -668,7 +552,7 @@ class Joined(ToolCase):
                 self.begin(f". off idle\n= {UA}\ndte linkup\n{entries}\n. off idle\n", *words, "--stay")
                 self.sends(UA)
                 self.asked(1)
-                time.sleep(0.7)
+                self.sleep(0.7)
                 self.assertEqual(len(self.asked()), 1)
                 self.child.terminate()
                 self.end()
@@ -682,8 +566,7 @@ class Joined(ToolCase):
         answers += f"= {UA}\ndte linkup\n. +500 due\n= relink\ndte timeout T20\n. start busy\n"
         self.begin(answers, "--t3", "0", "--t1", "60", "--t20", "0.5", "--t21", "0.6", "--t22", "0", "--t23", "0.7", "--stay", is_left_open=True)
         self.sends(UA)
-        self.child.stdin.write(f"{call}\n".encode())
-        self.child.stdin.flush()
+        self.gives(f"{call}\n".encode())
         times = [when for when, _ in self.asked(5)]
         self.sends(UA)
         times = [when for when, _ in self.asked(7)]
@@ -707,33 +590,6 @@ class Joined(ToolCase):
         notices = self.end()[1]
         self.assertEqual(notices.count("# T12 has passed: the reset of channel 1 isn't confirmed"), 2)
         self.assertIn("# what is asked as a timer passed is refused: 256 packets wait", notices)
-
-    def test_a_reader_of_notices_that_stalls(self):
-        """T1 and frames go on, the channel by which messages come is held, and comes again when the reader has read."""
-        frames = [line(sealed(bytes([3, 0, number]))) for number in range(120)]
-        message = f"dte message ch=2 at 1.0.0 q=0 data={'41' * 2000}"
-        # What stands in the pipe, which holds one, and in the bridge when it holds the channel.
-        count = -(-(len(message) + 1 + users.SLOW) // (len(message) + 1))
-        answers = ". off busy\n= dte connect\n. start busy\n"
-        for number, frame in enumerate(frames):
-            answers += f"= {frame}\n{message}\n. on busy\n"
-            if number + 1 == count:
-                answers += "= dte notready 2\ndte notready ch=2\n. on busy\n"
-        # T1 fires in the midst of it.
-        self.begin(answers + "= t1 dte\n. off busy\n= dte ready 2\ndte ready ch=2\n. off idle\n", "--t1", "4", "--stay", user=b"dte connect\n")
-        fcntl.fcntl(self.child.stdout, 1031, 4096)  # F_SETPIPE_SZ of Linux
-        self.assertEqual(self.child.stdout.readline().decode(), f"{self.come.pop()}\n")
-        self.asked(1)
-        for frame in frames:
-            self.sends(frame)
-        events = [event for _, event in self.asked(123)]
-        self.assertEqual((events[count + 1], events[-1], len(events)), ("dte notready 2", "t1 dte", 123))
-        notices = [self.child.stdout.readline().decode().rstrip("\n") for _ in range(122)]
-        self.assertEqual(notices.count(message), 120)
-        self.assertEqual([it for it in notices if it != message], ["# notices wait to be read: channel 2 is held", "dte notready ch=2"])
-        self.assertEqual([event for _, event in self.asked(124)][-1], "dte ready 2")
-        self.child.terminate()
-        self.end()
 
     def test_sabme_is_answered_by_dm(self):
         """Where the station is down and reads packets in all forms: it is asked what it answers DISC by."""
@@ -800,11 +656,195 @@ class Joined(ToolCase):
         self.assertFalse(x25lines.is_sealed(octets))
         self.assertEqual(self.end()[0], 0)
 
+
+class Processes(Steps, ToolCase):
+    """What has to be a process: its memory, its signals, what its station says, many octets."""
+
+    sleep = staticmethod(time.sleep)
+
+    def started(self, *words):
+        command = [sys.executable, os.path.join(support.TOOLS, "bridge.py"), *words]
+        child = subprocess.Popen(command, stdin=subprocess.PIPE, stdout=subprocess.PIPE, stderr=subprocess.PIPE, text=True)
+        self.addCleanup(self.ended, child)
+        return child
+
+    @staticmethod
+    def ended(child):
+        child.kill()
+        child.wait()
+        for pipe in (child.stdin, child.stdout, child.stderr):
+            with contextlib.suppress(BrokenPipeError):
+                pipe.close()
+
+    def lines_of(self, line):
+        lines = line.makefile("r")
+        self.addCleanup(lines.close)
+        return lines
+
+    def test_ten_million_octets_without_a_line_end(self):
+        self.begin(". off idle\n= dte connect\n. off idle\n", user=b"a" * 10_000_000 + b"\ndte connect\n")
+        status, notices, _ = self.end()
+        self.assertEqual((status, notices[0]), (1, "? 60"))
+        self.assertIn("131,264 characters", notices[1])
+        self.assertEqual(len(self.asked()), 1)
+
+    def test_clients_of_other_protocols(self):
+        """They are closed, and the next one is served: octets of another protocol, ten million without a line end, a scan of ports."""
+        self.begin(f". off idle\n= {UA}\n. off idle\n", "--stay")
+        for octets in (b"GET / HTTP/1.1\r\n\r\n", b"\x16\x03\x01" * 100 + b"\n", b"a" * 10_000_000, b""):
+            with contextlib.suppress(ConnectionResetError, BrokenPipeError):
+                self.line.sendall(octets)
+                self.line.shutdown(socket.SHUT_WR)
+                self.line.recv(100)
+            self.again()
+        self.sends(UA)
+        self.assertEqual(len(self.asked(1)), 1)
+        self.child.terminate()
+        notices = self.end()[1]
+        self.assertEqual(len(notices), 4)
+        self.assertIn("'GET / HTTP/1.1', which is no line of a trace", notices[0])
+        self.assertIn("more characters than a line of a trace may have", notices[2])
+
+    def test_a_thousand_clients(self):
+        self.begin(f". off idle\n= {UA}\n. off idle\n", "--stay")
+        memory = self.memory()
+        for _ in range(1000):
+            self.again()
+        self.sends(UA)
+        self.assertEqual(len(self.asked(1)), 1)
+        self.assertLess(self.memory(), memory + 4000)
+        self.child.terminate()
+        self.assertEqual(self.end()[0], 143)
+
+    def memory(self):
+        """How much memory the bridge has, in kilobytes."""
+        return int(re.search(r"VmRSS:\s*(\d+)", support.read(f"/proc/{self.child.pid}/status").decode())[1])
+
+    def test_a_client_that_does_not_read(self):
+        """Commands wait while a megabyte and what the system holds stands unsent; they go on once it is read."""
+        count = 1500
+        frame = sealed(bytes(4000)).hex()
+        answer = f"= dte send 1 0 41\n> {frame}\n. off busy\n"
+        self.begin(". off busy\n" + count * answer, "--stay", user=count * b"dte send 1 0 41\n")
+        waiting = 0
+        while waiting != len(self.asked(1)):
+            waiting = len(self.asked())
+            self.sleep(0.3)
+        self.assertLess(waiting, count)
+        self.assertLess(self.memory(), 60_000)
+        for _ in range(count):
+            self.assertEqual(self.gets(), f"> {frame}")
+        self.assertEqual(len(self.asked(count)), count)
+        self.child.terminate()
+        self.assertEqual(self.end()[0], 143)
+
+    def test_two_bridges_on_one_port(self):
+        self.begin(". off idle\n", "--stay")
+        place = "{}:{}".format(*self.place)
+        with socket.socket(socket.AF_INET, socket.SOCK_DGRAM) as taken:
+            taken.bind(("127.0.0.1", 0))
+            port = taken.getsockname()[1]
+            for words, named in ((["--listen", place], place), (["--xot-listen", place], place), (["--udp", f"{port}:1"], f"127.0.0.1:{port}")):
+                done = support.run("bridge.py", "dce", *words, "--x25", self.program)
+                self.assert_refused(done, f"{named}: Address already in use")
+        self.child.terminate()
+        self.end()
+
+    def test_signals_end_the_link(self):
+        self.addCleanup(signal.signal, signal.SIGHUP, signal.signal(signal.SIGHUP, signal.SIG_DFL))
+        for number, status in ((signal.SIGTERM, 143), (signal.SIGINT, 130), (signal.SIGHUP, 129)):
+            with self.subTest(number):
+                self.begin(f". off busy\n= {UA}\ndte linkup\n. off idle\n= dte disconnect\ndte disconnect\ndte linkdown local\n{DISC}\n. off busy\n= {UA}\n. off busy\n", "--t1", "60", "--stay")
+                self.sends(UA)
+                self.asked(1)
+                self.child.send_signal(number)
+                self.assertEqual(self.gets(), DISC)
+                self.sends(UA)
+                self.assertEqual(self.end(), (status, ["dte linkup", "dte disconnect", "dte linkdown local"], ""))
+
+    def test_a_bridge_that_leaves_sleeps(self):
+        """Also where a `wait` that comes to nothing is first among the commands, and nobody answers DISC."""
+        self.begin(f". off busy\n= {UA}\ndte linkup\n. off idle\n= dte disconnect\ndte disconnect\n{DISC}\n. off busy\n", "--t1", "2", "--stay", user=b"wait dte linkup\nwait dte cleared\n", is_left_open=True)
+        self.sends(UA)
+        self.asked(1)
+        self.sleep(0.3)
+        self.child.terminate()
+        self.gets()
+        begin = self.processor_time()
+        self.sleep(1)
+        self.assertLess(self.processor_time() - begin, 0.3)
+        self.assertEqual(self.end()[0], 143)
+
+    def processor_time(self):
+        """How long the bridge has had a processor, in seconds."""
+        fields = support.read(f"/proc/{self.child.pid}/stat").decode().rpartition(")")[2].split()
+        return (int(fields[11]) + int(fields[12])) / os.sysconf("SC_CLK_TCK")
+
+    def test_a_second_signal_ends_it_at_once(self):
+        self.begin(f". off busy\n= {UA}\ndte linkup\n. off idle\n= dte disconnect\ndte disconnect\n{DISC}\n. off busy\n", "--t1", "60", "--stay")
+        self.sends(UA)
+        self.asked(1)
+        self.child.terminate()
+        self.gets()
+        self.child.terminate()
+        self.assertEqual(self.end()[0], -signal.SIGTERM)
+
+    def test_connect_behind_disconnect_begins_a_new_station(self):
+        """Once DISC is answered, or T1 has passed, as an answer that comes later would be taken for one to SABM."""
+        for answer in (UA, "< 010f68ee", None):
+            with self.subTest(answer):
+                dead = "dte connect\n! 13\n. off busy\n"
+                answers = f". off busy\n= dte disconnect\ndte disconnect\n{DISC}\n. off busy\n" + (f"= {answer}\n. off busy\n= " if answer else "= ") + dead
+                self.begin(answers, "--t1", "60" if answer else "3", user=b"dte disconnect\ndte connect\n")
+                self.assertEqual(self.gets(), DISC)
+                self.sleep(0.5)
+                self.assertEqual([event for _, event in self.asked()], ["dte disconnect"])
+                if answer:
+                    self.sends(answer)
+                # The new station reads the same answers, and is asked for something else than the first of them.
+                status, notices, said = self.end()
+                self.assertEqual((status, notices[:2]), (1, ["dte disconnect", "? 60"]))
+                self.assertIn("asked 'dte connect' for 'dte disconnect'", said)
+                self.assertEqual([event for _, event in self.asked()], ["dte connect"])
+
+    def test_a_reader_of_notices_that_stalls(self):
+        """T1 and frames go on, the channel by which messages come is held, and comes again when the reader has read."""
+        frames = [line(sealed(bytes([3, 0, number]))) for number in range(120)]
+        message = f"dte message ch=2 at 1.0.0 q=0 data={'41' * 2000}"
+        # What stands in the pipe, which holds one, and in the bridge when it holds the channel.
+        count = -(-(len(message) + 1 + users.SLOW) // (len(message) + 1))
+        answers = ". off busy\n= dte connect\n. start busy\n"
+        for number, frame in enumerate(frames):
+            answers += f"= {frame}\n{message}\n. on busy\n"
+            if number + 1 == count:
+                answers += "= dte notready 2\ndte notready ch=2\n. on busy\n"
+        # T1 fires in the midst of it.
+        self.begin(answers + "= t1 dte\n. off busy\n= dte ready 2\ndte ready ch=2\n. off idle\n", "--t1", "4", "--stay", user=b"dte connect\n")
+        fcntl.fcntl(self.child.stdout, 1031, 4096)  # F_SETPIPE_SZ of Linux
+        self.assertEqual(self.child.stdout.readline(), f"{self.come.pop()}\n")
+        self.asked(1)
+        for frame in frames:
+            self.sends(frame)
+        events = [event for _, event in self.asked(123)]
+        self.assertEqual((events[count + 1], events[-1], len(events)), ("dte notready 2", "t1 dte", 123))
+        notices = [self.child.stdout.readline().rstrip("\n") for _ in range(122)]
+        self.assertEqual(notices.count(message), 120)
+        self.assertEqual([it for it in notices if it != message], ["# notices wait to be read: channel 2 is held", "dte notready ch=2"])
+        self.assertEqual([event for _, event in self.asked(124)][-1], "dte ready 2")
+        self.child.terminate()
+        self.end()
+
     def test_an_answer_that_is_none(self):
         for answer in ("hello", ". off", ". on idle idle"):
             with self.subTest(answer):
                 self.begin(f". off busy\n= dte connect\n{answer}\n", user=b"dte connect\n")
                 self.assertEqual(self.end()[0], 2)
+
+
+def started(*words):
+    """A bridge as a process."""
+    command = [sys.executable, os.path.join(support.TOOLS, "bridge.py"), *words]
+    return subprocess.Popen(command, stdin=subprocess.PIPE, stdout=subprocess.PIPE, stderr=subprocess.PIPE)
 
 
 class Other(ToolCase):
@@ -818,7 +858,7 @@ class Other(ToolCase):
     def test_standard_input_and_output(self):
         program = self.program(f". off busy\n= dte connect\ndte connect\n{SABM}\n. start busy\n= {UA}\ndte linkup\n. off idle\n")
         commands = self.file("commands", b"dte connect\n")
-        child = Joined.started("dte", "--stdio", "--t1", "60", "--quiet", "0.2", "--commands", commands, "--x25", program)
+        child = started("dte", "--stdio", "--t1", "60", "--quiet", "0.2", "--commands", commands, "--x25", program)
         with child.stdin, child.stdout, child.stderr:
             self.assertEqual(child.stdout.readline().decode(), f"{SABM}\n")
             child.stdin.write(f"{UA}\n".encode())
@@ -858,7 +898,7 @@ class Other(ToolCase):
         with socket.socket() as free:
             free.bind(("127.0.0.1", 0))
             place = free.getsockname()
-        child = Joined.started("dte", "--connect", "localhost:{}".format(place[1]), "--retry", "--stay", "--x25", program)
+        child = started("dte", "--connect", "localhost:{}".format(place[1]), "--retry", "--stay", "--x25", program)
         self.addCleanup(child.kill)
         with child.stdin, child.stdout, child.stderr:
             self.assertEqual(child.stdout.readline().decode(), f"# no connection to localhost:{place[1]} yet: Connection refused\n")
@@ -913,7 +953,7 @@ class Other(ToolCase):
                 self.skipTest("no IPv6")
             peer.settimeout(10)
             program = self.program(f". off busy\n= dte connect\n{SABM}\n. off idle\n")
-            child = Joined.started("dte", "--udp", f"0:[::1]:{peer.getsockname()[1]}", "--quiet", "0.2", "--x25", program)
+            child = started("dte", "--udp", f"0:[::1]:{peer.getsockname()[1]}", "--quiet", "0.2", "--x25", program)
             with child.stdout, child.stderr:
                 child.stdin.write(b"dte connect\n")
                 child.stdin.close()
@@ -927,7 +967,7 @@ class Other(ToolCase):
         peer.bind(("127.0.0.1", 0))
         peer.settimeout(10)
         program = self.program(f". off busy\n= dte connect\n{SABM}\n. start busy\n= {UA}\ndte linkup\n. off idle\n")
-        child = Joined.started("dte", "--udp", f"0:{peer.getsockname()[1]}", "--t1", "60", "--quiet", "0.2", "--x25", program)
+        child = started("dte", "--udp", f"0:{peer.getsockname()[1]}", "--t1", "60", "--quiet", "0.2", "--x25", program)
         child.stdin.write(b"dte connect\n")
         child.stdin.close()
         octets, sender = peer.recvfrom(2000)

@@ -20,15 +20,8 @@ import english
 from x25tools.command import COMMANDS
 
 WIDTH = 100
-# How many words a sentence has at most, and in the pages that aren't rewritten yet.
-WORDS, WORDS_BEFORE = 25, 45
-NOT_REWRITTEN = (
-    "crates/*/README.md", "interop/README.md", "examples/embed/README.md", "CHANGELOG.md",
-    "docs/ARCHITECTURE.md", "docs/BUGS.md", "docs/CIRCUIT.md",
-    "docs/DECISIONS.md", "docs/EMBEDDING.md", "docs/FORMATS.md", "docs/INTEROP.md",
-    "docs/LINK.md", "docs/MANUAL.md", "docs/PEER.md", "docs/PERFORMANCE.md",
-    "docs/PROVING.md", "docs/READING.md", "docs/THEORY.md", "docs/WALK.md",
-)
+# How many words a sentence has at most.
+WORDS = 25
 CRATES = os.path.join(support.ROOT, "crates")
 # What is named and stands elsewhere: what commands leave behind, the sources of Linux, what whoever races decoders has.
 ELSEWHERE = ("build/*", "out/*", "/*", "../x25_*", "net/*", "AnswersOffered.antt")
@@ -105,9 +98,8 @@ class English(unittest.TestCase):
     def test_sentences_have_few_words(self):
         for document, text in self.texts():
             _, _, (most, line, worst) = english.measure(text)
-            is_rewritten = not any(fnmatch.fnmatch(document, pattern) for pattern in NOT_REWRITTEN)
             with self.subTest(document):
-                self.assertLessEqual(most, WORDS if is_rewritten else WORDS_BEFORE, f"line {line}: {worst}")
+                self.assertLessEqual(most, WORDS, f"line {line}: {worst}")
 
     # What is behind something else as a man is in a queue.
     IN_PLACE = re.compile(r"\b(?:fell|far|stations|commands?(?:\{.*?\})?|leave) behind\b|\bbehind (?:a pipe|the other|the next one|`0`)|is behind it")
@@ -188,14 +180,14 @@ class Commands(unittest.TestCase):
                         self.assertIn(word, known)
 
     def test_each_task_of_the_program_is_there(self):
-        tasks = re.findall(r'^        name: "(\w+)"', text_of("crates", "x25_settings", "src", "parser.rt"), re.MULTILINE)
+        tasks = re.findall(r'Command::\w+ => "([a-z]+)"', text_of("crates", "x25_settings", "src", "options.rt"))
         self.assertGreater(len(tasks), 5)
         self.check(r"(?<![\w/.-])x25 ([a-z]+)\b", {*tasks, *COMMANDS, "help"})
 
     def test_each_option_is_there(self):
-        sources = [path for path in files() if path.endswith(".py") or path.startswith(".ci/") or os.path.basename(path) in ("parser.rt", "options.rt")]
-        words = r"--([a-z][\w-]+)|Flag\(\s*\"([\w-]+)\"|Numbered::\w+ => \"([\w-]+)\""
-        known = {option for path in sources for option in re.findall(words, text_of(path)) for option in option}
+        sources = [path for path in files() if path.endswith(".py") or path.startswith(".ci/") or path.endswith("x25_settings/src/options.rt")]
+        words = r"--([a-z][\w-]+)"
+        known = {option for path in sources for option in re.findall(words, text_of(path))}
         self.check(r"(?<![\w-])--([a-z][\w-]+)", known | {"version", "help", "test", "only", "start", "generated", "no-install-recommends"})
 
     def test_each_script_is_there(self):

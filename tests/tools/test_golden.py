@@ -9,27 +9,29 @@ import support
 from support import ToolCase
 
 import golden
+import rows
 
 
 class Files(unittest.TestCase):
     def test_each_case_is_of_its_subject(self):
         """A subject is the word that the program is called by, or its usage."""
-        files = [os.path.relpath(os.path.join(folder, name), support.GOLDEN) for folder, _, names in os.walk(support.GOLDEN) for name in names if name != ".gitattributes"]
-        self.assertEqual([file for file in files if not re.fullmatch(r"\w+/\w+\.cases", file)], [])
+        paths = [os.path.join(folder, name) for folder, _, names in os.walk(support.GOLDEN) for name in names]
+        others = {os.path.relpath(path, support.GOLDEN) for path in paths if not re.search(r"/\w+/\w+\.cases$", path)}
+        self.assertEqual(others, {".gitattributes", "beginnings.txt"})
         subjects = {case.name: (case.name.partition("/")[0], case.words) for case in golden.cases(golden.names())}
         self.assertEqual([name for name, (subject, words) in subjects.items() if subject != "usage" and words[0] != subject], [])
 
-    def test_usage_writes_nothing(self):
-        cases = golden.cases(golden.chosen(["usage"])[0])
-        self.assertTrue(cases)
+    def test_bad_usage_writes_nothing(self):
+        cases = [case for case in golden.cases(golden.chosen(["usage"])[0]) if case.status]
+        self.assertGreater(len(cases), 15)
         self.assertEqual({(case.output, case.status) for case in cases}, {(b"", 2)})
 
 
 class Form(ToolCase):
-    def case(self, text):
-        """A case with this text."""
+    def case(self, text, rows=b""):
+        """A case with this text, or as these rows."""
         os.makedirs(os.path.join(self.folder, "decode"), exist_ok=True)
-        self.file("decode/some.cases", b"one\n" + text)
+        self.file("decode/some.cases", b"one: " + rows if rows else b"one\n" + text)
         with mock.patch.object(golden, "FOLDER", self.folder):
             case, = golden.cases(golden.names())
             self.assertEqual(case.name, "decode/one")
@@ -55,6 +57,40 @@ class Form(ToolCase):
     def test_python(self):
         text = b'== input in Python\n"a" * 3\n(\n  b"\\xff" +\n  bytes(2)\n)\n"\\r\\n"\n== answer in Python\nbytes(range(3)).hex()\n'
         self.assertEqual(self.sections(text), (b"aaa\xff\0\0\r\n", b"000102"))
+
+    def rows(self, text):
+        case = self.case(b"", text)
+        return case.words, case.input, case.output, case.status
+
+    def test_rows(self):
+        text = b"x25 station dte --k 2 = 1\n=> . off busy\na => b / c\n    / d\ne / f\n> 01 -> fault 3 / no slash\n"
+        given, answer = b"a\ne\nf\n> 01\n", b". off busy\nb\nc\nd\n> fault 3 / no slash\n"
+        self.assertEqual(self.rows(text), (["station", "dte", "--k", "2"], given, answer, 1))
+
+    def test_rows_of_counts(self):
+        text = b"x25 judge = 0\ncounts dte 5 4 1, 0 1 1 0, dce 2 2 0, 12 3 0 3, told 1 2\ncounts told 0 0 3\n"
+        answer = "# dte: 5 frames, 4 judged, 1 not judged\n# dte channel 0: 1 packets, 1 judged, 0 not judged\n"
+        answer += "# dce: 2 frames, 2 judged, 0 not judged\n# dce channel 12: 3 packets, 0 judged, 3 not judged\n"
+        answer += "# told: 1 rules, 2 manners\n# told: 0 rules, 0 manners, 3 in doubt\n"
+        self.assertEqual(self.rows(text), (["judge"], b"", answer.encode(), 0))
+
+    def test_a_beginning(self):
+        text = b"x25 judge = 0\n= up\n> 01\n"
+        given, answer = b"> 013febdf\n< 01738357\n> 01\n", b"> SABM cmd P=1\n< UA rsp F=1\n"
+        self.assertEqual(self.rows(text), (["judge"], given, answer, 0))
+
+    def test_sections_as_rows(self):
+        text = b"== input in rows without final LF\na / b\n/ c\n== answer in rows\nd / e\n"
+        self.assertEqual(self.sections(text), (b"a\nb\nc", b"d\ne\n"))
+
+    def test_a_case_that_is_written_as_rows_says_the_same(self):
+        for name in ("judge/accepts_no_call_between_two_restarts", "station/call_collision", "decode/loose", "sim/heal_both_ends"):
+            case, = golden.cases([name])
+            for program in (None, support.PROGRAM):
+                text = rows.as_rows(case, program)
+                if text is not None:
+                    other = golden.Case(name, text)
+                    self.assertEqual((other.words, other.input, other.output, other.status), (case.words, case.input, case.output, case.status))
 
     def test_what_has_another_form(self):
         for text in (b"== input\n", b"== input\na\n== answer\n== answer\n", b"== input\na\n== input\n== answer\n", b"== answer\n== input\n"):

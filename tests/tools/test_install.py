@@ -8,6 +8,7 @@ import re
 import shutil
 import subprocess
 import sys
+import tempfile
 import unittest
 from glob import glob
 
@@ -41,21 +42,31 @@ def make(*words):
 
 @support.needs_program
 class Installed(ToolCase):
+    @classmethod
+    def setUpClass(cls):
+        """Installs once; each test has a copy."""
+        folder = tempfile.TemporaryDirectory()
+        cls.addClassCleanup(folder.cleanup)
+        cls.installed = folder.name
+        words = f"DESTDIR={cls.installed}", f"PREFIX={PREFIX}", f"PROGRAM={support.PROGRAM}"
+        cls.done = make("install", *words)
+
     def setUp(self):
         super().setUp()
+        self.assertEqual((self.done.returncode, self.done.stderr), (0, ""))
+        subprocess.run(["cp", "-a", f"{self.installed}/.", self.folder], check=True)
         os.chmod(self.folder, 0o755)
         self.there = self.folder + PREFIX
         self.documents = f"{self.there}/share/doc/x25"
         self.words = f"DESTDIR={self.folder}", f"PREFIX={PREFIX}", f"PROGRAM={support.PROGRAM}"
-        done = make("install", *self.words)
-        self.assertEqual((done.returncode, done.stderr), (0, ""))
 
     def run_there(self, command, has_path=True):
-        """What a command for bash writes, run by another user among the documents; with the folder of the programs on the PATH, or not."""
+        """What a command for bash writes, run by another user among the documents; with the folder of the programs on the PATH, or not.
+        The word 'unproved' is left out."""
         places = [f"{self.there}/bin"] * has_path + [os.path.dirname(os.path.realpath(sys.executable)), "/usr/bin", "/bin"]
         environment = {"PATH": ":".join(places), "LC_ALL": "C", "TZ": "UTC", "HOME": "/"}
         done = subprocess.run(["bash", "-c", command], cwd=self.documents, env=environment, capture_output=True, text=True, timeout=60, **OTHER)
-        return done.stdout + done.stderr
+        return re.sub(r"^(x25 [\d.]+) unproved$", r"\1", done.stdout + done.stderr, flags=re.MULTILINE)
 
     def page(self):
         with open(f"{self.there}/share/man/man1/x25.1") as file:
@@ -195,12 +206,12 @@ class Installed(ToolCase):
 
     def test_the_sources_bear_the_version_of_the_program(self):
         said = subprocess.run([support.PROGRAM, "--version"], capture_output=True, text=True, timeout=60).stdout.strip()
-        self.assertIn(f"build/{said.replace(' ', '-')}.tar.gz", make("-n", "dist").stdout)
+        self.assertIn(f"build/{'-'.join(said.split()[:2])}.tar.gz", make("-n", "dist").stdout)
 
 
 class Version(unittest.TestCase):
     def test_it_is_the_same_everywhere(self):
-        version = re.search(r'\.version\("(.*)"\)', support.read("crates/x25_settings/src/parser.rt").decode())[1]
+        version = re.search(r'\.version\("(.*)"\)', support.read("crates/x25/src/help.rt").decode())[1]
         projects = ((f"bindings/{path}", r'^version = "(.*)"') for path in ("rust/Cargo.toml", "python/pyproject.toml"))
         places = ("CHANGELOG.md", r"^## (\S+?),?( |$)"), ("debian/changelog", r"^x25 \((.*)-1\)"), *projects
         for path, pattern in places:

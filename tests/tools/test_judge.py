@@ -22,12 +22,8 @@ import runs
 from x25tools.x25lines import fcs, is_sealed
 
 # In the gate; `make judge-runs` plays 10,000 of each of the first three, 5,000, 3,600 and 2,500.
-RUNS = 300
-AGAIN_RUNS = 300
-LINK_RUNS = 200
-ODD_RUNS = 100
-ORDER_RUNS = 20
-RULES_RUNS = 75
+RUNS, AGAIN_RUNS, LINK_RUNS = support.runs(300), support.runs(300), support.runs(200)
+ODD_RUNS, ORDER_RUNS, RULES_RUNS = support.runs(100), support.runs(20), support.runs(75)
 
 
 def in_another_form(packet):

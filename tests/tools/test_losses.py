@@ -166,7 +166,7 @@ class Scripts(ToolCase):
         self.assertEqual(support.run("losses.py", "--help").returncode, 0)
 
 
-RUNS = 300
+RUNS = support.runs(300)
 # After `heal` nothing is on the line, and timer T1 runs at neither end.
 AT_REST = "t1 dte\nt1 dce\ndeliver >\ndeliver <\n"
 REFUSED_AT_REST = ["! 11", "! 11", "! 50", "! 50"]
@@ -216,7 +216,7 @@ class Healed(ToolCase):
                 self.assertEqual(down, up)
                 compared, runs = compared + sum(map(len, down.values())), runs + 1
         self.assertGreater(runs, RUNS // 2)
-        self.assertGreater(compared, 2000)
+        self.assertGreater(compared, support.runs(2000))
 
 
 if __name__ == "__main__":

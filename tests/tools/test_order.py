@@ -11,7 +11,7 @@ from support import PROGRAM, ToolCase
 
 from x25tools import losses
 
-LISTS, EVENTS = 1000, 80
+LISTS, EVENTS = support.runs(1000), 80
 ENDS, OTHER = ("dte", "dce"), {"dte": "dce", "dce": "dte"}
 ADDRESSES = ("-", "7", "0123456789", "999999999999999")
 # How often each command comes, of 64; `with` has packet sizes and windows.
@@ -74,7 +74,7 @@ def played(seed):
     events += [("ready", f"{end} ready {1 + channel}") for end in ENDS for channel in range(channels)] + [("heal", "heal")]
     script = "".join(f"{line}\n{MARK}\n" for _, line in [("set-up", MARK), *events])
     words = ["sim", "--k", str(k), "--n2", str(n2), "--channels", str(channels)]
-    done = subprocess.run([PROGRAM, *words], input=script.encode(), stdout=subprocess.PIPE, timeout=60)
+    done = subprocess.run([PROGRAM, *words], input=script.encode(), stdout=subprocess.PIPE, stderr=subprocess.DEVNULL, timeout=60)
     told = [part.splitlines() for part in done.stdout.decode().split(f"{ANSWERED}\n")]
     # The first is what set-up told, the second is between two marks, and the last is after all.
     return [(kind, lines) for (kind, _), lines in zip(events, told[2:-1], strict=True)]
@@ -134,8 +134,9 @@ class Order(ToolCase):
                     came += up
             self.assertEqual(list(breaks(told)), [], f"seed {seed}")
         self.assertEqual({kind for kind in accepted if accepted[kind]}, {*OFTEN, "deliver", "lose", "damage", "t1", "heal"})
-        self.assertGreater(came, 200)
-        self.assertGreater(anew, 0)
+        self.assertGreater(came, support.runs(200))
+        # In a tenth of the lists, those of an unproved program, none need begin anew.
+        self.assertTrue(anew or LISTS < 1000)
 
     def test_what_breaks_it_is_seen(self):
         sent = ["dte send ch=1 at 1.0.0 q=0 data=41", "dte send ch=1 at 1.0.0 q=1 data=42"]

@@ -2,7 +2,6 @@
 doesn't grow."""
 
 import os
-import resource
 import subprocess
 import unittest
 
@@ -10,12 +9,8 @@ import support
 
 from x25tools import x25lines
 
-MEMORY = 64 << 20
-
-
-def few_megabytes():
-    """Bounds the memory of the program that is begun next."""
-    resource.setrlimit(resource.RLIMIT_AS, (MEMORY, MEMORY))
+# How much more memory a long input may take than a short one, in kilobytes.
+MORE = 500
 
 
 @support.needs_program
@@ -49,12 +44,112 @@ class Program(unittest.TestCase):
                 # The first lines that are none of a script are told, and no more.
                 self.assertEqual(done.stderr.count(b"\n"), 21 if words == "sim --down" else 0)
 
-    def test_the_word_that_is_one_too_many(self):
-        for words, named in ("decode trace extra", "extra"), ("decode --wide trace extra", "extra"), ("judge --k 3 trace dte", "dte"), ("decode trace", None), ("decode trace --wide", "trace"):
+    def test_each_wrong_word_has_its_reason(self):
+        ends, places = "dte or dce", "line, dte, dce or either"
+        rows = {
+            "": "no command",
+            "quux": "no such command: 'quux'",
+            "deocde": "no such command: 'deocde'; did you mean 'decode'?",
+            "--wide decode": "the command comes first, then '--wide'",
+            "decode --foo": "no such option: '--foo'",
+            "decode --lon": "no such option: '--lon'; did you mean '--long'?",
+            "sim --chan=3": "no such option: '--chan'; did you mean '--channels'?",
+            "decode -x": "no such option: '-x'",
+            "decode --tap trace": "'--tap' is no option of 'decode'; commands that have it: sim",
+            "frame --k 3": "'--k' is no option of 'frame'; commands that have it: sim station judge",
+            "sim --channels 17 script": "17 is not in 1..=16: '--channels'",
+            "sim --channels=17": "17 is not in 1..=16: '--channels'",
+            "station dte --channels 5000": "5000 is not in 1..=4095: '--channels'",
+            "sim script --k 03": "'03' is no number in 1..=7, without a sign and leading zeros: '--k'",
+            "sim --k=": "'' is no number in 1..=7, without a sign and leading zeros: '--k'",
+            "sim script --k": "'--k' wants a number",
+            "judge --at foo trace": f"'foo' is none of {places}: '--at'",
+            "judge --at": f"'--at' wants a place: {places}",
+            "decode --long=yes": "'--long' has no value: '--long=yes'",
+            "decode --long trace --long": "'--long' is there twice",
+            "deframe": f"no end: {ends}",
+            "deframe xyz": f"'xyz' is no end: {ends}",
+            "station --k 2": f"no end: {ends}",
+            "station dte --t1 5": "'--t1' is a time of a clock: '--clock' isn't there",
+            "station dte --incoming 2": "'--incoming' and '--outgoing' are more than '--channels' together",
+            "decode trace extra": "unexpected argument 'extra' found",
+            "judge trace --k 3 dte": "unexpected argument 'dte' found",
+            "vectors trace": "unexpected argument 'trace' found",
+        }
+        for words, reason in rows.items():
             with self.subTest(words):
-                status, said = self.run_on(words.split(), input=b"", stdout=subprocess.DEVNULL)
-                self.assertEqual(status, 2)
-                self.assertTrue(said.startswith(f"error: unexpected argument '{named}' found\n".encode() if named else b"trace: "), said)
+                done = subprocess.run(
+                    [support.PROGRAM, *words.split()], input=b"", capture_output=True, timeout=60
+                )
+                self.assertEqual((done.returncode, done.stdout), (2, b""))
+                said = done.stderr.decode()
+                self.assertEqual(said.partition("\n")[0], f"error: {reason}")
+                usage = r"\n\nUsage: x25 .*\n\nFor more information, try '--help'\.\n"
+                self.assertRegex(said, usage)
+
+    def test_each_refusal_of_a_script_has_its_reason(self):
+        script = "drain 9\ndte send 9 0 41\n\ndce accept 1\nlose > 0\ndte call 1 2 -\n"
+        done = subprocess.run(
+            [support.PROGRAM, "sim", "-"], input=script.encode(), capture_output=True, timeout=60
+        )
+        answers = [line for line in done.stdout.decode().splitlines() if line[0] in "?!"]
+        self.assertEqual((done.returncode, answers), (1, ["! 42", "? 60", "! 30", "! 51"]))
+        self.assertEqual(
+            done.stderr.decode().splitlines(),
+            [
+                "line 2: ! 42, no such channel: 'dte send 9 0 41'",
+                "line 3: empty (--loose takes empty lines)",
+                "line 4: ! 30, not in this state of the channel: 'dce accept 1'",
+                "line 5: ! 51, no frame at that place: 'lose > 0'",
+            ],
+        )
+        many = "drain 9\n" + "dte send 9 0 41\n" * 50
+        done = subprocess.run(
+            [support.PROGRAM, "sim"], input=many.encode(), capture_output=True, timeout=60
+        )
+        self.assertEqual((done.returncode, done.stdout.count(b"! 42\n")), (1, 50))
+        said = done.stderr.decode().splitlines()
+        self.assertEqual((len(said), said[-1]), (21, "no more is said of such lines"))
+
+    def test_a_capture_in_place_of_lines(self):
+        said = b"this is a capture, and no lines: `x25 dump` reads it (tools/x25dump.py)\n"
+        capture = os.path.join(support.ROOT, "examples", "line.pcapng")
+        with open(capture, "rb") as file:
+            octets = file.read()
+        for words in ["decode"], ["judge"], ["decode", "--loose"]:
+            with self.subTest(words):
+                named = subprocess.run([support.PROGRAM, *words, capture], capture_output=True, timeout=60)
+                read = subprocess.run([support.PROGRAM, *words], input=octets, capture_output=True, timeout=60)
+                self.assertEqual(named.stderr, said)
+                self.assertEqual((read.stdout, read.stderr), (named.stdout, said))
+                self.assertEqual(named.returncode, 1)
+        for front in b"\xd4\xc3\xb2\xa1", b"\xa1\xb2\x3c\x4d", b"> 013febdf\n", b"":
+            done = subprocess.run([support.PROGRAM, "decode"], input=front, capture_output=True, timeout=60)
+            self.assertEqual(done.stderr, said if front[:1] > b"\x80" else b"")
+
+    def judged(self, words, path, given=b""):
+        """Status, output and standard error of the program, where FILE among the words is a path."""
+        named = [path if word == "FILE" else word for word in words.split()]
+        done = subprocess.run([support.PROGRAM, *named], input=given, capture_output=True, timeout=60)
+        return done.returncode, done.stdout, done.stderr
+
+    def test_words_in_any_order(self):
+        trace = os.path.join(support.ROOT, "examples", "exchange.trace")
+        plain = self.judged("judge --wide --k 3 FILE", trace)
+        self.assertEqual((plain[0], plain[2]), (0, b""))
+        with open(trace, "rb") as file:
+            given = file.read()
+        for words in (
+            "judge FILE --wide --k 3",
+            "judge --k=3 FILE --wide",
+            "judge --wide --k=3 -- FILE",
+        ):
+            self.assertEqual(self.judged(words, trace), plain)
+        for words in "judge - --wide --k=3", "judge --wide --k 3 -- -", "judge --k=3 --wide":
+            self.assertEqual(self.judged(words, trace, given), plain)
+        end = self.judged("station dte --k 2", trace, b"dte connect\n")
+        self.assertEqual((end[0], end[2]), (0, b""))
+        self.assertEqual(self.judged("station --k=2 dte", trace, b"dte connect\n"), end)
 
     def test_a_file_in_place_of_standard_input(self):
         trace, script = (os.path.join(support.ROOT, "examples", name) for name in ("exchange.trace", "call.script"))
@@ -66,7 +161,7 @@ class Program(unittest.TestCase):
         status, said = self.run_on(["decode", "/none"], input=b"> 013febdf\n", stdout=subprocess.DEVNULL)
         self.assertEqual(status, 2)
         self.assertRegex(said, rb"^/none: .*\n$")
-        for words in (["vectors", trace], [trace], ["decode", trace, trace], ["decode", trace, "--wide"]):
+        for words in (["vectors", trace], [trace], ["decode", trace, trace]):
             self.assertEqual(self.run_on(words, input=b"", stdout=subprocess.DEVNULL)[0], 2)
 
     def test_a_read_that_fails(self):
@@ -101,10 +196,12 @@ class Program(unittest.TestCase):
                 self.assertTrue(all(line.startswith(b"# ") for line in child.stdout) if word == "judge" else not child.stdout.read())
 
     def test_memory_does_not_grow_with_the_input(self):
-        whole = b"> " + b"0" * (80 << 20) + b"\n> 013febdf\n"
+        whole = b"> " + b"0" * ((80 << 20) // support.SHARE) + b"\n> 013febdf\n"
         for word in "decode", "judge":
             with self.subTest(word):
-                done = subprocess.run([support.PROGRAM, word], input=whole, capture_output=True, timeout=60, preexec_fn=few_megabytes)
+                _, least = support.run_with_peak([word], whole[-13:])
+                done, most = support.run_with_peak([word], whole)
+                self.assertLess(most, least + MORE)
                 answers = b"".join(line for line in done.stdout.splitlines(keepends=True) if not line.startswith(b"# "))
                 self.assertEqual((done.returncode, answers, done.stderr), (1, b"? 60\n> SABM cmd P=1\n", b""))
 

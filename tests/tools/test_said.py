@@ -66,6 +66,15 @@ class Said(unittest.TestCase):
                 self.assertTrue([path for path in paths if path.endswith((".edit", ".edits"))])
                 self.assertEqual({*names} - {*re.findall(r"^(?:abbrev pub|pub record|pub data|  pub| ) (\w+)", carried, re.MULTILINE)}, set())
 
+    def test_the_table_of_rules_is_of_the_rules(self):
+        """Each row of docs/PEER.md has the sections and the definitions of its rule below."""
+        text = said.text_of("docs/PEER.md")
+        rows = re.findall(r"^\| (\d+) \| .* \| (.*) \| (.*) \|$", text, re.MULTILINE)
+        rules = re.findall(r"^(\d+)\. (.*(?:\n {3,4}\S.*)*)", text, re.MULTILINE)
+        found = {number: re.search(r"\((\d[^();]*); ([`\w, ]+)\)", " ".join(rule.split())) for number, rule in rules}
+        self.assertEqual([number for number, *_ in rows], [str(number) for number in range(1, 26)])
+        self.assertEqual({number: (sections, names) for number, sections, names in rows}, {number: (at[1], at[2]) for number, at in found.items() if at})
+
 
 if __name__ == "__main__":
     unittest.main()

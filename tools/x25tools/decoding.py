@@ -50,8 +50,8 @@ def find_program() -> str | None:
 @functools.lru_cache(maxsize=None)
 def say_if_unproved(program: str) -> None:
     """Says on standard error that a program is unproved, where it is the one of `make look`: once
-    of each that was built, which a file beside it keeps."""
-    if os.path.basename(program) != UNPROVED:
+    of each that was built, which a file beside it keeps. Who names it by X25 isn't told."""
+    if os.path.basename(program) != UNPROVED or os.environ.get("X25"):
         return
     said = f"{program}.said"
     with contextlib.suppress(OSError):

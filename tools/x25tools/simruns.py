@@ -15,7 +15,8 @@ MARK = ". "
 SECONDS = 60
 DIRECTIONS = (">", "<")
 # What the program says of a line that is no event.
-NO_EVENT = re.compile(r"^line (\d+): (.*)$", re.MULTILINE)
+# A line that is none of a script; one that is refused is an event of the run.
+NO_EVENT = re.compile(r"^line (\d+): (?!! )(.*)$", re.MULTILINE)
 
 
 class Run(NamedTuple):

@@ -58,6 +58,8 @@ class Connection:
 
     def __init__(self, opened: socket.socket, t3: float, address: Address | None = None) -> None:
         self._socket, self._left = opened, bytearray()
+        # The number of its file, which a loop over thousands of circuits looks at in each turn.
+        self.number = opened.fileno()
         self.is_open, self.why = address is None, ""
         opened.setblocking(False)
         opened.setsockopt(socket.IPPROTO_TCP, socket.TCP_NODELAY, 1)
@@ -71,11 +73,6 @@ class Connection:
         for name, value in values.items():
             if hasattr(socket, name):
                 self._socket.setsockopt(socket.IPPROTO_TCP, getattr(socket, name), value)
-
-    @property
-    def number(self) -> int:
-        """The number of its file."""
-        return self._socket.fileno()
 
     @property
     def waits(self) -> int:
@@ -136,3 +133,4 @@ class Connection:
     def close(self) -> None:
         """Closes it; what waits is lost."""
         self._socket.close()
+        self.number = -1
