@@ -83,7 +83,9 @@ impl Switch {
     }
 
     /// The routes, to be made and removed. What they are is looked at as a call comes.
-    pub fn routes(&mut self) -> &mut Routes {
+    pub fn routes(&mut self) -> &mut Routes
+        ensures { result.now ≡ self.old.routes }
+    {
         &mut self.routes
     }
 
