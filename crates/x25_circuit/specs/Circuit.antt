@@ -1,5 +1,6 @@
 -- The state of one logical channel at one end. ITU-T X.25 (10/96), sections 4.1, 4.3.1 and 4.4.
-use Rattle.std.specs.Prelude.{ℕ, ◌-◌, List, [], ◌++◌, drop, Bool, true, false, if◌then◌else◌, not, ◌&&◌, ◌==◌}
+use Rattle.std.specs.Prelude.{ℕ, ◌-◌, ◌%◌, List, [], ◌++◌, drop, length, Bool, true, false, if◌then◌else◌, not, ◌&&◌}
+use Rattle.std.specs.Prelude.{◌==◌, nat_lt, Option, Some, None}
 use Rattle.x25_bits.specs.declared.role.Role.{Role}
 use Rattle.x25_circuit.specs.declared.state.State.{State}
 use Rattle.x25_circuit.specs.declared.state.State.TheVariants.{Free, Open}
@@ -114,9 +115,17 @@ waits x = wholes x.talk.rest
 abbrev pub awaited_by : Circuit → Awaits
 awaited_by x = awaited_in x.state x.talk.int_out
 
--- nothing is under way: no answer is awaited, and no message waits
+-- a data packet isn't acknowledged, and the other end is ready to receive
+abbrev pub is_unacknowledged : Circuit → Bool
+is_unacknowledged x = (is_open x && x.talk.peer_ready) && nat_lt x.talk.acked (length x.talk.sent)
+
+-- P(S) of the first of these, for which T25 counts
+abbrev pub unacknowledged : Circuit → Option ℕ
+unacknowledged x = if is_unacknowledged x then Some (x.talk.acked % 8) else None
+
+-- nothing is under way: no answer is awaited, no message waits, and no data packet isn't acknowledged
 abbrev pub is_idle : Circuit → Bool
-is_idle x = not (is_any (awaited_by x)) && (waits x == 0)
+is_idle x = not (is_any (awaited_by x)) && ((waits x == 0) && not (is_unacknowledged x))
 
 -- how many messages haven't the confirmation yet that was asked of them: they wait, or their last packet isn't
 -- acknowledged (section 4.4.1.4)

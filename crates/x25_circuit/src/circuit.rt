@@ -3,7 +3,7 @@ ghost use Rattle.x25_circuit.specs.declared.state.State.{State};
 ghost use Rattle.x25_circuit.specs.Params.{default_params};
 ghost use Rattle.x25_circuit.specs.Calling.{pulled, pulls_nothing};
 ghost use Rattle.x25_circuit.specs.Circuit.{CircuitSettings, begun, entered, forgotten, zeroed, is_free, is_open};
-ghost use Rattle.x25_circuit.specs.Circuit.{awaited_by, waits, is_idle};
+ghost use Rattle.x25_circuit.specs.Circuit.{awaited_by, is_unacknowledged, unacknowledged, waits, is_idle};
 ghost use Rattle.x25_circuit.specs.Circuit.{message_room, unconfirmed, outgoing};
 ghost use Rattle.x25_circuit.specs.code.CallMemory.{has_memory};
 ghost use Rattle.x25_circuit.specs.Circuit.{Circuit as Channel};
@@ -147,7 +147,27 @@ impl Circuit {
         }
     }
 
-    /// Whether nothing is under way: no message waits, and no answer is awaited.
+    // Whether a data packet of this end isn't acknowledged, while the other end is ready to receive.
+    fn is_unacknowledged(&self) -> bool
+        ensures { (c : CircuitSettings) (x : Channel) → FitsCircuit c self.now x → result ≡ is_unacknowledged x }
+    {
+        self.is_open() & self.transfer.peer_ready & (self.transfer.sender.unacked() > 0)
+    }
+
+    /// P(S) of the first data packet of this end that isn't acknowledged, while the other end is ready to receive. T25
+    /// counts as long as there is one, and begins anew with another.
+    pub fn unacknowledged(&self) -> Option<u8>
+        ensures { (c : CircuitSettings) (x : Channel) → FitsCircuit c self.now x → result ≡ unacknowledged x }
+    {
+        if !self.is_unacknowledged() {
+            return None;
+        }
+        let sender = &self.transfer.sender;
+        Some((sender.top().get() + 8 - sender.unacked()) % 8)
+    }
+
+    /// Whether nothing is under way: no message waits, no answer is awaited, and all that was sent is acknowledged, but
+    /// where the other end isn't ready.
     pub fn is_idle(&self) -> bool
         ensures value { (c : CircuitSettings) (x : Channel) → FitsCircuit c self.now x → result ≡ is_idle x }
         ensures none { result ≡ true → waits_of self.now ≡ 0 }
@@ -155,7 +175,7 @@ impl Circuit {
         if self.awaits().is_any() {
             return false;
         }
-        self.waits() == 0
+        (self.waits() == 0) & !self.is_unacknowledged()
     }
 
     /// How many messages wait, at most 8. None has more octets than the longest.

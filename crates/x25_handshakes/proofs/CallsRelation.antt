@@ -1,8 +1,8 @@
 -- What is kept of two ends between two clears. The first of the two ends is the DTE, the second the DCE.
 use Rattle.x25_handshakes.proofs.Names.{◌≡◌, ◌⊎◌, ℕ, List, [], ◌∷◌, true, Params, may_propose, may_answer, said_in, CallRequest, At}
-use Rattle.x25_handshakes.proofs.Names.{Packet, Call, Accept, Stretch, PeerStretch, fresh_peer_transfer, state_of, Phase, Unused, Waiting, Offered, Crossed, Talking}
-use Rattle.x25_handshakes.proofs.{Names.{Stage, Terms, called_terms, calling_terms}, StretchRelation.{Own}, TermsLemmas.{IsSound}}
-use Rattle.x25_handshakes.proofs.TransferRelation.{TwoTransfers, TransfersRelated}
+use Rattle.x25_handshakes.proofs.Names.{Packet, Call, Accept, PeerStretch, fresh_peer_transfer, Unused, Waiting, Offered, Crossed, Talking}
+use Rattle.x25_handshakes.proofs.{Names.{Stage, Terms, called_terms, calling_terms}, TermsLemmas.{IsSound}}
+use Rattle.x25_handshakes.proofs.TransferRelation.{TwoTransfers}
 
 -- two ends in p4, of whatever kinds: what the one sends by, the other takes by, and R is kept of them
 pub record TalkOf {A B : Type 0} (R : Terms → Terms → A → List Packet → List Packet → B → Type 0) (t b : Terms) (x : A) (u v : List Packet)
@@ -16,10 +16,6 @@ pub record TalkOf {A B : Type 0} (R : Terms → Terms → A → List Packet → 
 -- any two ends that keep the rules
 abbrev pub TwoTalks : Terms → Terms → At PeerStretch → List Packet → List Packet → Terms → Terms → At PeerStretch → Type 0
 TwoTalks t b x u v t₂ b₂ y = TalkOf TwoTransfers t b x u v t₂ b₂ y
-
--- both are our own
-abbrev pub TalksRelated : Terms → Terms → At Stretch → List Packet → List Packet → Terms → Terms → At Stretch → Type 0
-TalksRelated t b x u v t₂ b₂ y = TalkOf TransfersRelated t b x u v t₂ b₂ y
 
 -- nothing is on the way
 abbrev pub Nil : List Packet → Type 0
@@ -103,11 +99,3 @@ JointOf R a b stage other ma ia mb ib u v = ⊥
 abbrev pub TwoJoint : Stage (At PeerStretch) → Stage (At PeerStretch)
     → List CallRequest → List CallRequest → List CallRequest → List CallRequest → List Packet → List Packet → Type 0
 TwoJoint a b ma ia mb ib u v = JointOf TwoTalks fresh_peer_transfer fresh_peer_transfer a b ma ia mb ib u v
-
--- what our own end keeps by itself: what is proposed may be, its terms are sound, and what it keeps in p4
-abbrev pub OwnPhase : Phase → Type 0
-OwnPhase Unused = Unit {0}
-OwnPhase (Waiting mine) = may_propose mine ≡ true
-OwnPhase (Offered theirs) = may_propose theirs ≡ true
-OwnPhase (Crossed mine) = may_propose mine ≡ true
-OwnPhase (Talking t b at) = IsSound t × Own t (state_of at.side)

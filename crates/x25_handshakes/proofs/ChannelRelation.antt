@@ -1,8 +1,7 @@
 -- What is kept of two ends of a call, and of a channel.
-use Rattle.x25_handshakes.proofs.Names.{List, Mark, Inner, Request, Confirm, At, Packet, Clear, ClearConf, Connection, Role, Dte, Dce, PeerCall, fresh_peer_call}
-use Rattle.x25_handshakes.proofs.Names.{◌≡◌, Unused, state_of}
-use Rattle.x25_handshakes.specs.laws.LayerPeers.{as_peer_call}
-use Rattle.x25_handshakes.proofs.{CallsRelation.{TwoJoint, OwnPhase}, HandshakeRelation.{Level, Handshaken}}
+use Rattle.x25_handshakes.proofs.Names.{List, Mark, Inner, Request, Confirm, At, Packet, Clear, ClearConf, Role, Dte, Dce, PeerCall, fresh_peer_call}
+use Rattle.x25_handshakes.proofs.Names.{◌≡◌, Unused}
+use Rattle.x25_handshakes.proofs.{CallsRelation.{TwoJoint}, HandshakeRelation.{Level, Handshaken}}
 
 -- what a packet is to the handshake of CLEAR
 abbrev pub clear_mark : Packet → Mark
@@ -14,12 +13,6 @@ clear_mark other = Inner
 abbrev pub TwoCalls : Role → PeerCall → List Packet → List Packet → PeerCall → Type 0
 TwoCalls Dte x u v y = TwoJoint x.stage y.stage x.made x.indicated y.made y.indicated u v
 TwoCalls Dce x u v y = TwoJoint y.stage x.stage y.made y.indicated x.made x.indicated v u
-
--- two of our own
-pub record Seen (r : Role) (x : Connection) (u v : List Packet) (y : Connection) : Type 0 where
-  pub own : OwnPhase x.phase
-  pub own_there : OwnPhase y.phase
-  pub two : TwoCalls r (as_peer_call x) u v (as_peer_call y)
 
 -- what is asked of an end as it sends CLEAR: that it isn't in p1, as of ours; or nothing
 abbrev pub IsCalled : PeerCall → Type 0
@@ -34,7 +27,3 @@ two_call_level G H r = record { mark = clear_mark; fresh = fresh_peer_call; fres
 
 abbrev pub TwoChannels : (PeerCall → Type 0) → (PeerCall → Type 0) → Role → At PeerCall → List Packet → List Packet → At PeerCall → Type 0
 TwoChannels G H r x L K y = Handshaken (two_call_level G H r) x L K y
-
--- what our own end keeps by itself
-abbrev pub OwnChannel : At Connection → Type 0
-OwnChannel x = OwnPhase (state_of x.side).phase

@@ -1,5 +1,5 @@
--- What our own end does is what an end that keeps the rules may do: what that means at each level, and what it keeps.
-use Rattle.x25_handshakes.proofs.Names.{◌≡◌, ℕ, List, [], ◌∷◌, ◌++◌, Option, None, refl, sym, ap, ◌∙◌, subst, append-nil, append_assoc, OwnStep}
+-- The deeds of an end that keeps the rules, at each level: nothing, or one thing, also once it took a packet; and what that keeps.
+use Rattle.x25_handshakes.proofs.Names.{◌≡◌, List, [], ◌∷◌, ◌++◌, refl, sym, ap, ◌∙◌, subst, append-nil, append_assoc}
 
 -- the deeds of a peer at one level: which it may do, what it is then, and the packet that it sends
 pub record Deeds (Y D P : Type 0) : Type 1 where
@@ -21,18 +21,6 @@ pub record Heard {Y D P : Type 0} (k : Deeds Y D P) (y : Y) (first : List P) (y�
 -- a packet was taken, and then nothing was done
 pub at_once : {Y D P : Type 0} (k : Deeds Y D P) (y : Y) (first : List P) (y₂ : Y) (o : List P) → y ≡ y₂ → first ≡ o → Heard k y first y₂ o
 at_once k y first y₂ o next out = record { rest = []; split = append-nil first ∙ out; did = Nothing next refl }
-
--- what is done on one level is done on the one above
-pub did_above : {Y D Z E P : Type 0} (k : Deeds Y D P) (l : Deeds Z E P) (f : Y → Z) (g : D → E) (y y₂ : Y) (o : List P)
-    → ((d : D) → k.may y d → l.may (f y) (g d)) → ((d : D) → l.does (f y) (g d) ≡ f (k.does y d)) → ((d : D) → l.packet (f y) (g d) ≡ k.packet y d)
-    → Did k y y₂ o → Did l (f y) (f y₂) o
-did_above k l f g y y₂ o may same out (Nothing e none) = Nothing (ap f e) none
-did_above k l f g y y₂ o may same out (Something d ok next sent) = Something (g d) (may d ok) (same d ∙ ap f next) (ap (λ p. p ∷ []) (out d) ∙ sent)
-
-pub heard_above : {Y D Z E P : Type 0} (k : Deeds Y D P) (l : Deeds Z E P) (f : Y → Z) (g : D → E) {y y₂ : Y} {first o : List P}
-    → ((d : D) → k.may y d → l.may (f y) (g d)) → ((d : D) → l.does (f y) (g d) ≡ f (k.does y d)) → ((d : D) → l.packet (f y) (g d) ≡ k.packet y d)
-    → Heard k y first y₂ o → Heard l (f y) first (f y₂) o
-heard_above k l f g {y} {y₂} may same out h = record { rest = h.rest; split = h.split; did = did_above k l f g y y₂ h.rest may same out h.did }
 
 -- nothing was done, or one thing, and no packet was taken
 pub none : {Y D P : Type 0} {k : Deeds Y D P} {y y₂ : Y} → y ≡ y₂ → Heard k y [] y₂ []
@@ -58,11 +46,3 @@ heard_keeps {y₂} {first} R deed h u before =
 pub acts_keep : {Y D P : Type 0} {k : Deeds Y D P} {y y₂ : Y} {o : List P} (R : Y → List P → Type 0)
     → ((z : Y) (d : D) (u : List P) → k.may z d → R z u → R (k.does z d) (u ++ k.packet z d ∷ [])) → Heard k y [] y₂ o → (u : List P) → R y u → R y₂ (u ++ o)
 acts_keep {y} R deeds h u before = heard_keeps R deeds h u (subst (R y) (sym (append-nil u)) before)
-
--- A step of our own end that is no error, as far as that is counted, and keeps what our own keeps by itself. Before it, a peer that stands where our end
--- stands is y, once it has taken what our own took, by which it sent the first packets; and then our own did nothing or one thing.
-pub record Steps {S Y D P : Type 0} (k : Deeds Y D P) (f : S → Y) (Own : S → Type 0) (y : Y) (first : List P) (error : Option ℕ) (s : OwnStep S P) : Type 0
-  where
-    pub quiet : error ≡ None
-    pub own : Own s.next
-    pub heard : Heard k y first (f s.next) s.out

@@ -1,8 +1,8 @@
--- What is kept of two layers, and of two ends of which each may be out.
-use Rattle.x25_handshakes.proofs.Names.{◌≡◌, ℕ, List, [], ◌∷◌, ◌++◌, None, Bool, true, false, ◌==◌, Mark, Inner, Request, Confirm, Side, At, OwnStep, Packet}
-use Rattle.x25_handshakes.proofs.Names.{LayerPacket, On, Restart, RestartConf, Channels, Role, PeerCall, state_of}
-use Rattle.x25_handshakes.proofs.{ChannelRelation.{IsCalled, TwoChannels, OwnChannel}, HandshakeRelation.{Extended, Level, Handshaken}}
-use Rattle.x25_handshakes.specs.laws.{LayerPeers.{as_peer}, PeerLayer.{PeerChannels, peer_fresh}}
+-- What is kept of two layers.
+use Rattle.x25_handshakes.proofs.Names.{ℕ, List, [], ◌∷◌, Bool, true, false, ◌==◌, Mark, Inner, Request, Confirm, At, Packet}
+use Rattle.x25_handshakes.proofs.Names.{LayerPacket, On, Restart, RestartConf, Role, PeerCall}
+use Rattle.x25_handshakes.proofs.{ChannelRelation.{TwoChannels}, HandshakeRelation.{Level, Handshaken}}
+use Rattle.x25_handshakes.specs.laws.{PeerLayer.{PeerChannels, peer_fresh}}
 
 -- the packet with those behind it, or those alone
 abbrev pub kept_on : Bool → Packet → List Packet → List Packet
@@ -39,25 +39,3 @@ two_layers_level G H r = record {
 
 abbrev pub TwoLayers : (PeerCall → Type 0) → (PeerCall → Type 0) → Role → At PeerChannels → List LayerPacket → List LayerPacket → At PeerChannels → Type 0
 TwoLayers G H r x L K y = Handshaken (two_layers_level G H r) x L K y
-
--- what our own layer keeps by itself
-abbrev pub OwnChannels : Channels → Type 0
-OwnChannels x = (h : ℕ) → OwnChannel (x h)
-
--- the first is our own
-pub record OwnLayers (H : PeerCall → Type 0) (r : Role) (x : At Channels) (L K : List LayerPacket) (y : At PeerChannels) : Type 0 where
-  pub own : OwnChannels (state_of x.side)
-  pub two : TwoLayers IsCalled H r (as_peer x) L K y
-
--- both are our own
-pub record LayersRelated (r : Role) (x : At Channels) (L K : List LayerPacket) (y : At Channels) : Type 0 where
-  pub near : OwnLayers IsCalled r x L K (as_peer y)
-  pub own_there : OwnChannels (state_of y.side)
-
-pub record GoodLayer (r : Role) (s : OwnStep (At Channels) LayerPacket) (L K : List LayerPacket) (y : At Channels) : Type 0 where
-  pub quiet : s.error ≡ None
-  pub kept : LayersRelated r s.next (L ++ s.out) K y
-
--- what is kept of the two ends
-abbrev pub EndsRelated : Role → Side (At Channels) → List LayerPacket → List LayerPacket → Side (At Channels) → Type 0
-EndsRelated r x L K y = Extended (λ z. Unit {0}) (λ z. Unit {0}) (LayersRelated r) x L K y

@@ -1,7 +1,7 @@
--- What is kept of two ends in d1 of one stretch, whatever stations they are, and the lines between them; and of our own circuits there.
+-- What is kept of two ends in d1 of one stretch, whatever stations they are, and the lines between them.
 use Rattle.x25_handshakes.proofs.Names.{◌≡◌, ℕ, ◌+◌, ◌%◌, ◌≤◌, List, [], ◌∷◌, ◌++◌, length, Option, Some, None, Bool, true, false, Message, Piece, no_part}
-use Rattle.x25_handshakes.proofs.Names.{joining, carried, AreSound, resolved, Packet, Data, Rr, Rnr, Int, IntConf, Stretch, IsPrefix, Terms}
-use Rattle.x25_handshakes.proofs.Names.{PeerStretch, as_peer_stretch}
+use Rattle.x25_handshakes.proofs.Names.{joining, carried, AreSound, resolved, Packet, Data, Rr, Rnr, Int, IntConf, Terms}
+use Rattle.x25_handshakes.proofs.Names.{PeerStretch}
 use Rattle.x25_handshakes.proofs.HandshakeRelation.{Each}
 
 -- a data packet's number and what it carries
@@ -134,22 +134,3 @@ pub record OneWay (t : Terms) (x : PeerStretch) (u v : List Packet) (y : PeerStr
 pub record Kept (t b : Terms) (x : PeerStretch) (u v : List Packet) (y : PeerStretch) : Type 0 where
   pub there : OneWay t x u v y
   pub back : OneWay b y v u x
-
--- what our own circuit keeps by itself, which sends by these terms: what it was handed down it sent or it waits, and it
--- handed up what it took
-pub record Own (t : Terms) (x : Stretch) : Type 0 where
-  pub text : Text t.longest t.size x.sent x.rest x.down
-  pub up : x.up ≡ carried x.taken
-
--- two circuits of ours, each of which is a peer of the other
-pub record StretchesRelated (t b : Terms) (x : Stretch) (u v : List Packet) (y : Stretch) : Type 0 where
-  pub own : Own t x
-  pub own_there : Own b y
-  pub kept : Kept t b (as_peer_stretch x) u v (as_peer_stretch y)
-
--- what is claimed of one direction
-pub record FollowsFrom (giver : Stretch) (u : List Packet) (taker : Stretch) : Type 0 where
-  pub begins : IsPrefix taker.up giver.down
-  pub int_begins : IsPrefix taker.int_up giver.int_down
-  pub all : u ≡ [] → giver.rest ≡ [] → taker.up ≡ giver.down
-  pub int_all : u ≡ [] → taker.int_up ≡ giver.int_down

@@ -1,5 +1,5 @@
 -- Laws of packets and messages.
-use Rattle.x25_handshakes.proofs.Names.{◌≡◌, ℕ, suc, ◌+◌, ◌<◌, ◌≤◌, List, [], ◌∷◌, ◌++◌, length, Some, None, Bool, true, false, nat_le, refl, sym, ap, ◌∙◌}
+use Rattle.x25_handshakes.proofs.Names.{◌≡◌, ℕ, suc, ◌+◌, ◌<◌, ◌≤◌, List, [], ◌∷◌, ◌++◌, length, Some, None, Bool, true, false, nat_le, refl, sym, ap, ◌∙◌, none-some, wholes}
 use Rattle.x25_handshakes.proofs.Names.{arith, append_assoc, length-append, cond_both, Marks, Piece, Last, no_part, joining, carried_from, AreSound}
 use Rattle.std.proofs.{Common.{zero, take, drop}, lemmas.Bool.{le-leb}, lemmas.Bool.Decides.{nat_tests}, lemmas.Grind.{common_steps}}
 use Rattle.std.proofs.lemmas.List.{take-append-drop}
@@ -70,3 +70,20 @@ carried-cut (suc n) size q xs j =
     (λ _. refl)
     (λ _. carried-cut n size q (drop size xs) (record { begun = Some q.q; user = j.user ++ take size xs })
     ∙ ap (λ l. record { marks = q; user = l } ∷ []) (append_assoc j.user (take size xs) (drop size xs) ∙ ap (λ l. j.user ++ l) (take-append-drop size xs)))
+
+-- packets of which none ends a message leave it begun
+still_begun : (j : Partial) (ps : List Piece) (q : Bool) → j.begun ≡ Some q → wholes ps ≡ 0 → (r : Bool) × ((joining j ps).begun ≡ Some r)
+still_begun j [] q is none = (q, is)
+still_begun j (More q₂ user ∷ ps) q is none = still_begun (joined j (More q₂ user)) ps q₂.q refl (let e : wholes ps ≡ 0 = omega (arith, none) in e)
+still_begun j (Last q₂ user ∷ ps) q is none = absurd (omega (arith, none))
+
+whole_rest : (j : Partial) (ps : List Piece) → joining j ps ≡ no_part → wholes ps ≡ 0 → ps ≡ []
+whole_rest j [] whole none = refl
+whole_rest j (More q user ∷ ps) whole none =
+    let begun = still_begun (joined j (More q user)) ps q.q refl (let e : wholes ps ≡ 0 = omega (arith, none) in e) in
+    absurd (none-some begun.0 (sym (ap (λ k. k.begun) whole) ∙ begun.1))
+whole_rest j (Last q user ∷ ps) whole none = absurd (omega (arith, none))
+
+-- where no message waits, nothing is left of one, since what was sent and what is left are whole messages
+pub nothing_waits : (sent rest : List Piece) → joining no_part (sent ++ rest) ≡ no_part → wholes rest ≡ 0 → rest ≡ []
+nothing_waits sent rest whole none = whole_rest (joining no_part sent) rest (sym (joining-append no_part sent rest) ∙ whole) none

@@ -1,6 +1,6 @@
 -- What is kept of two ends in p4, over RESETs.
-use Rattle.x25_handshakes.proofs.Names.{List, Mark, Inner, Request, Confirm, At, state_of, Packet, Reset, ResetConf, Stretch, PeerStretch, fresh_peer, Terms}
-use Rattle.x25_handshakes.proofs.{HandshakeRelation.{Level, Handshaken, Each}, Names.{as_at, as_peer_stretch}, StretchRelation.{Kept, Own}}
+use Rattle.x25_handshakes.proofs.Names.{List, Mark, Inner, Request, Confirm, At, Packet, Reset, ResetConf, PeerStretch, fresh_peer, Terms}
+use Rattle.x25_handshakes.proofs.{HandshakeRelation.{Level, Handshaken, Each}, StretchRelation.{Kept}}
 use Rattle.x25_handshakes.specs.laws.TwoPeers.{IsOfTransfer}
 
 -- what a packet is to the handshake of RESET
@@ -29,9 +29,3 @@ pub record TwoTransfers (t b : Terms) (x : At PeerStretch) (L K : List Packet) (
   pub hand : Handshaken (two_level t b) x L K y
   pub there : AllInTransfer L
   pub back : AllInTransfer K
-
--- two of our own
-pub record TransfersRelated (t b : Terms) (x : At Stretch) (L K : List Packet) (y : At Stretch) : Type 0 where
-  pub own : Own t (state_of x.side)
-  pub own_there : Own b (state_of y.side)
-  pub two : TwoTransfers t b (as_at as_peer_stretch x) L K (as_at as_peer_stretch y)

@@ -7,7 +7,7 @@ use Rattle.x25_handshakes.specs.laws.{Handshake.{swapped}}
 use Rattle.x25_handshakes.specs.laws.TwoLayers.{TwoEnds, Moves, Does, Hears, HearsChannel, IsReached, at_start, near_moves, far_moves, LayersKeepOrder}
 use Rattle.x25_handshakes.specs.laws.TwoLayers.{OfAnyTwoLayers}
 
-abbrev Holds : Role → TwoEnds → Type 0
+abbrev pub Holds : Role → TwoEnds → Type 0
 Holds r w = TwoLayers IsAny IsAny r w.near w.out w.back w.far
 
 moves_hold : Laws → (r : Role) (w v : TwoEnds) → Moves r w v → Holds r w → Holds r v
@@ -20,7 +20,8 @@ moves_hold laws r w v (HearsChannel x k passed p rest live apart is) h =
     (subst (λ s. TwoLayers IsAny IsAny r (record { epoch = w.near.epoch; side = s }) w.out (passed ++ On k p ∷ rest) w.far) live
     (subst (λ K. TwoLayers IsAny IsAny r w.near w.out K w.far) is h))
 
-reached_hold : Laws → (r : Role) {w : TwoEnds} → IsReached r w → Holds r w
+-- what is reached keeps it
+pub reached_hold : Laws → (r : Role) {w : TwoEnds} → IsReached r w → Holds r w
 reached_hold laws r at_start = record { hand = both_fresh (two_layers_level IsAny IsAny r) (all_channels_fresh IsAny IsAny r) 0 }
 reached_hold laws r (near_moves w v reached move) = moves_hold laws r w v move (reached_hold laws r reached)
 reached_hold laws r (far_moves w v reached move) =

@@ -1,29 +1,35 @@
 -- The busy channels.
 use Rattle.x25_layer.proofs.Names.{◌≡◌, inl, inr, ℕ, zero, suc, ◌+◌, ◌-◌, ◌<◌, ◌≤◌, List, length, Bool, true, false, not, ◌&&◌, ◌==◌, if◌then◌else◌, get_or}
-use Rattle.x25_layer.proofs.Names.{refl, sym, ap, subst, ◌∙◌, arith, eqb-true, CircuitSettings, Circuit, waits, FitsCircuit, LayerSettings, Layer, is_channel}
-use Rattle.x25_layer.proofs.Names.{cases_lt, bit_not, trailing_zeros, awaited_by, is_any, Nothing, FitsCircuits, FitsLayer, awaited_at, waits_up_to}
+use Rattle.x25_layer.proofs.Names.{refl, sym, ap, subst, ◌∙◌, arith, and_parts, eqb-true, CircuitSettings, Circuit, waits, FitsCircuit, LayerSettings, Layer, is_channel}
+use Rattle.x25_layer.proofs.Names.{Option, Some, None, cases_lt, bit_not, trailing_zeros, awaited_by, is_any, Nothing, FitsCircuits, FitsLayer, awaited_at, waits_up_to}
 use Rattle.std.proofs.lemmas.{Bool.{cases_eq, false_from_ne_true, true_from_ne_false}, Grind.{get_or_default_zero}}
 use Rattle.std.proofs.lemmas.{List.{get_or-set_same, get_or-set_other, get_or_past}, Nat.{pow_below, and_le_l, and_le_r, shr-shr}}
 use Rattle.std.proofs.lemmas.Nat.Bits.{bit_at-zero, bit_at-suc, bit_at-lt, bit_at_or, bit_at_and, bit_at_not, bit_at-pow_same, bit_at-pow_other}
 use Rattle.std.{proofs.lemmas.Nat.Bits.{bit_at_mask_below, bit_at_mask_inside, ones_shl, bit_at-trailing_zeros}, specs.Int.{w64, bit_at}}
 use Rattle.std.specs.Prelude.{◌*◌, ◌/◌, ◌%◌, ◌^◌, set, bit_and, bit_or}
-use Rattle.x25_circuit.specs.{Circuit.{is_idle}, code.FitsCircuit.{waits_of}, declared.awaits.Awaits.{Awaits}}
+use Rattle.x25_circuit.specs.{Circuit.{is_idle, is_unacknowledged, unacknowledged}, code.FitsCircuit.{waits_of}, declared.awaits.Awaits.{Awaits}}
 use Rattle.x25_layer.proofs.{CallLemmas.{configured}, FitLemmas.{there}, Names.{awaited_up_to, IsOutside, IsIdle, IdleBeside}}
+use Rattle.x25_layer.specs.code.FitsLayer.{unacknowledged_at}
 use Rattle.x25_circuit.specs.declared.circuit.Circuit as circuit_code
 use Rattle.x25_layer.specs.declared.layer.Layer as code
 
 -- ---- what a circuit says of itself
 
-nothing : (n : ℕ) (b : Bool) → (not b && (n == 0)) ≡ true → (b ≡ false) × (n ≡ 0)
-nothing n false is = (refl, eqb-true n 0 is)
-nothing n true is = absurd (cc)
+nothing : (n : ℕ) (b out : Bool) → (not b && ((n == 0) && not out)) ≡ true → (b ≡ false) × (n ≡ 0) × (out ≡ false)
+nothing n false out is = let both = and_parts (n == 0) (not out) is in (refl, eqb-true n 0 both.0, none_out out both.1)
+  where
+    none_out : (out : Bool) → not out ≡ true → out ≡ false
+    none_out false is = refl
+    none_out true is = absurd (cc)
+nothing n true out is = absurd (cc)
 
 pub idle_is : (v : circuit_code.Circuit) (b : Bool) → ((c : CircuitSettings) (x : Circuit) → FitsCircuit c v x → b ≡ is_idle x)
     → (b ≡ true → waits_of v ≡ 0) → b ≡ true → IsIdle v
 idle_is v b value none is = record {
   none = none is;
-  waits = λ c x fits. (nothing (waits x) (is_any (awaited_by x)) (sym (value c x fits) ∙ is)).1;
-  awaits = λ c x fits. (nothing (waits x) (is_any (awaited_by x)) (sym (value c x fits) ∙ is)).0;
+  waits = λ c x fits. (nothing (waits x) (is_any (awaited_by x)) (is_unacknowledged x) (sym (value c x fits) ∙ is)).1;
+  awaits = λ c x fits. (nothing (waits x) (is_any (awaited_by x)) (is_unacknowledged x) (sym (value c x fits) ∙ is)).0;
+  acknowledged = λ c x fits. (nothing (waits x) (is_any (awaited_by x)) (is_unacknowledged x) (sym (value c x fits) ∙ is)).2;
 }
 
 pub not_busy : (b : Bool) → not b ≡ false → b ≡ true
@@ -296,12 +302,14 @@ past up one next (suc m) n none =
 
 module _ (c : LayerSettings) (vs : List circuit_code.Circuit) (words : List ℕ) (f : ℕ → Circuit) (fits : FitsCircuits c vs f)
     (still : IdleBeside words vs) where
-  idle_on : (k : ℕ) → 1 ≤ k → k ≤ length vs → IsOutside words k → (waits (f k) ≡ 0) × (is_any (awaited_by (f k)) ≡ false)
+  idle_on : (k : ℕ) → 1 ≤ k → k ≤ length vs → IsOutside words k
+      → (waits (f k) ≡ 0) × (is_any (awaited_by (f k)) ≡ false) × (is_unacknowledged (f k) ≡ false)
   idle_on zero low high out = absurd (omega (arith, low))
   idle_on (suc k) low high out =
       let found = there vs k (let e : k < length vs = omega (arith, high) in e) in
       let idle = still k found.0 found.1 out in
-      (idle.waits c.circuit (f (suc k)) (fits k found.0 found.1), idle.awaits c.circuit (f (suc k)) (fits k found.0 found.1))
+      let x = fits k found.0 found.1 in
+      (idle.waits c.circuit (f (suc k)) x, idle.awaits c.circuit (f (suc k)) x, idle.acknowledged c.circuit (f (suc k)) x)
 
   module _ (n i : ℕ) (up : n ≤ i) (high : i ≤ length vs) (out : (k : ℕ) → n < k → k ≤ i → IsOutside words k) where
     behind_is : i ≡ (i - n) + n
@@ -336,3 +344,18 @@ none_awaited c v l fits k out = by (is_channel c.channels k) refl
         not_any (awaited_by (l.circuits k))
         (idle_on c v.circuits.items v.busy.words.items l.circuits fits.circuits v.still k within.0
         (let high = within.1 in omega (arith, high, channels)) out).1
+
+-- and all is acknowledged there
+pub none_unacknowledged : (c : LayerSettings) (v : code.Layer) (l : Layer) → FitsLayer c v l → (k : ℕ) → IsOutside v.busy.words.items k
+    → unacknowledged_at c l k ≡ None
+none_unacknowledged c v l fits k out = by l.restarting (is_channel c.channels k) refl
+  where
+    by : (r b : Bool) → is_channel c.channels k ≡ b → (if r then None else if b then unacknowledged (l.circuits k) else None) ≡ None
+    by true b is = refl
+    by false false is = refl
+    by false true is =
+        let within = configured c.channels.count k is in
+        let channels = fits.channels in
+        let idle = idle_on c v.circuits.items v.busy.words.items l.circuits fits.circuits v.still k within.0
+        (let high = within.1 in omega (arith, high, channels)) out in
+        ap (λ (b : Bool). if b then Some ((l.circuits k).talk.acked % 8) else None) idle.2

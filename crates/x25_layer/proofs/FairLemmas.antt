@@ -1,10 +1,10 @@
 -- A channel that may send a data packet sends one in the rounds of a step, or they bring its turn nearer.
 use Rattle.x25_layer.proofs.Names.{◌≡◌, ◌⊎◌, inl, inr, ℕ, zero, suc, ◌+◌, ◌-◌, ◌<◌, ◌≤◌, List, [], ◌∷◌, ◌++◌, length, Option, Some, None, Bool, true, false}
 use Rattle.x25_layer.proofs.Names.{nat_lt, nat_le, ◌==◌, if◌then◌else◌, refl, sym, ap, subst, ◌∙◌, arith, eq-eqb, eqb-true, and_parts, none-some, leb-true}
-use Rattle.x25_layer.proofs.Names.{append_assoc, PlainPacket, Circuit, pulled, LayerSettings, put_at, packet_on, layer_pulled, LinkView, Putting, with_pulled}
+use Rattle.x25_layer.proofs.Names.{append_assoc, PlainPacket, Circuit, pulled, LayerSettings, packet_on, layer_pulled, LinkView, Putting, with_pulled}
 use Rattle.x25_layer.proofs.Names.{pull_one, round, rounds_of, rounds, backlog}
 use Rattle.std.{specs.Prelude.{IsSome}, proofs.lemmas.{Bool.{lt-ltb, ltb-true, ltb-false}, List.{length_push}}}
-use Rattle.x25_layer.proofs.{NoteLemmas.{append_nil}, SettleLemmas.{shorter, put_other, not_same, split}}
+use Rattle.x25_layer.proofs.{RowLemmas.{append_nil}, SettleLemmas.{shorter, put_other, not_same, split}}
 use Rattle.x25_layer.specs.laws.{FairLaw.{turns_to, left_on, ComesNearer, EachHasItsTurn}, Rounds.{at_turn, rest_of_round, whole_rounds}}
 
 -- ---- how many turns it is

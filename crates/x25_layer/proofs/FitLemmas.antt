@@ -5,7 +5,8 @@ use Rattle.x25_layer.proofs.Names.{none-some, same_Some, eqb-true, Circuit, is_o
 use Rattle.x25_layer.proofs.Names.{take, IfSome, MatchOption, drop, slice_get_within, slice_get-get_or, awaited_by, is_any, clears_of, resets_of, Nothing}
 use Rattle.std.proofs.{Common.{IfNone, Bor, OnErr}, lemmas.List.{append-nil, take_all}}
 use Rattle.x25_layer.proofs.{Names.{name_of, FitsCircuits, FitsLayer, awaited_at, awaited_up_to, waits_up_to, is_most, full_up_to}, SettleLemmas.{not_same}}
-use Rattle.x25_layer.specs.code.{Counts.{HasCountsLeft, HaveCountsLeft}, FitsLayer.{name_at, params_at, is_open_at}}
+use Rattle.x25_layer.specs.code.{Counts.{HasCountsLeft, HaveCountsLeft}, FitsLayer.{name_at, params_at, is_open_at, unacknowledged_at}}
+use Rattle.x25_circuit.specs.Circuit.{unacknowledged}
 use Rattle.x25_circuit.specs.declared.circuit.Circuit as circuit_code
 use Rattle.x25_layer.specs.declared.layer.Layer as code
 
@@ -92,6 +93,13 @@ pub opened : (c : LayerSettings) (v : code.Layer) (l : Layer) (h : ℕ) (b : Boo
 opened c v l h b fits is =
     let same : is_channel c.channels h ≡ b = subst (λ (n : ℕ). is_number n h ≡ b) fits.channels is in
     sym (ap (λ (a : Bool). if a then is_open (l.circuits h) else false) same)
+
+pub first_out : (c : LayerSettings) (v : code.Layer) (l : Layer) (h : ℕ) (b : Bool) → FitsLayer c v l → v.restarting ≡ false
+    → is_number (length v.circuits.items) h ≡ b → (if b then unacknowledged (l.circuits h) else None) ≡ unacknowledged_at c l h
+first_out c v l h b fits ready is =
+    let same : is_channel c.channels h ≡ b = subst (λ (n : ℕ). is_number n h ≡ b) fits.channels is in
+    sym (ap (λ (r : Bool). if r then None else if is_channel c.channels h then unacknowledged (l.circuits h) else None) (sym fits.restarting ∙ ready)
+    ∙ ap (λ (a : Bool). if a then unacknowledged (l.circuits h) else None) same)
 
 pub awaited : (c : LayerSettings) (v : code.Layer) (l : Layer) (h : ℕ) (b : Bool) → FitsLayer c v l → is_number (length v.circuits.items) h ≡ b
     → (if b then awaited_by (l.circuits h) else Nothing) ≡ awaited_at c l h

@@ -1,100 +1,67 @@
--- What holds of two layers after every event, from what is known of the nested handshakes.
-use Rattle.x25_layer.proofs.Names.{◌≡◌, Bool, ℕ, sym, ap, subst, ◌∙◌, state_of, Pair, pair_run, pair_start, Name, Lists, Kind, messages, interrupts, calls}
-use Rattle.x25_layer.proofs.Names.{name_at, held_at, IsPrefix, Histories, histories_run, histories_start, Ranges, bare_layers, Handed, under, calls_in}
-use Rattle.x25_layer.proofs.Names.{messages_in, interrupts_in, TwoLayers, run, start, Always, KeepsOrder, IsQuietWorld, IsLawfulWorld, ArrivesAll}
-use Rattle.x25_handshakes.specs.laws.Histories.{IsLawful, channel_view}
-use Rattle.x25_layer.proofs.ArrivalLemmas.{none_in_flight, AtPresent, has_all}
-use Rattle.x25_layer.proofs.RunLemmas.{Premises, histories_pair, AreHistories, InRun, in_run}
+-- What holds of two layers after every event.
+use Rattle.x25_layer.proofs.Names.{◌≡◌, ℕ, ◌+◌, ◌≤◌, List, [], ◌∷◌, ◌++◌, length, Bool, true, refl, ap, subst, ◌∙◌, length-append, arith, PlainPacket, Piece}
+use Rattle.x25_layer.proofs.Names.{Role, Side, Live, Left, At, is_open, waits, LayerPacket, Name, Lists, Ranges, bare_layers, under, messages_in, name_of}
+use Rattle.x25_layer.proofs.Names.{interrupts_in, End, TwoLayers, Always, KeepsOrder, IsQuietWorld, IsLawfulWorld, ArrivesAll, HasAllOf, IsIdleTo}
+use Rattle.x25_handshakes.proofs.{ChannelRelation.{IsCalled}, Meetings.{both_open}}
+use Rattle.x25_handshakes.specs.laws.PeerLayer.{PeerChannels}
+use Rattle.x25_layer.proofs.{EndLemmas.{Stands}, Ends.{Known}}
+use Rattle.x25_layer.proofs.OrderLemmas.{interrupts_both, messages_up, OpenHere, open_here, out_shut, AllTaken, all_taken}
+use Rattle.x25_layer.proofs.RunLemmas.{EndsRelated, Run, run_turned, in_run}
 
-pub always_in_order : Premises → (long_data : Bool) (channels : Ranges) → Always KeepsOrder long_data channels
-always_in_order p long_data channels es = (in_run p long_data channels es).sees.order
+pub always_in_order : Known → (long_data : Bool) (channels : Ranges) → Always KeepsOrder long_data channels
+always_in_order known long_data channels es = (in_run known long_data channels es).order
 
-pub always_quiet : Premises → (long_data : Bool) (channels : Ranges) → Always (IsQuietWorld channels) long_data channels
-always_quiet p long_data channels es =
-    let h = in_run p long_data channels es in
-    record { near = h.sees.near_quiet; far = h.sees.far_quiet }
+pub always_quiet : Known → (long_data : Bool) (channels : Ranges) → Always (IsQuietWorld channels) long_data channels
+always_quiet known long_data channels es =
+    let h = in_run known long_data channels es in
+    record { near = h.stands.quiet; far = h.there.quiet }
 
-near_begins : {M : Type 0} (kind : Kind M) (lists : Handed → Lists M) (w : TwoLayers) (g : Histories M) → AreHistories kind lists w g
-    → ((k : ℕ) → IsLawful (channel_view kind (state_of g.pair.near) k (g.near k)) (channel_view kind (state_of g.pair.far) k (g.far k)))
-    → (k : ℕ) (m : Name) → IsPrefix (lists (under k m w.near.entries)).up (lists (under k m w.far.entries)).down
-near_begins {M} kind lists w g histories law k m =
-    subst (λ (l : Lists M). IsPrefix l.up (lists (under k m w.far.entries)).down) (sym (histories.near k m))
-    (subst (λ (l : Lists M). IsPrefix (g.near k m).up l.down) (sym (histories.far k m)) ((law k).begins m))
-
-far_begins : {M : Type 0} (kind : Kind M) (lists : Handed → Lists M) (w : TwoLayers) (g : Histories M) → AreHistories kind lists w g
-    → ((k : ℕ) → IsLawful (channel_view kind (state_of g.pair.near) k (g.near k)) (channel_view kind (state_of g.pair.far) k (g.far k)))
-    → (k : ℕ) (m : Name) → IsPrefix (lists (under k m w.far.entries)).up (lists (under k m w.near.entries)).down
-far_begins {M} kind lists w g histories law k m =
-    subst (λ (l : Lists M). IsPrefix l.up (lists (under k m w.near.entries)).down) (sym (histories.far k m))
-    (subst (λ (l : Lists M). IsPrefix (g.far k m).up l.down) (sym (histories.near k m)) ((law k).begins_there m))
-
-pub always_lawful : Premises → (long_data : Bool) (channels : Ranges) → Always IsLawfulWorld long_data channels
-always_lawful p long_data channels es =
-    let w : TwoLayers = run long_data channels es (start long_data channels) in
-    let h : InRun channels w = in_run p long_data channels es in
-    let order_m = p.messages h.events in
-    let order_i = p.interrupts h.events in
-    let order_c = p.calls h.events in
-    let histories_m : Histories _ = histories_run messages h.events histories_start in
-    let histories_i : Histories _ = histories_run interrupts h.events histories_start in
-    let histories_c : Histories _ = histories_run calls h.events histories_start in
+pub always_lawful : Known → (long_data : Bool) (channels : Ranges) → Always IsLawfulWorld long_data channels
+always_lawful known long_data channels es =
+    let h = in_run known long_data channels es in
     record {
-      near = record {
-        messages = near_begins messages messages_in w histories_m h.messages order_m;
-        interrupts = near_begins interrupts interrupts_in w histories_i h.interrupts order_i;
-        calls = near_begins calls calls_in w histories_c h.calls order_c;
-      };
-      far = record {
-        messages = far_begins messages messages_in w histories_m h.messages order_m;
-        interrupts = far_begins interrupts interrupts_in w histories_i h.interrupts order_i;
-        calls = far_begins calls calls_in w histories_c h.calls order_c;
-      };
+      near = record { messages = h.messages.up; interrupts = h.interrupts.up; calls = h.calls.up };
+      far = record { messages = h.messages.there; interrupts = h.interrupts.there; calls = h.calls.there };
     }
 
--- what stands under the present name of an end
-pub near_present : {M : Type 0} (kind : Kind M) (lists : Handed → Lists M) (w : TwoLayers) (j : Pair) (g : Histories M) → AreHistories kind lists w g → g.pair
-    ≡ j → (k : ℕ)
-    → g.near k (name_at kind (state_of g.pair.near) k) ≡ held_at kind (state_of g.pair.near) k
-    → lists (under k (name_at kind (state_of j.near) k) w.near.entries) ≡ held_at kind (state_of j.near) k
-near_present kind lists w j g histories same k held =
-    subst (λ (q : Pair). lists (under k (name_at kind (state_of q.near) k) w.near.entries) ≡ held_at kind (state_of q.near) k) same
-    (histories.near k (name_at kind (state_of g.pair.near) k) ∙ held)
+-- ---- all has arrived that can have
 
-pub far_present : {M : Type 0} (kind : Kind M) (lists : Handed → Lists M) (w : TwoLayers) (j : Pair) (g : Histories M) → AreHistories kind lists w g → g.pair
-    ≡ j → (k : ℕ)
-    → g.far k (name_at kind (state_of g.pair.far) k) ≡ held_at kind (state_of g.pair.far) k
-    → lists (under k (name_at kind (state_of j.far) k) w.far.entries) ≡ held_at kind (state_of j.far) k
-far_present kind lists w j g histories same k held =
-    subst (λ (q : Pair). lists (under k (name_at kind (state_of q.far) k) w.far.entries) ≡ held_at kind (state_of q.far) k) same
-    (histories.far k (name_at kind (state_of g.pair.far) k) ∙ held)
+-- nothing is in flight where all is acknowledged, and what is acknowledged was handed up
+no_length : (l : List PlainPacket) → length l ≡ 0 → l ≡ []
+no_length [] e = refl
+no_length (p ∷ l) e = absurd (omega (arith, e))
 
--- at each moment of two layers all has arrived that can have
-pub always_arrives : Premises → (long_data : Bool) (channels : Ranges) → Always ArrivesAll long_data channels
-always_arrives p long_data channels es =
-    let w : TwoLayers = run long_data channels es (start long_data channels) in
-    let h : InRun channels w = in_run p long_data channels es in
-    let j : Pair = pair_run h.events pair_start in
-    let near : (k : ℕ) → AtPresent w.near j.near k = λ k. record {
-      of_messages = near_present messages messages_in w j (histories_run messages h.events histories_start) h.messages
-          (histories_pair messages h.events histories_start) k (p.messages h.events k).held;
-      of_interrupts = near_present interrupts interrupts_in w j (histories_run interrupts h.events histories_start) h.interrupts
-          (histories_pair interrupts h.events histories_start) k (p.interrupts h.events k).held;
-    } in
-    let far : (k : ℕ) → AtPresent w.far j.far k = λ k. record {
-      of_messages = far_present messages messages_in w j (histories_run messages h.events histories_start) h.messages
-          (histories_pair messages h.events histories_start) k (p.messages h.events k).held_there;
-      of_interrupts = far_present interrupts interrupts_in w j (histories_run interrupts h.events histories_start) h.interrupts
-          (histories_pair interrupts h.events histories_start) k (p.interrupts h.events k).held_there;
-    } in
+none_in_flight : (given taken out : List PlainPacket) (acked : ℕ) → given ≡ taken ++ out → acked ≡ length given → acked ≤ length taken → out ≡ []
+none_in_flight given taken out acked order all low =
+    let l : length given ≡ length taken + length out = ap length order ∙ length-append taken out in
+    no_length out (let e : length out ≡ 0 = omega (arith, l, all, low) in e)
+
+pub has_all : (r : Role) (channels : Ranges) (e f : End) (s u : Side (At PeerChannels)) (rest away : ℕ → List Piece) (k : ℕ) (K : List LayerPacket)
+    → Stands channels e s rest → Stands channels f u away → EndsRelated r s [] K u → is_open (e.layer.circuits k) ≡ true → is_open (f.layer.circuits k) ≡ true
+    → waits (e.layer.circuits k) ≡ 0 → HasAllOf k (name_of e.layer k) e.entries f.entries
+has_all r channels e f (Left y) u rest away k K h there related opened opened_there none = absurd (out_shut e.layer k h.at.1 opened)
+has_all r channels e f (Live y) (Left z) rest away k K h there related opened opened_there none = absurd (out_shut f.layer k there.at.1 opened_there)
+has_all r channels e f (Live y) (Live z) rest away k K h there related opened opened_there none =
+    let o : OpenHere e.layer y rest k = open_here channels.message e.layer y rest k h.at.1 opened in
+    let p : OpenHere f.layer z away k = open_here channels.message f.layer z away k there.at.1 opened_there in
+    let a : AllTaken k e.layer e.entries z = all_taken channels.message e.layer y rest z e.entries k _ h.at.1 h.of_messages h.of_interrupts
+    (both_open IsCalled IsCalled r k y K z related o.there p.there) opened in
     record {
-      near = λ k acked idle. has_all channels.message w.near w.far j.near j.far k acked h.sees.near h.sees.far (near k) (far k) idle
-          (λ x y open_x open_y same.
-          (p.arrived h.events k x y open_x open_y same).0
-          (sym h.sees.out ∙ ap (bare_layers channels.message)
-          (none_in_flight w.near.given w.far.taken w.out acked h.sees.order.near idle.all_acked idle.acked_taken)));
-      far = λ k acked idle. has_all channels.message w.far w.near j.far j.near k acked h.sees.far h.sees.near (far k) (near k) idle
-          (λ x y open_x open_y same.
-          (p.arrived h.events k y x open_y open_x (sym same)).1
-          (sym h.sees.back ∙ ap (bare_layers channels.message)
-          (none_in_flight w.far.given w.near.taken w.back acked h.sees.order.far idle.all_acked idle.acked_taken)));
+      messages = ap (λ (n : Name). (messages_in (under k n f.entries)).up) a.name ∙ ap (λ (l : Lists _). l.up) (there.of_messages.held k)
+          ∙ messages_up z away k ∙ a.messages none;
+      interrupts = ap (λ (n : Name). (interrupts_in (under k n f.entries)).up) a.name
+          ∙ ap (λ (l : Lists (List ℕ)). l.up) (there.of_interrupts.held k ∙ interrupts_both z away k) ∙ a.interrupts;
     }
+
+pub arrives : {r : Role} {channels : Ranges} {w : TwoLayers} → Run r channels w → (k acked : ℕ) → IsIdleTo k w.near w.far acked
+    → HasAllOf k (name_of w.near.layer k) w.near.entries w.far.entries
+arrives {r} {channels} {w} h k acked idle =
+    has_all r channels w.near w.far h.near h.far h.rest h.away k (bare_layers channels.message w.back) h.stands h.there
+    (subst (λ l. EndsRelated r h.near l (bare_layers channels.message w.back) h.far)
+    (ap (bare_layers channels.message) (none_in_flight w.near.given w.far.taken w.out acked h.order.near idle.all_acked idle.acked_taken)) h.related)
+    idle.opened idle.opened_there idle.no_message
+
+pub always_arrives : Known → (long_data : Bool) (channels : Ranges) → Always ArrivesAll long_data channels
+always_arrives known long_data channels es =
+    let h = in_run known long_data channels es in
+    record { near = arrives h; far = arrives (run_turned h) }

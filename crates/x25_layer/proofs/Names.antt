@@ -19,17 +19,10 @@ pub use Rattle.x25_circuit.specs.declared.state.{State.{State}, State.TheVariant
 pub use Rattle.x25_circuit.specs.declared.{awaits.Awaits.TheVariants.{Nothing}, error.CircuitError.{CircuitError}}
 pub use Rattle.x25_circuit.specs.declared.{error.CircuitError.TheVariants.{BadParameter}, params.Params.{Params}, requested.Requested.{Requested}}
 pub use Rattle.x25_circuit.specs.{Params.{Proposal, default_params, field_for, may_answer, may_propose, said_in}, Request.{plain_request}}
-pub use Rattle.x25_handshakes.specs.laws.Calls.{Connection, Phase, Talking, Unused, Crossed, Offered, Waiting, PlacesCall, call_crosses, called_talk}
-pub use Rattle.x25_handshakes.specs.laws.Channel.{channel_takes, channel_acts, Within, lifted_call}
-pub use Rattle.x25_handshakes.specs.laws.Handshake.{At, Side, Live, Left, state_of, OwnStep, has_left, left, live}
-pub use Rattle.x25_handshakes.specs.laws.Histories.{histories_run, histories_start, none, resets_in, written}
-pub use Rattle.x25_handshakes.specs.laws.Histories.{messages, name_at, Lists, held_at, interrupts, IsPrefix, calls, circuit_at, Kind, Histories, held_in}
-pub use Rattle.x25_handshakes.specs.laws.Layers.{Channels, Pair, LayerPacket, pair_run, pair_start, On, OnChannel, layer_takes, all_fresh, layer_acts}
-pub use Rattle.x25_handshakes.specs.laws.Stretch.{Stretch, Packet, Accept, Call, Clear, Data, ack_ground, by_ground, data_ground, pulls, stretch_does}
-pub use Rattle.x25_handshakes.specs.laws.{Arrivals.{open_at, open_call, open_in, open_phase}, Calls.{calling_talk, in_transfer}}
-pub use Rattle.x25_handshakes.specs.laws.{Layers.{pair_moves, LayerAct, layer_side_takes, put}, Names.{Name, same_name, IsEarlier, both}}
-pub use Rattle.x25_handshakes.specs.laws.{PeerLayer.{PeerChannels}, PeerLayers.{found, layer_found}, Stretch.{stretch_fails, takes_data, takes_status}}
-pub use Rattle.x25_handshakes.specs.laws.{Terms.{Terms}, Transfer.{lifted}}
+pub use Rattle.x25_handshakes.specs.laws.Calls.{Unused, Waiting, Offered, Crossed, Talking}
+pub use Rattle.x25_handshakes.specs.laws.Handshake.{At, Side, Live, Left, state_of, has_left, left, live}
+pub use Rattle.x25_handshakes.specs.laws.{Histories.{IsPrefix, Lists, none}, Layers.{LayerPacket, On}, Names.{Name, same_name, IsEarlier, both}}
+pub use Rattle.x25_handshakes.specs.laws.{Stretch.{Packet, Accept, Call, Clear, Data}, Terms.{Terms}}
 pub use Rattle.x25_layer.specs.Calls.{LayerOutcome, layer_pulled, Accepted, Declined, layer_outcome, LayerRequest, PullsAll, outcome_in, Asks, Dials, Restarts}
 pub use Rattle.x25_layer.specs.Calls.{free_channel, highest_free, lowest_free, puts_at_once, LayerPulled, declined_for, dialled, if_at_once, outcome_on}
 pub use Rattle.x25_layer.specs.Full.{HasCountsLeft}

@@ -4,7 +4,7 @@ use Rattle.x25_layer.proofs.Names.{option_to_list, refl, sym, ap, subst, ◌∙�
 use Rattle.x25_layer.proofs.Names.{is_channel, layer_answers, LayerOutcome, Accepted, Declined, layer_outcome, layer_pulled, LinkView, Putting, begin}
 use Rattle.x25_layer.proofs.Names.{with_pulled, pull_one, round, rounds_of, rounds, backlog, LayerError, TwoLayers, Move, Requests, Pulls, HandsUp, requested}
 use Rattle.x25_layer.proofs.{LayerLemmas.{is_between}, Names.{pulled_in, handed_up, moves_in, answer_to, Went, Refuses, went, answered, moves}}
-use Rattle.x25_layer.{proofs.NoteLemmas.{append_nil}, specs.laws.RoundLaw.{moves_all, pulls_of, AreChannels, IsRun, CallsRun, HearsRun}}
+use Rattle.x25_layer.{proofs.RowLemmas.{append_nil}, specs.laws.RoundLaw.{moves_all, pulls_of, AreChannels, IsRun, CallsRun, HearsRun}}
 use Rattle.x25_layer.specs.laws.Rounds.{Answered, heard, at_turn, turn_behind, whole_rounds, rest_of_round}
 use Rattle.x25_layer.specs.declared.error.LayerError.TheVariants as error
 

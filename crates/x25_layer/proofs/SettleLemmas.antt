@@ -2,9 +2,9 @@
 use Rattle.x25_layer.proofs.Names.{◌≡◌, ◌⊎◌, inl, inr, ℕ, zero, suc, ◌+◌, ◌-◌, ◌<◌, ◌≤◌, ◌%◌, List, [], ◌∷◌, ◌++◌, length, Option, Some, None, Bool, true, false}
 use Rattle.x25_layer.proofs.Names.{nat_lt, ◌==◌, ◌&&◌, if◌then◌else◌, refl, sym, ap, ◌∙◌, eq-eqb, arith, none-some, eqb-true, PlainPacket, State, Open, Piece}
 use Rattle.x25_layer.proofs.Names.{CircuitSettings, Talk, Circuit, outgoing, Pulled, pulls_nothing, pull_open, pull_in, pulled, LayerSettings, put_at}
-use Rattle.x25_layer.proofs.Names.{packet_on, layer_pulled, LinkView, Putting, begin, with_pulled, pull_one, data_packet, begun, round, rounds_of, whole_rounds}
+use Rattle.x25_layer.proofs.Names.{packet_on, layer_pulled, LinkView, Putting, with_pulled, pull_one, data_packet, round, rounds_of, whole_rounds}
 use Rattle.x25_circuit.specs.Circuit.{talking}
-use Rattle.x25_layer.{proofs.Names.{backlog, goes_up}, specs.laws.RoundLaw.{RoundsSettle, ComesUpAlone}}
+use Rattle.x25_layer.{proofs.Names.{backlog}, specs.laws.RoundLaw.{RoundsSettle, ComesUpAlone}}
 
 -- a pull that gives a packet leaves one fewer
 

@@ -9,6 +9,7 @@ ghost use Rattle.x25_layer.specs.laws.ApartLaw.{EventsRunOn};
 ghost use Rattle.x25_layer.specs.laws.FairLaw.{EachHasItsTurn};
 ghost use Rattle.x25_layer.specs.laws.RoundLaw.{CallsRun, HearsRun, RoundsSettle, RoundsGoOn, RoundsEnd, ComesUpAlone};
 ghost use Rattle.x25_layer.specs.laws.PeerClaims.{WithAnyPeer, FindsNoError, IsAllInOrder, AllHaveArrived};
+ghost use Rattle.x25_layer.specs.laws.PeerClaims.{LayersAreEnds};
 ghost use Rattle.x25_layer.specs.laws.WaitLaw.{RoundsLeaveNone, StillPullsNone, ClosedKeepNone, NoneOpenInRestart};
 ghost use Rattle.x25_layer.specs.laws.WaitLaw.{WaitForUsersAlone};
 
@@ -27,7 +28,6 @@ pub fn two_layers_keep_order()
     ensures arrives { (long_data : Bool) (channels : Ranges) → Always ArrivesAll long_data channels }
 {
     x25_circuit::values_are_agreed();
-    x25_handshakes::keeps_order();
 }
 
 /// The same two layers: where an end's link is up, the name of the stretch on each channel is the restarts, clears and
@@ -37,7 +37,6 @@ pub fn names_are_told()
     ensures clear { (long_data : Bool) (channels : Ranges) → Always NoClearComesInP1 long_data channels }
 {
     x25_circuit::values_are_agreed();
-    x25_handshakes::keeps_order();
 }
 
 /// Two layers, each end by itself, where each packet that an end's link hands up is the next of those that the other
@@ -96,7 +95,14 @@ pub fn any_peer_keeps_transcripts()
     ensures arrived { WithAnyPeer AllHaveArrived }
 {
     x25_circuit::values_are_agreed();
-    x25_handshakes::any_peer_keeps_layers();
+}
+
+/// A layer over a link that keeps order is an end that keeps the rules of docs/PEER.md, beside any other, in either
+/// role: each call of its user, each pull and each packet that it takes is what such an end may do.
+pub fn layers_are_ends()
+    ensures { LayersAreEnds }
+{
+    x25_circuit::values_are_agreed();
 }
 
 /// Two layers over links that keep order, whatever their users ask and whenever a link goes down, and of two ends in
@@ -107,8 +113,6 @@ pub fn acknowledged_are_handed_up()
     ensures apart { (long_data : Bool) (channels : Ranges) → AlwaysApart AcknowledgedAreHandedUp long_data channels }
 {
     x25_circuit::values_are_agreed();
-    x25_handshakes::keeps_order();
-    x25_handshakes::acknowledged_are_handed_up();
     apart_layers_keep_order();
 }
 
@@ -130,8 +134,6 @@ pub fn messages_wait_for_users()
         → AlwaysApart (WaitForUsersAlone long_data channels) long_data channels }
 {
     x25_circuit::values_are_agreed();
-    x25_handshakes::keeps_order();
-    x25_handshakes::drained_ends_know();
     apart_layers_keep_order();
 }
 

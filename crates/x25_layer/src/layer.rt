@@ -1,4 +1,5 @@
-ghost use Rattle.std.specs.Prelude.{◌≡◌, ℕ, ◌-◌, ◌^◌, ◌<◌, ◌≤◌, ◌↔◌, length, if◌then◌else◌, true, false, Some, IfOk};
+ghost use Rattle.std.specs.Prelude.{◌≡◌, ℕ, ◌-◌, ◌^◌, ◌<◌, ◌≤◌, ◌↔◌, length, if◌then◌else◌, true, false, Some, None};
+ghost use Rattle.std.specs.Prelude.{IfOk};
 ghost use Rattle.std.specs.Prelude.{IfErr, IfSome, IfNone, IsErrOf, slice_get};
 ghost use Rattle.x25_layer.specs.code.Counts.{HaveCountsLeft};
 ghost use Rattle.x25_layer.specs.code.Idle.{IdleBeside};
@@ -56,7 +57,7 @@ impl Layer {
     ghost use Rattle.x25_layer.specs.Ranges.{is_number, are_ranges};
     ghost use Rattle.x25_layer.specs.Layer.{Layer as State};
     ghost use Rattle.x25_layer.specs.code.FitsLayer.{FitsLayer, plain_stretch, name_at, params_at, is_open_at};
-    ghost use Rattle.x25_layer.specs.code.FitsLayer.{awaited_at};
+    ghost use Rattle.x25_layer.specs.code.FitsLayer.{awaited_at, unacknowledged_at};
     ghost use Rattle.x25_layer.specs.code.FitsLayer.{awaited_up_to};
     ghost use Rattle.x25_layer.specs.code.FitsLayer.{waits_up_to};
     ghost use Rattle.x25_layer.specs.Layer.Confirmed.{unconfirmed_at};
@@ -152,6 +153,20 @@ impl Layer {
         }
     }
 
+    /// P(S) of the first data packet of a channel that isn't acknowledged, while the other end is ready to receive;
+    /// none where it isn't configured, and while a restart is under way.
+    pub fn unacknowledged(&self, channel: u16) -> Option<u8>
+        ensures { (c : LayerSettings) (l : State) → FitsLayer c self.now l → result ≡ unacknowledged_at c l channel }
+    {
+        if self.restarting {
+            return None;
+        }
+        match self.circuit(channel) {
+            Some(circuit) => circuit.unacknowledged(),
+            None => None,
+        }
+    }
+
     /// The octets of the packet that the call before has to put into the link; none where it has none to put.
     pub fn to_put(&self) -> &[u8]
         ensures { result.now ≡ self.now.sheet }
@@ -166,13 +181,18 @@ impl Layer {
         self.circuits.len() as u16
     }
 
-    /// The next channel after one on which something may be under way: on those between no answer is awaited.
+    /// The next channel after one on which something may be under way: on those between no answer is awaited, and no
+    /// data packet isn't acknowledged.
     pub fn busy_after(&self, channel: u16) -> Option<u16>
         ensures higher { IfSome result (λ next. channel < next) }
         ensures between { (c : LayerSettings) (l : State) → FitsLayer c self.now l
             → IfSome result (λ next. (k : ℕ) → channel < k → k < next → awaited_at c l k ≡ Awaits.Nothing) }
         ensures none { (c : LayerSettings) (l : State) → FitsLayer c self.now l
             → IfNone result ((k : ℕ) → channel < k → awaited_at c l k ≡ Awaits.Nothing) }
+        ensures acknowledged { (c : LayerSettings) (l : State) → FitsLayer c self.now l
+            → IfSome result (λ next. (k : ℕ) → channel < k → k < next → unacknowledged_at c l k ≡ None) }
+        ensures all_acknowledged { (c : LayerSettings) (l : State) → FitsLayer c self.now l
+            → IfNone result ((k : ℕ) → channel < k → unacknowledged_at c l k ≡ None) }
     {
         self.busy.after(channel)
     }

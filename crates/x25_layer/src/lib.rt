@@ -23,8 +23,8 @@ mod stretch;
 pub use error::LayerError;
 pub use law::{
     acknowledged_are_handed_up, any_peer_keeps_transcripts, apart_layers_keep_order,
-    calls_are_runs, each_channel_has_its_turn, each_end_is_by_itself, messages_wait_for_users,
-    names_are_told, two_layers_keep_order,
+    calls_are_runs, each_channel_has_its_turn, each_end_is_by_itself, layers_are_ends,
+    messages_wait_for_users, names_are_told, two_layers_keep_order,
 };
 pub use layer::Layer;
 pub use link_state::LinkState;

@@ -6,7 +6,7 @@ use Rattle.x25_circuit.specs.declared.awaits.Awaits.TheVariants.{Nothing}
 use Rattle.x25_circuit.specs.Awaits.{is_any}
 use Rattle.x25_circuit.specs.declared.circuit.Circuit as circuit_code
 use Rattle.x25_circuit.specs.declared.params.Params.{Params}
-use Rattle.x25_circuit.specs.Circuit.{Circuit, awaited_by, is_open, waits}
+use Rattle.x25_circuit.specs.Circuit.{Circuit, awaited_by, is_open, unacknowledged, waits}
 use Rattle.x25_circuit.specs.code.FitsCircuit.{FitsCircuit}
 use Rattle.x25_handshakes.specs.laws.Names.{Name}
 use Rattle.x25_layer.specs.declared.layer.Layer as code
@@ -54,6 +54,12 @@ is_open_at c l h = if is_channel c.channels h then is_open (l.circuits h) else f
 -- the answer that this end awaits on a channel, none where it isn't configured
 abbrev pub awaited_at : LayerSettings → Layer → ℕ → Awaits
 awaited_at c l h = if is_channel c.channels h then awaited_by (l.circuits h) else Nothing
+
+-- P(S) of the first data packet of a channel that isn't acknowledged, while the other end is ready to receive; none
+-- while a restart is under way
+abbrev pub unacknowledged_at : LayerSettings → Layer → ℕ → Option ℕ
+unacknowledged_at c l h = if l.restarting then None
+    else if is_channel c.channels h then unacknowledged (l.circuits h) else None
 
 -- on how many of the channels up to a number an answer is awaited
 abbrev pub awaited_up_to : (ℕ → Circuit) → ℕ → ℕ

@@ -14,7 +14,9 @@ use Rattle.x25_layer.specs.declared.ranges.Ranges.{Ranges}
 use Rattle.x25_layer.specs.Layer.{Layer}
 use Rattle.x25_layer.specs.laws.Transcript.{Entry, under, calls_in, messages_in, interrupts_in, name_of}
 use Rattle.x25_layer.specs.laws.Law.{IsQuietEnd}
+use Rattle.x25_layer.specs.laws.Bare.{bare_layers}
 use Rattle.x25_layer.specs.laws.PeerJoined.{PeerJoined, IsReached}
+use Rattle.x25_handshakes.specs.laws.TwoLayers as two
 
 abbrev pub WithAnyPeer : (Ranges → PeerJoined → Type 0) → Type 0
 WithAnyPeer Holds =
@@ -86,3 +88,26 @@ AllHaveArrived channels w = w.out ≡ [] → OpenHaveArrived w.near.layer w.near
 -- our layer neither sends the peer an error of procedure nor tells its user of one
 abbrev pub FindsNoError : Ranges → PeerJoined → Type 0
 FindsNoError channels w = IsQuietEnd channels w.near
+
+-- Our layer is an end that keeps the rules: with the peer it is reached as any two such ends are, it counts as the
+-- layer does, its user was told the messages that it took, and its interrupts and calls are those of that user.
+pub record IsEnd (r : Role) (channels : Ranges) (w : PeerJoined) : Type 0 where
+  pub end : At PeerChannels
+  pub reached : two.IsReached r (record {
+    near = end;
+    far = w.peer;
+    out = bare_layers channels.message w.out;
+    back = bare_layers channels.message w.back;
+  })
+  pub names : (k : ℕ) → name_of w.near.layer k ≡ peer_name end k
+  pub messages : (k : ℕ) → (messages_in (under k (peer_name end k) w.near.entries)).up
+      ≡ carried (peer_stretch end k).taken
+  pub interrupts : (k : ℕ) → interrupts_in (under k (peer_name end k) w.near.entries)
+      ≡ record { down = (peer_stretch end k).int_down; up = (peer_stretch end k).int_up }
+  pub calls : (k : ℕ) → calls_in (under k (of_call (peer_name end k)) w.near.entries)
+      ≡ record { down = (peer_call end k).made; up = (peer_call end k).indicated }
+
+abbrev pub LayersAreEnds : Type 0
+LayersAreEnds =
+    (r : Role) (long_data : Bool) (channels : Ranges) (w : PeerJoined) → IsReached r long_data channels w
+    → IsEnd r channels w

@@ -1,25 +1,17 @@
 use Rattle.x25_layer.proofs.{AcknowledgedLemmas.{always_acknowledged}, ApartLemmas.{always_apart}, Names.{Bool, Ranges, AcknowledgedAreHandedUp, Always}}
-use Rattle.x25_layer.proofs.RunLemmas.{Premises}
+use Rattle.x25_layer.proofs.Ends.{Known}
 use Rattle.x25_layer.proofs.law.acknowledged_are_handed_up.Goals as goal
 
--- the nested handshakes, and packet sizes and windows, by their contracts
-known : goal.After-apart_layers_keep_order → Premises
-known c = record {
-  quiet = c.keeps_order.ensures.quiet;
-  messages = c.keeps_order.ensures.messages;
-  interrupts = c.keeps_order.ensures.interrupts;
-  calls = c.keeps_order.ensures.calls;
-  arrived = c.keeps_order.ensures.arrived;
-  params = record {
-    said = c.values_are_agreed.ensures.said;
-    field = c.values_are_agreed.ensures.field;
-    allowed = c.values_are_agreed.ensures.allowed;
-    answered = c.values_are_agreed.ensures.answer;
-  };
-}
+-- what is known of packet sizes and windows
+known : goal.After-apart_layers_keep_order → Known
+known c = (let law = c.values_are_agreed.ensures in
+    record {
+      laws = record { said = law.said; no_field = law.no_field; proposal = law.proposal; answer = law.answer; terms = law.terms };
+      field = law.field;
+    })
 
 over_links : goal.After-apart_layers_keep_order → (long_data : Bool) (channels : Ranges) → Always AcknowledgedAreHandedUp long_data channels
-over_links c = always_acknowledged (known c) c.acknowledged_are_handed_up.ensures.up
+over_links c = always_acknowledged (known c)
 
 pub returns-clause-over : goal.returns-clause-over
 returns-clause-over c = over_links c

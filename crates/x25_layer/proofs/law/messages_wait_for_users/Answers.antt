@@ -1,26 +1,18 @@
 use Rattle.x25_layer.proofs.{ApartLemmas.{always_apart}, LeftLemmas.{rounds_leave_none, still_pulls_none}}
-use Rattle.x25_layer.proofs.{Names.{Bool, Ranges, Always, ClosedKeepNone, NoneOpenInRestart, WaitForUsersAlone}, RunLemmas.{Premises}}
+use Rattle.x25_layer.proofs.{Names.{Bool, Ranges, Always, ClosedKeepNone, NoneOpenInRestart, WaitForUsersAlone}, Ends.{Known}}
 use Rattle.x25_layer.proofs.WaitLemmas.{always_closed, always_shut, always_waits}
 use Rattle.x25_layer.proofs.law.messages_wait_for_users.Goals as goal
 
--- the nested handshakes, and packet sizes and windows, by their contracts
-known : goal.After-apart_layers_keep_order → Premises
-known c = record {
-  quiet = c.keeps_order.ensures.quiet;
-  messages = c.keeps_order.ensures.messages;
-  interrupts = c.keeps_order.ensures.interrupts;
-  calls = c.keeps_order.ensures.calls;
-  arrived = c.keeps_order.ensures.arrived;
-  params = record {
-    said = c.values_are_agreed.ensures.said;
-    field = c.values_are_agreed.ensures.field;
-    allowed = c.values_are_agreed.ensures.allowed;
-    answered = c.values_are_agreed.ensures.answer;
-  };
-}
+-- what is known of packet sizes and windows
+known : goal.After-apart_layers_keep_order → Known
+known c = (let law = c.values_are_agreed.ensures in
+    record {
+      laws = record { said = law.said; no_field = law.no_field; proposal = law.proposal; answer = law.answer; terms = law.terms };
+      field = law.field;
+    })
 
 wait : goal.After-apart_layers_keep_order → (long_data : Bool) (channels : Ranges) → Always (WaitForUsersAlone long_data channels) long_data channels
-wait c = always_waits (known c) c.drained_ends_know.ensures.known
+wait c = always_waits (known c)
 
 pub returns-clause-left : goal.returns-clause-left
 returns-clause-left c = rounds_leave_none

@@ -1,24 +1,13 @@
-use Rattle.x25_layer.proofs.{ClearLemmas.{never_in_p1}, CountLemmas.{always_counted}, RunLemmas.{Premises}}
+use Rattle.x25_layer.proofs.{ClearLemmas.{never_in_p1}, CountLemmas.{always_counted}, Ends.{Known}}
 use Rattle.x25_layer.proofs.law.names_are_told.Goals as goal
 
--- the nested handshakes, and packet sizes and windows, by their contracts
-known : goal.After-keeps_order → Premises
-known c = record {
-  quiet = c.keeps_order.ensures.quiet;
-  messages = c.keeps_order.ensures.messages;
-  interrupts = c.keeps_order.ensures.interrupts;
-  calls = c.keeps_order.ensures.calls;
-  arrived = c.keeps_order.ensures.arrived;
-  params = record {
-    said = c.values_are_agreed.ensures.said;
-    field = c.values_are_agreed.ensures.field;
-    allowed = c.values_are_agreed.ensures.allowed;
-    answered = c.values_are_agreed.ensures.answer;
-  };
-}
+-- what is known of packet sizes and windows
+known : goal.After-values_are_agreed → Known
+known c = (let law = c.values_are_agreed.ensures in
+    record {
+      laws = record { said = law.said; no_field = law.no_field; proposal = law.proposal; answer = law.answer; terms = law.terms };
+      field = law.field;
+    })
 
-pub returns-clause-names : goal.returns-clause-names
-returns-clause-names c = λ long_data channels. always_counted long_data channels (never_in_p1 (known c) long_data channels)
-
-pub returns-clause-clear : goal.returns-clause-clear
-returns-clause-clear c = never_in_p1 (known c)
+pub returns : goal.returns
+returns c = record { names = λ long_data channels. always_counted long_data channels (never_in_p1 (known c) long_data channels); clear = never_in_p1 (known c) }
