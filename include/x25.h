@@ -98,7 +98,7 @@ typedef struct {
     uint32_t t22; /* a reset is confirmed */
     uint32_t t23; /* clearing is confirmed */
     uint32_t t26; /* an interrupt is confirmed */
-    uint32_t more; /* 0: room for a time of a later version */
+    uint32_t t25; /* a data packet is acknowledged, while the other end is ready; 0 unless it is set */
 } x25_times;
 
 /* An item of an answer: its kind, and what the kinds below have; what one doesn't have is 0. */
@@ -173,10 +173,11 @@ enum {
     X25_EVENT_READY_ASKED = 29,
     X25_EVENT_NOT_READY_ASKED = 30,
     X25_EVENT_RELINK_ASKED = 31,   /* no channel */
-    X25_EVENT_TIMEOUT = 32,        /* a timer passed, the first event of the answer: reason is its number, 1, 3, 26, or 20 to 23, of a
+    X25_EVENT_TIMEOUT = 32,        /* a timer passed, the first event of the answer: reason is its number, 1, 3, 25, 26, or 20 to 23, of a
                                       DCE 10 to 13; channel, 0 where it is of none */
-    X25_EVENT_CONFIRMED = 33       /* so many messages more are confirmed, of those of x25_send_asking of this stretch, in their order:
+    X25_EVENT_CONFIRMED = 33,      /* so many messages more are confirmed, of those of x25_send_asking of this stretch, in their order:
                                       channel, stretch, confirmed */
+    X25_EVENT_DISCONNECTED = 34    /* x25_disconnect ended, where the setting wide is set: reason, an X25_ENDING */
 };
 
 /* Why the link went down. */
@@ -189,6 +190,13 @@ enum {
     X25_DOWN_RESET = 6,     /* the other end set it up anew */
     X25_DOWN_LOCAL = 7,     /* this end disconnected, or sets it up anew */
     X25_DOWN_COUNTS = 8     /* a count of restarts, clears or resets is at its most */
+};
+
+/* How it ended that this end disconnected the link. */
+enum {
+    X25_ENDING_UA = 1,      /* UA came */
+    X25_ENDING_DM = 2,      /* DM came: the link was down */
+    X25_ENDING_GIVEN_UP = 3 /* DISC wasn't answered, however often it was sent */
 };
 
 /* Why a call is refused. docs/FORMATS.md says more of each. */
@@ -286,9 +294,10 @@ uint32_t x25_standard_times(uint8_t end, x25_times *times);
 uint32_t x25_set_times(x25_station *station, x25_times times);
 /* The time is now, in milliseconds from any beginning, until it is said again; 0 before it is said, and as it is said first the
    time of all that is awaited begins. The first of what is due by the clock is asked for, as the program would ask: T1 fires; no
-   answer to an interrupt (T26): x25_reset; none to a call or to a reset (T21, T22): x25_clear; none to that (T23): x25_restart;
-   none to that (T20), and in place of these three where 256 packets wait: x25_relink; an idle link (T3): x25_probe. Its time begins anew, also where it is refused.
-   Where nothing is due nothing is answered. 34 for a time before the last one, and what the call asked for answers. */
+   answer to an interrupt (T26), or data not acknowledged (T25, diagnostic 146): x25_reset; none to a call or to a reset (T21,
+   T22): x25_clear; none to that (T23): x25_restart; none to that (T20), and in place of these three where 256 packets wait:
+   x25_relink; an idle link (T3): x25_probe. Its time begins anew, also where it is refused. Where nothing is due nothing is
+   answered. 34 for a time before the last one, and what the call asked for answers. */
 uint32_t x25_time(x25_station *station, uint64_t now);
 /* Whether something is due at some moment, where nothing happens before: then that is written to at, which is else as it was. */
 bool x25_next(const x25_station *station, uint64_t *at);

@@ -31,10 +31,9 @@ static const x25_sizes kilobytes = {10, 10, 7, 7};
 static const x25_times times = {.t1 = T1, .t3 = T3, .t20 = 180000, .t21 = 200000, .t22 = 180000, .t23 = 180000, .t26 = 180000};
 static struct sockaddr_in near = {.sin_family = AF_INET}, far, place;
 static int line, listener = -1, waiting = -1; /* waiting: a client whose call can't be made yet */
-static volatile sig_atomic_t ends;
+static volatile sig_atomic_t ends; static bool has_ended; /* DISC was answered, or won't be */
 
 static void end(int number) { (void)number, ends = 1; }
-
 static uint64_t now(void)
 {
     struct timespec at;
@@ -63,6 +62,7 @@ static void note(const x25_event *event, const uint8_t *user)
         for (int h = 1; h <= CHANNELS; h++)
             leave(&circuits[h], FREE, false);
         break;
+    case X25_EVENT_DISCONNECTED: has_ended = true; break;
     case X25_EVENT_INCOMING: leave(c, listener < 0 ? CAME : CUT, false); break;
     case X25_EVENT_CONNECTED: c->state = UP; break;
     case X25_EVENT_RESET: case X25_EVENT_RESET_DONE: case X25_EVENT_FAULT: leave(c, CUT, false); break;
@@ -143,14 +143,15 @@ int main(int argc, char **argv)
         || (listens && (setsockopt(listener, SOL_SOCKET, SO_REUSEADDR, &(int){1}, sizeof(int))
                         || bind(listener, (struct sockaddr *)&place, sizeof place) || listen(listener, CHANNELS))))
         return perror("tunnel"), 2;
-    if (x25_new(&station, is_dte ? X25_DTE : X25_DCE, (x25_settings){.k = 7, .n2 = 20, .channels = CHANNELS, .message = PIECE})
+    if (x25_new(&station, is_dte ? X25_DTE : X25_DCE, (x25_settings){.k = 7, .n2 = 20, .channels = CHANNELS, .wide = true, .message = PIECE})
         || x25_set_times(&station, times))
         return fputs("tunnel: no memory\n", stderr), 2;
     sigaction(SIGTERM, &(struct sigaction){.sa_handler = end}, NULL);
     uint8_t octets[PIECE + 64];
-    for (uint16_t h; !ends || !did(x25_disconnect(&station));) {
+    for (uint16_t h; !has_ended;) {
         struct pollfd files[CHANNELS + 2] = {{line, POLLIN, 0}, {waiting < 0 ? listener : -1, POLLIN, 0}};
-        if (is_dte)
+        if (ends) did(x25_disconnect(&station)); /* refused where it is asked already */
+        else if (is_dte)
             did(x25_connect(&station)); /* refused where it is up, or being set up */
         if (waiting >= 0 && did(x25_call(&station, "1", 1, "2", 1, NULL, 0, kilobytes, &h)))
             circuits[h] = (struct circuit){.state = CALLING, .file = waiting}, waiting = -1;

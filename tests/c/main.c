@@ -557,6 +557,35 @@ static void try_interrupt_timer(void)
     x25_free(&dce.station);
 }
 
+/* A data packet that isn't acknowledged has its call reset, with a diagnostic of its own. */
+static void try_window_timer(void)
+{
+    x25_times times = {.t25 = 500, .t22 = 900};
+    x25_event event;
+    uint64_t at;
+    expect("new", x25_new(&dte.station, X25_DTE, one_channel), 0);
+    expect("new", x25_new(&dce.station, X25_DCE, one_channel), 0);
+    expect("times", x25_set_times(&dte.station, times), 0);
+    expect("a time", x25_time(&dte.station, 1000), 0);
+    expect("connect", x25_connect(&dte.station), 0);
+    take(&dte);
+    deliver_all();
+    ask(&dte, "call 1 2 -");
+    deliver_all();
+    ask(&dce, "accept 1");
+    deliver_all();
+    ask(&dte, "send 1 0 07");
+    expect("nothing is awaited", x25_awaits(&dte.station, 1), X25_AWAITS_NOTHING);
+    expect("T25 begins", x25_next(&dte.station, &at) && at == 1500, true);
+    expect("T25", x25_time(&dte.station, 1500), 0);
+    size_t i = x25_frames(&dte.station);
+    expect("its event", x25_take(&dte.station, i, &event, NULL, 0) && event.kind == X25_EVENT_TIMEOUT && event.reason == 25 && event.channel == 1, true);
+    expect("what it asked", x25_take(&dte.station, i + 1, &event, NULL, 0) && event.kind == X25_EVENT_RESET_ASKED && event.channel == 1 && event.diagnostic == 146, true);
+    expect("T22 begins", x25_next(&dte.station, &at) && at == 2400, true);
+    x25_free(&dte.station);
+    x25_free(&dce.station);
+}
+
 /* By a clock what isn't answered is asked for by itself, and the answer tells the timer: of a call that isn't accepted. */
 static void try_clock(void)
 {
@@ -571,7 +600,7 @@ static void try_clock(void)
     expect("times of a DCE", x25_standard_times(X25_DCE, &times) == 0 && times.t1 == 3000 && times.t20 == 60000, true);
     expect("times of a DCE's interrupt", times.t26, 0);
     expect("times of a DTE", x25_standard_times(X25_DTE, &times) == 0 && times.t21 == 200000 && times.t23 == 180000, true);
-    expect("times of its interrupt, and of later versions", times.t26 == 180000 && times.more == 0, true);
+    expect("times of its interrupt and of its data", times.t26 == 180000 && times.t25 == 0, true);
     expect("none has times", x25_set_times(&none, times), X25_NO_STATION);
     expect("none has a time", x25_time(&none, 1), X25_NO_STATION);
     expect("how long where there is none", x25_next_timeout(&none, 3, 5) == 5, true);
@@ -609,6 +638,7 @@ static void try_clock(void)
     x25_free(&dte.station);
     x25_free(&dce.station);
     try_interrupt_timer();
+    try_window_timer();
     /* What was begun before a time was said begins as it is said first. */
     expect("new", x25_new(&dte.station, X25_DTE, one_channel), 0);
     expect("times", x25_set_times(&dte.station, times), 0);

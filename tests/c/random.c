@@ -4,7 +4,7 @@
 #include "two.h"
 #include <sys/mman.h>
 
-enum { AREA = 1 << 18, AREAS = 9, SEVERAL = 4, KINDS = 34, ALL = 200000 /* in so many calls each kind comes */ };
+enum { AREA = 1 << 18, AREAS = 9, SEVERAL = 4, KINDS = 35, ALL = 200000 /* in so many calls each kind comes */ };
 
 static uint64_t state;
 static uint8_t *ends[AREAS]; /* of memory behind which none may be touched */
@@ -303,7 +303,8 @@ static void write_event(end_t *end, size_t i, const x25_event *event, const uint
     static const char *const names[KINDS] = {
         "", "", "", "linkup", "linkdown ", "restarted", "restartdone", "fault", "beside", "diagnostic", "incoming", "connected", "collided",
         "cleared", "cleardone", "wasreset", "resetdone", "message", "interrupt", "intdone", "connect", "disconnect", "restart", "call", "accept",
-        "clear", "send", "int", "reset", "ready", "notready", "relink", "timeout", "confirmed"};
+        "clear", "send", "int", "reset", "ready", "notready", "relink", "timeout", "confirmed", "disconnected "};
+    static const char *const endings[] = {"", "ua", "dm", "retries"};
     static const char *const reasons[] = {"", "retries", "disc", "dm", "frmr-sent", "frmr-got", "reset", "local", "counts"};
     unsigned kind = event->kind;
     length = 0;
@@ -311,6 +312,8 @@ static void write_event(end_t *end, size_t i, const x25_event *event, const uint
     put(names[kind], 0);
     if (kind == X25_EVENT_LINK_DOWN)
         put(reasons[event->reason], 0);
+    if (kind == X25_EVENT_DISCONNECTED)
+        put(endings[event->reason], 0);
     if (kind == X25_EVENT_FAULT || kind == X25_EVENT_BESIDE || (kind >= X25_EVENT_INCOMING && kind < X25_EVENT_CONNECT_ASKED)
         || (kind >= X25_EVENT_CALL_ASKED && kind < X25_EVENT_RELINK_ASKED) || kind == X25_EVENT_CONFIRMED)
         put(" ch=%llu", event->channel);

@@ -13,8 +13,9 @@
 >>> _ = talk(answer, dte, dce)
 >>> answer = dte.call("123", "4567", b"A")
 >>> channel = answer.channel
->>> talk(answer, dte, dce)[-1]
-Event(kind=<Kind.INCOMING: 10>, channel=1, stretch=(1, 0, 0), sizes=Sizes(7, 7, 2, 2), called='123', calling='4567', user=b'A')
+>>> coming = talk(answer, dte, dce)[-1]
+>>> coming.kind, coming.channel, coming.sizes, coming.called, coming.calling, coming.user
+(<Kind.INCOMING: 10>, 1, Sizes(7, 7, 2, 2), '123', '4567', b'A')
 >>> _ = talk(dce.accept(channel), dce, dte)
 >>> talk(dte.send(channel, b"hello"), dte, dce)[-1]
 Event(kind=<Kind.MESSAGE: 17>, channel=1, stretch=(1, 0, 0), user=b'hello')
@@ -26,9 +27,10 @@ Event(kind=<Kind.MESSAGE: 17>, channel=1, stretch=(1, 0, 0), user=b'hello')
 Traceback (most recent call last):
 x25.Refused: 15: the link is up
 
-A station may be used by any thread: one call, with all of its answer, is done after another. What runs in the midst of a call of the
-same thread, as a signal handler, a `__del__` or a trace function does, gets `Busy` of this station. It is let go of by `close`, at the
-end of a `with` block, or with its last name.
+A station may be used by any thread: one call, with all of its answer, is done after another. What
+runs in the midst of a call of the same thread, as a signal handler, a `__del__` or a trace
+function does, gets `Busy` of this station. It is let go of by `close`, at the end of a `with`
+block, or with its last name.
 """
 
 from __future__ import annotations
@@ -50,7 +52,8 @@ _Result = TypeVar("_Result")
 
 
 class Timer(enum.IntEnum):
-    """What becomes of timer T1: a program drops its deadline, sets it anew, or leaves it as it is."""
+    """What becomes of timer T1: a program drops its deadline, sets it anew, or leaves it as it
+    is."""
 
     OFF = 0
     BEGINS = 1
@@ -58,8 +61,8 @@ class Timer(enum.IntEnum):
 
 
 class Kind(enum.IntEnum):
-    """What an event tells, as `x25.h` has it; from CONNECT_ASKED to RELINK_ASKED, what this end asked. OTHER is of a kind that isn't known
-    here."""
+    """What an event tells, as `x25.h` has it; from CONNECT_ASKED to RELINK_ASKED, what this end
+    asked. OTHER is of a kind that isn't known here."""
 
     OTHER = 0
     LINK_UP = 3
@@ -93,6 +96,7 @@ class Kind(enum.IntEnum):
     RELINK_ASKED = 31
     TIMEOUT = 32
     CONFIRMED = 33
+    DISCONNECTED = 34
 
 
 class Down(enum.IntEnum):
@@ -108,6 +112,14 @@ class Down(enum.IntEnum):
     COUNTS = 8
 
 
+class Ending(enum.IntEnum):
+    """How it ended that this end disconnected the link, as `x25.h` has it."""
+
+    UA = 1
+    DM = 2
+    GIVEN_UP = 3
+
+
 class Awaits(enum.IntEnum):
     """What is awaited on a channel, as `x25.h` has it."""
 
@@ -119,7 +131,8 @@ class Awaits(enum.IntEnum):
 
 
 class Times(NamedTuple):
-    """How long each answer may take, in milliseconds, 0 for ever, as `x25.h` has it; of a DCE `t20` to `t23` are its T10 to T13."""
+    """How long each answer may take, in milliseconds, 0 for ever, as `x25.h` has it; of a DCE
+    `t20` to `t23` are its T10 to T13."""
 
     t1: int
     t3: int
@@ -128,10 +141,12 @@ class Times(NamedTuple):
     t22: int
     t23: int
     t26: int
+    t25: int = 0
 
 
 class Sizes(NamedTuple):
-    """Packet sizes, as powers of 2 from 4 to 12, and windows, 1 to 7, of what the called and what the calling end of a call sends."""
+    """Packet sizes, as powers of 2 from 4 to 12, and windows, 1 to 7, of what the called and what
+    the calling end of a call sends."""
 
     size_called: int
     size_calling: int
@@ -144,8 +159,9 @@ class Sizes(NamedTuple):
 
 @dataclasses.dataclass(frozen=True, repr=False)
 class Event:
-    """What a station tells, and what its kind has of these: `x25.h` lists that. A stretch is the restarts, clears and resets that name it;
-    `timeout` is the number of the timer that passed, `confirmed` how many messages more are confirmed."""
+    """What a station tells, and what its kind has of these: `x25.h` lists that. A stretch is the
+    restarts, clears and resets that name it; `timeout` is the number of the timer that passed,
+    `confirmed` how many messages more are confirmed."""
 
     kind: Kind
     channel: int = 0
@@ -154,7 +170,7 @@ class Event:
     d: bool = False
     cause: int = 0
     diagnostic: int = 0
-    reason: Down | None = None
+    reason: Down | Ending | None = None
     sizes: Sizes | None = None
     called: str = ""
     calling: str = ""
@@ -164,8 +180,9 @@ class Event:
     confirmed: int = 0
 
     def __repr__(self) -> str:
-        told = ((field.name, getattr(self, field.name), field.default) for field in dataclasses.fields(self))
-        return f"Event({', '.join(f'{name}={value!r}' for name, value, default in told if value != default)})"
+        values = ((field, getattr(self, field.name)) for field in dataclasses.fields(self))
+        told = (f"{field.name}={value!r}" for field, value in values if value != field.default)
+        return f"Event({', '.join(told)})"
 
 
 class Answer(NamedTuple):
@@ -182,10 +199,12 @@ class Answer(NamedTuple):
 
 
 class Refused(Exception):
-    """A call was refused, and the station is as before; `number` and `text` say why. Of `receive_all`, `taken` counts the frames before,
-    and `answer` is what was answered to these."""
+    """A call was refused, and the station is as before; `number` and `text` say why. Of
+    `receive_all`, `taken` counts the frames before, and `answer` is what was answered to these."""
 
-    def __init__(self, number: int, text: str, taken: int = 0, answer: Answer | None = None) -> None:
+    def __init__(
+        self, number: int, text: str, taken: int = 0, answer: Answer | None = None
+    ) -> None:
         super().__init__(number, text, taken, answer)
         self.number, self.text, self.taken = number, text, taken
         self.answer = answer or Answer([], [], Timer.GOES_ON)
@@ -195,8 +214,8 @@ class Refused(Exception):
 
 
 class Busy(RuntimeError):
-    """A call was made in the midst of another one of the same thread, by a signal handler, a `__del__` or a trace function. It did nothing,
-    and the other one goes on."""
+    """A call was made in the midst of another one of the same thread, by a signal handler, a
+    `__del__` or a trace function. It did nothing, and the other one goes on."""
 
 
 class _Slot(ctypes.Structure):
@@ -217,7 +236,9 @@ class _Settings(ctypes.Structure):
 
 
 class _StretchName(ctypes.Structure):
-    _fields_ = [("restarts", ctypes.c_uint64), ("clears", ctypes.c_uint64), ("resets", ctypes.c_uint64)]
+    _fields_ = [
+        ("restarts", ctypes.c_uint64), ("clears", ctypes.c_uint64), ("resets", ctypes.c_uint64)
+    ]
 
 
 class _Sizes(ctypes.Structure):
@@ -237,13 +258,14 @@ class _Given(ctypes.Structure):
 
 
 class _Times(ctypes.Structure):
-    _fields_ = [(name, ctypes.c_uint32) for name in (*Times._fields, "more")]
+    _fields_ = [(name, ctypes.c_uint32) for name in Times._fields]
 
 
 _STATION, _ROOM, _SIZE = ctypes.c_void_p, ctypes.c_void_p, ctypes.c_size_t
 _OCTETS, _REASON = [ctypes.c_char_p, _SIZE], [ctypes.c_uint8, ctypes.c_uint8]
 _AT = [_STATION, _SIZE, _ROOM, _SIZE]
-# The functions of x25.h: parameters and result. Those of None are called for each frame, and are handed what was converted before.
+# The functions of x25.h: parameters and result. Those of None are called for each frame, and are
+# handed what was converted before.
 _FUNCTIONS: dict[str, tuple[Any, Any]] = {
     "version": ([], ctypes.c_uint32),
     "event_size": ([], _SIZE),
@@ -255,7 +277,9 @@ _FUNCTIONS: dict[str, tuple[Any, Any]] = {
     "relink": ([_STATION], ctypes.c_uint32),
     "restart": ([_STATION, *_REASON], ctypes.c_uint32),
     "call": ([_STATION, *_OCTETS * 3, _Sizes, ctypes.POINTER(ctypes.c_uint16)], ctypes.c_uint32),
-    "call_with": ([_STATION, *_OCTETS * 3, _Sizes, _Given, ctypes.POINTER(ctypes.c_uint16)], ctypes.c_uint32),
+    "call_with": (
+        [_STATION, *_OCTETS * 3, _Sizes, _Given, ctypes.POINTER(ctypes.c_uint16)], ctypes.c_uint32
+    ),
     "accept": ([_STATION, ctypes.c_uint16, _Sizes], ctypes.c_uint32),
     "accept_with": ([_STATION, ctypes.c_uint16, _Sizes, _Given], ctypes.c_uint32),
     "clear": ([_STATION, ctypes.c_uint16, *_REASON], ctypes.c_uint32),
@@ -297,32 +321,45 @@ _FUNCTIONS: dict[str, tuple[Any, Any]] = {
 }
 _FRAME, _TIMER = 1, 2
 _ROOM_SIZE, _ITEMS, _PART = 1 << 18, 64, 128
-# An x25_event: kind, channel, q, d, cause, diagnostic, reason, sizes, timer, stretch, count, confirmed, room for later ones; and its kind,
-# timer and count alone.
+# An x25_event: kind, channel, q, d, cause, diagnostic, reason, sizes, timer, stretch, count,
+# confirmed, room for later ones; and its kind, timer and count alone.
 _ITEM, _HEAD = struct.Struct("@HH??BBB4BI3QNN16x"), struct.Struct("@H14xI28xN24x")
 _ITEM_SIZE = _ITEM.size
 _size = functools.lru_cache(maxsize=1024)(_SIZE.from_param)
 _MOST, _SPACE = _size(_ITEMS), _size(_ROOM_SIZE)
 _TIMERS, _new = tuple(Timer), tuple.__new__
-_LINK_DOWN, _BESIDE, _TIMEOUT = Kind.LINK_DOWN, Kind.BESIDE, Kind.TIMEOUT
+_BESIDE, _TIMEOUT = Kind.BESIDE, Kind.TIMEOUT
+_REASONS: dict[Kind, type[Down] | type[Ending]] = {Kind.LINK_DOWN: Down, Kind.DISCONNECTED: Ending}
 _WITH_ADDRESSES = {Kind.INCOMING, Kind.CALL_ASKED}
 _WITH_SIZES = {*_WITH_ADDRESSES, Kind.CONNECTED, Kind.ACCEPT_ASKED}
-_WITH_STRETCH = {*_WITH_ADDRESSES, Kind.MESSAGE, Kind.SEND_ASKED, Kind.INTERRUPT, Kind.INTERRUPT_ASKED, Kind.CONFIRMED}
+_WITH_STRETCH = {
+    *_WITH_ADDRESSES,
+    Kind.MESSAGE,
+    Kind.SEND_ASKED,
+    Kind.INTERRUPT,
+    Kind.INTERRUPT_ASKED,
+    Kind.CONFIRMED,
+}
 # Each kind by its number, and which of these it has.
-_KINDS = {kind.value: (kind, kind in _WITH_ADDRESSES, kind in _WITH_SIZES, kind in _WITH_STRETCH) for kind in Kind}
+_KINDS = {
+    kind.value: (kind, kind in _WITH_ADDRESSES, kind in _WITH_SIZES, kind in _WITH_STRETCH)
+    for kind in Kind
+}
 _OTHER = _KINDS[Kind.OTHER.value]
 
 _loaded: dict[str, ctypes.PyDLL] = {}
 
 
 def library_path() -> str:
-    """Where the library is: in the folder that the variable X25_LIBRARY names, beside this file, where `make lib` leaves it, or among
-    those that the system knows."""
+    """Where the library is: in the folder that the variable X25_LIBRARY names, beside this file,
+    where `make lib` leaves it, or among those that the system knows."""
     here = os.path.dirname(os.path.abspath(__file__))
     named = os.environ.get("X25_LIBRARY")
     folders = [named] if named else [here, os.path.join(here, "..", "..", "..", "build")]
     places = [os.path.join(folder, "libx25.so") for folder in folders]
-    return next((path for path in places if os.path.exists(path)), places[0] if named else "libx25.so")
+    return next(
+        (path for path in places if os.path.exists(path)), places[0] if named else "libx25.so"
+    )
 
 
 def load(path: str | None = None) -> ctypes.PyDLL:
@@ -332,13 +369,20 @@ def load(path: str | None = None) -> ctypes.PyDLL:
         try:
             library = ctypes.PyDLL(path)
         except OSError as error:
-            raise OSError(f"{error} (`make lib` leaves libx25.so in build, and the variable X25_LIBRARY names another folder)") from None
+            raise OSError(
+                f"{error} (`make lib` leaves libx25.so in build, and the variable X25_LIBRARY "
+                "names another folder)"
+            ) from None
         version = library.x25_version() if hasattr(library, "x25_version") else 0
         if version != VERSION:
-            raise OSError(f"{path} is of version {version}, and this package of {VERSION}, as x25.h counts")
+            raise OSError(
+                f"{path} is of version {version}, and this package of {VERSION}, as x25.h counts"
+            )
         size = library.x25_event_size() if hasattr(library, "x25_event_size") else 0
         if size != _ITEM_SIZE:
-            raise OSError(f"an event of {path} has {size} octets, and one of this package {_ITEM_SIZE}")
+            raise OSError(
+                f"an event of {path} has {size} octets, and one of this package {_ITEM_SIZE}"
+            )
         for name, (parameters, result) in _FUNCTIONS.items():
             function = getattr(library, f"x25_{name}")
             function.argtypes, function.restype = parameters, result
@@ -347,11 +391,13 @@ def load(path: str | None = None) -> ctypes.PyDLL:
 
 
 class Station:
-    """A station, DTE or DCE: window k, n2 tries of a command, 1 to 4,095 channels, whether a call may have 128 octets of user data,
-    whether calls and acceptances say packet sizes and windows, as X.25 over TCP asks for, and whether packets are read in all the forms
-    that X.25 lets equipment send. Of its channels the first `incoming` are one-way incoming, on which a DTE doesn't call, and the last
-    `outgoing` one-way outgoing, on which a DCE doesn't. A message has at most `message` octets, of which 0 stands for 65,535, and each
-    call has memory for so many."""
+    """A station, DTE or DCE: window k, n2 tries of a command, 1 to 4,095 channels, whether a call
+    may have 128 octets of user data, whether calls and acceptances say packet sizes and windows,
+    as X.25 over TCP asks for, and whether packets are read in all the forms that X.25 lets
+    equipment send. Of its channels the first `incoming` are one-way incoming, on which a DTE
+    doesn't call, and the last `outgoing` one-way outgoing, on which a DCE doesn't. A message has
+    at most `message` octets, of which 0 stands for 65,535, and each call has memory for so
+    many."""
 
     def __init__(
         self,
@@ -367,19 +413,31 @@ class Station:
         outgoing: int = 0,
         message: int = 65535,
     ) -> None:
-        # It is held from a call to the end of its answer. A plain lock would have a signal handler wait for ever for the call that it is
-        # in, so the same thread may take it again, and is then told by the flag.
+        # It is held from a call to the end of its answer. A plain lock would have a signal handler
+        # wait for ever for the call that it is in, so the same thread may take it again, and is
+        # then told by the flag.
         self._lock, self._is_in_call = threading.RLock(), False
         self._library, self._held, self._taken = load(library), _Slot(), ctypes.c_size_t()
         self._items: Any = ctypes.create_string_buffer(_ITEMS * _ITEM_SIZE)
         self._buffer: Any = ctypes.create_string_buffer(_ROOM_SIZE)
-        self._slot, self._taken_at, self._items_at, self._room = map(ctypes.byref, (self._held, self._taken, self._items, self._buffer))
-        self._receive_all, self._take_all = self._library.x25_receive_all, self._library.x25_take_all
-        self._take_first = functools.partial(self._take_all, self._slot, _size(0), self._items_at, _MOST, self._room, _SPACE)
+        self._slot, self._taken_at, self._items_at, self._room = map(
+            ctypes.byref, (self._held, self._taken, self._items, self._buffer)
+        )
+        self._receive_all, self._take_all = (
+            self._library.x25_receive_all, self._library.x25_take_all
+        )
+        self._take_first = functools.partial(
+            self._take_all, self._slot, _size(0), self._items_at, _MOST, self._room, _SPACE
+        )
         self._end = end
-        fit = all(0 <= setting < 256 for setting in (end, k, n2)) and all(0 <= count < 65536 for count in (channels, incoming, outgoing))
+        fit = (
+            all(0 <= setting < 256 for setting in (end, k, n2))
+            and all(0 <= count < 65536 for count in (channels, incoming, outgoing))
+        )
         self._check(0 if fit and 0 <= message < 65536 else 14)
-        settings = _Settings(k, n2, channels, long_data, say_sizes, wide, 0, incoming, outgoing, message)
+        settings = _Settings(
+            k, n2, channels, long_data, say_sizes, wide, 0, incoming, outgoing, message
+        )
         self._check(self._library.x25_new(self._slot, end, settings))
 
     def __enter__(self) -> Station:
@@ -416,8 +474,8 @@ class Station:
         return self._call(self._library.x25_relink)
 
     def restart(self, cause: int = 0, diagnostic: int = 0) -> Answer:
-        """Restarts the packet layer: each call ends. A DTE gives 0 as the cause, or one of 129 to 255, a DCE any but those of an error of
-        procedure, and either any diagnostic."""
+        """Restarts the packet layer: each call ends. A DTE gives 0 as the cause, or one of 129 to
+        255, a DCE any but those of an error of procedure, and either any diagnostic."""
         return self._call(self._library.x25_restart, *self._reason(cause, diagnostic))
 
     def call(
@@ -430,19 +488,51 @@ class Station:
         facilities: Octets = b"",
         d: bool = False,
     ) -> Answer:
-        """Calls the other end, from one address to another, each of at most 15 digits; `channel` of the answer is that of the call. One
-        that is wide may give facilities, and the D bit."""
-        words = [word for text in (called.encode(), calling.encode(), user) for word in _counted(text)]
-        return self._call(self._library.x25_call_with, *words, _sizes(sizes), _given(facilities, b"", d), ctypes.c_uint16())
+        """Calls the other end, from one address to another, each of at most 15 digits; `channel`
+        of the answer is that of the call. One that is wide may give facilities, and the D bit."""
+        words = [
+            word for text in (called.encode(), calling.encode(), user) for word in _counted(text)
+        ]
+        return self._call(
+            self._library.x25_call_with,
+            *words,
+            _sizes(sizes),
+            _given(facilities, b"", d),
+            ctypes.c_uint16(),
+        )
 
-    def accept(self, channel: int, sizes: Sizes | None = None, *, facilities: Octets = b"", user: Octets = b"", d: bool = False) -> Answer:
-        """Accepts the call that came on a channel. One that is wide may give facilities, user data and the D bit."""
-        return self._on(self._library.x25_accept_with, channel, _sizes(sizes), _given(facilities, user, d))
+    def accept(
+        self,
+        channel: int,
+        sizes: Sizes | None = None,
+        *,
+        facilities: Octets = b"",
+        user: Octets = b"",
+        d: bool = False,
+    ) -> Answer:
+        """Accepts the call that came on a channel. One that is wide may give facilities, user data
+        and the D bit."""
+        return self._on(
+            self._library.x25_accept_with, channel, _sizes(sizes), _given(facilities, user, d)
+        )
 
-    def clear(self, channel: int, cause: int = 0, diagnostic: int = 0, *, facilities: Octets = b"", user: Octets = b"") -> Answer:
-        """Clears a call, whatever its state, with a cause and a diagnostic, as `restart`. One that is wide may give facilities and user
-        data."""
-        return self._on(self._library.x25_clear_with, channel, *self._reason(cause, diagnostic), _given(facilities, user, False))
+    def clear(
+        self,
+        channel: int,
+        cause: int = 0,
+        diagnostic: int = 0,
+        *,
+        facilities: Octets = b"",
+        user: Octets = b"",
+    ) -> Answer:
+        """Clears a call, whatever its state, with a cause and a diagnostic, as `restart`. One that
+        is wide may give facilities and user data."""
+        return self._on(
+            self._library.x25_clear_with,
+            channel,
+            *self._reason(cause, diagnostic),
+            _given(facilities, user, False),
+        )
 
     def reset(self, channel: int, cause: int = 0, diagnostic: int = 0) -> Answer:
         """Resets a call, as `clear` clears it: messages on the way are lost."""
@@ -473,25 +563,31 @@ class Station:
         return self._call(self._library.x25_receive, *_counted(octets))
 
     def receive_all(self, frames: Iterable[Octets]) -> Answer:
-        """Several frames came, one after another; what is answered to all of them. It ends at one that is refused, and the error has
-        what was answered up to there."""
-        return self._alone(self._take_frames, [frame if type(frame) is bytes else _octets(frame) for frame in frames])
+        """Several frames came, one after another; what is answered to all of them. It ends at one
+        that is refused, and the error has what was answered up to there."""
+        return self._alone(
+            self._take_frames,
+            [frame if type(frame) is bytes else _octets(frame) for frame in frames],
+        )
 
     def _take_frames(self, frames: list[bytes]) -> Answer:
         octets, counts = b"".join(frames), _packer(len(frames))(*map(len, frames))
-        number = self._receive_all(self._slot, octets, _size(len(octets)), counts, _size(len(frames)), self._taken_at)
+        number = self._receive_all(
+            self._slot, octets, _size(len(octets)), counts, _size(len(frames)), self._taken_at
+        )
         if number:
             raise Refused(number, self._text(number), self._taken.value, self._answer())
         return self._answer()
 
     def send(self, channel: int, user: Octets, q: bool = False, confirm: bool = False) -> Answer:
-        """Sends a message that isn't too long, with or without the qualifier. One that is wide may ask that its delivery be confirmed:
-        CONFIRMED tells that the other end has taken it."""
+        """Sends a message that isn't too long, with or without the qualifier. One that is wide may
+        ask that its delivery be confirmed: CONFIRMED tells that the other end has taken it."""
         send = self._library.x25_send_asking if confirm else self._library.x25_send
         return self._on(send, channel, q, *_counted(user))
 
     def command(self, text: str) -> Answer:
-        """Does what a text asks, as a line of a script without the name of its end: `call 123 4567 41`, `accept 1`."""
+        """Does what a text asks, as a line of a script without the name of its end: `call 123 4567
+        41`, `accept 1`."""
         return self._call(self._library.x25_command, *_counted(text.encode()))
 
     def standard_times(self) -> Times:
@@ -501,13 +597,15 @@ class Station:
         return Times(*(getattr(words, name) for name in Times._fields))
 
     def set_times(self, times: Times | None = None) -> None:
-        """Gives the station a clock with these times, or with the standard ones, in place of the one that it has."""
+        """Gives the station a clock with these times, or with the standard ones, in place of the
+        one that it has."""
         times = times or self.standard_times()
         self._check(0 if all(0 <= time < 1 << 32 for time in times) else 14)
         self._check(self._alone(self._library.x25_set_times, self._slot, _Times(*times)))
 
     def time(self, now: int) -> Answer:
-        """The time is now, in milliseconds; the first of what is due by the clock is asked for. 34 for a time before the last one."""
+        """The time is now, in milliseconds; the first of what is due by the clock is asked for. 34
+        for a time before the last one."""
         self._check(0 if 0 <= now < 1 << 64 else 34)
         return self._call(self._library.x25_time, now)
 
@@ -517,13 +615,14 @@ class Station:
         return at.value if self._alone(self._library.x25_next, self._slot, at) else None
 
     def next_timeout(self, now: int, most: int) -> int:
-        """How long a program may wait until it says the time: the milliseconds until something is due, and no more than `most`."""
+        """How long a program may wait until it says the time: the milliseconds until something is
+        due, and no more than `most`."""
         bounds = (max(0, min(number, (1 << 64) - 1)) for number in (now, most))
         return int(self._alone(self._library.x25_next_timeout, self._slot, *bounds))
 
     def lines(self) -> list[str]:
-        """The events of the last answer as lines of the transcript, each with its line feed. Refused with 70 where memory is refused, and
-        may be asked again."""
+        """The events of the last answer as lines of the transcript, each with its line feed.
+        Refused with 70 where memory is refused, and may be asked again."""
         return self._alone(self._lines)
 
     def _lines(self) -> list[str]:
@@ -544,7 +643,8 @@ class Station:
         return bool(self._alone(self._library.x25_idle, self._slot))
 
     def room(self, channel: int) -> int:
-        """How many messages more `send` takes on a channel: 8 less those that wait, and 0 where it is refused."""
+        """How many messages more `send` takes on a channel: 8 less those that wait, and 0 where it
+        is refused."""
         return int(self._alone(self._library.x25_room, self._slot, _channel(channel)))
 
     def unconfirmed(self, channel: int) -> int:
@@ -572,7 +672,8 @@ class Station:
         return (name.restarts, name.clears, name.resets) if is_open else None
 
     def _alone(self, make: Callable[..., _Result], *words: Any) -> _Result:
-        """Does something with the station while nothing else does, neither another thread nor what comes into the midst of it."""
+        """Does something with the station while nothing else does, neither another thread nor what
+        comes into the midst of it."""
         with self._lock:
             if self._is_in_call:
                 raise Busy("a call of this station is under way")
@@ -597,7 +698,8 @@ class Station:
         return cause, diagnostic
 
     def _on(self, function: Callable[..., int], channel: int, *words: Any) -> Answer:
-        """Makes a call that names a channel; one that no number of 16 bits names isn't configured."""
+        """Makes a call that names a channel; one that no number of 16 bits names isn't
+        configured."""
         self._check(0 if 0 <= channel < 65536 else 42)
         return self._call(function, channel, *words)
 
@@ -623,10 +725,18 @@ class Station:
                     return _new(Answer, (frames, events, _TIMERS[timer]))
                 else:
                     i = len(frames) + len(events)
-                    events.append(self._event(i, _ITEM.unpack_from(items, (i - first) * _ITEM_SIZE), room[at : at + length]))
+                    events.append(
+                        self._event(
+                            i,
+                            _ITEM.unpack_from(items, (i - first) * _ITEM_SIZE),
+                            room[at : at + length],
+                        )
+                    )
                 at += length
             first += count
-            count = self._take_all(self._slot, _size(first), self._items_at, _MOST, self._room, _SPACE)
+            count = self._take_all(
+                self._slot, _size(first), self._items_at, _MOST, self._room, _SPACE
+            )
         return Answer(frames, events, Timer.GOES_ON)  # the station was closed
 
     def _event(self, i: int, item: tuple[Any, ...], user: bytes) -> Event:
@@ -641,7 +751,7 @@ class Station:
             d=item[3],
             cause=item[4],
             diagnostic=item[5],
-            reason=Down(item[6]) if kind is _LINK_DOWN else None,
+            reason=_REASONS[kind](item[6]) if kind in _REASONS else None,
             sizes=Sizes(*item[7:11]) if has_sizes else None,
             called=self._part(self._library.x25_called, i).decode() if has_addresses else "",
             calling=self._part(self._library.x25_calling, i).decode() if has_addresses else "",
@@ -653,7 +763,8 @@ class Station:
         return event
 
     def _part(self, read: Callable[..., int], i: int) -> bytes:
-        text = ctypes.create_string_buffer(_PART)  # the room has the octets of items that are still to be read
+        # the room has the octets of items that are still to be read
+        text = ctypes.create_string_buffer(_PART)
         count = read(self._slot, i, text, _PART)
         return text.raw[:count]
 

@@ -42,6 +42,7 @@ pub struct Times {
     pub t22: u32,
     pub t23: u32,
     pub t26: u32,
+    pub t25: u32,
 }
 
 /// What is awaited on a channel.
@@ -90,6 +91,26 @@ impl Down {
             6 => Down::Reset,
             7 => Down::Local,
             _ => Down::Counts,
+        }
+    }
+}
+
+/// How it ended that this end disconnected the link.
+#[derive(Clone, Copy, Debug, PartialEq, Eq)]
+pub enum Ending {
+    Ua,
+    /// The link was down.
+    Dm,
+    /// DISC wasn't answered, however often it was sent.
+    GivenUp,
+}
+
+impl Ending {
+    fn of(number: u8) -> Ending {
+        match number {
+            1 => Ending::Ua,
+            2 => Ending::Dm,
+            _ => Ending::GivenUp,
         }
     }
 }
@@ -241,6 +262,10 @@ pub enum Event {
         stretch: Stretch,
         confirmed: usize,
     },
+    /// `disconnect` ended, where `wide` is set.
+    Disconnected {
+        ending: Ending,
+    },
     /// One of a kind that this crate doesn't know.
     Other {
         kind: u16,
@@ -364,6 +389,9 @@ impl Event {
                 channel,
                 stretch,
                 confirmed,
+            },
+            34 => Event::Disconnected {
+                ending: Ending::of(item.reason),
             },
             kind => Event::Other { kind, channel },
         }

@@ -16,7 +16,7 @@ mod raw;
 
 use std::{cell::UnsafeCell, error, fmt, mem, ptr};
 
-pub use event::{Awaits, Down, Event, Sizes, Stretch, Times};
+pub use event::{Awaits, Down, Ending, Event, Sizes, Stretch, Times};
 
 /// Which end a station is.
 #[derive(Clone, Copy, Debug, PartialEq, Eq)]
@@ -665,6 +665,22 @@ mod tests {
         let reason = Down::Disc;
         assert!(talk(answer, &mut dte, &mut dce).contains(&Event::LinkDown { reason }));
         assert_eq!(version(), raw::VERSION);
+    }
+
+    #[test]
+    fn a_disconnect_has_an_end() {
+        let wide = Settings {
+            wide: true,
+            ..Settings::default()
+        };
+        let mut dte = Station::new(End::Dte, wide).unwrap();
+        let mut dce = Station::new(End::Dce, Settings::default()).unwrap();
+        let answer = dte.connect().unwrap();
+        talk(answer, &mut dte, &mut dce);
+        let answer = dte.disconnect().unwrap();
+        let ending = Ending::Ua;
+        assert!(talk(answer, &mut dte, &mut dce).contains(&Event::Disconnected { ending }));
+        assert_eq!(dte.timer(), Timer::Off);
     }
 
     #[test]

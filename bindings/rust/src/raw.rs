@@ -86,7 +86,7 @@ pub struct Times {
     t22: u32,
     t23: u32,
     t26: u32,
-    more: u32,
+    t25: u32,
 }
 
 impl Times {
@@ -99,6 +99,7 @@ impl Times {
             t22,
             t23,
             t26,
+            t25,
         } = times;
         Times {
             t1,
@@ -108,7 +109,7 @@ impl Times {
             t22,
             t23,
             t26,
-            more: 0,
+            t25,
         }
     }
 
@@ -121,6 +122,7 @@ impl Times {
             t22: self.t22,
             t23: self.t23,
             t26: self.t26,
+            t25: self.t25,
         }
     }
 }

@@ -18,6 +18,7 @@ times_in t = record {
   t21 = t.t21;
   t22 = t.t22;
   t23 = t.t23;
+  t25 = t.t25;
   t26 = t.t26;
 }
 
@@ -30,7 +31,7 @@ times_told t = record {
   t22 = t.t22;
   t23 = t.t23;
   t26 = t.t26;
-  more = 0;
+  t25 = t.t25;
 }
 
 -- the deadlines are what a step makes of them, by the same times

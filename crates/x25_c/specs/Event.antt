@@ -1,5 +1,7 @@
 -- What C is told of an entry of the transcript (profile): the number of its kind, and what that kind has, else 0.
 use Rattle.std.specs.Prelude.{ℕ, false, List, [], length, map, ◌+◌, ◌%◌, Some, None}
+use Rattle.x25_link.specs.declared.phase.Ending.{Ending}
+use Rattle.x25_link.specs.declared.phase.Ending.TheVariants.{ByUa, ByDm, GivenUp}
 use Rattle.x25_link.specs.declared.phase.Reason.{Reason}
 use Rattle.x25_link.specs.declared.phase.Reason.TheVariants.{Retries, Disc, Dm, FrmrSent, FrmrGot, Reset, Local, Counts}
 use Rattle.x25_circuit.specs.Notice.{PlainNotice, incoming, connected, collided, cleared, clear_done, was_reset}
@@ -11,7 +13,7 @@ use Rattle.x25_layer.specs.laws.Transcript.{Said, Asked, Told}
 use Rattle.x25_station.specs.Entry.{StationEntry, of_channel, restart_asked, connect_asked, disconnect_asked}
 use Rattle.x25_station.specs.Entry.{relink_asked, link_up}
 use Rattle.x25_station.specs.Entry.{link_down, was_restarted, restart_confirmed, at_fault, came_beside, was_diagnosed}
-use Rattle.x25_station.specs.Entry.{was_confirmed}
+use Rattle.x25_station.specs.Entry.{was_confirmed, disconnected}
 use Rattle.x25_c.specs.declared.event.Event.{Event}
 use Rattle.x25_c.specs.Sizes.{no_sizes, sizes_told}
 use Rattle.x25_c.specs.StretchName.{no_name, name_told}
@@ -58,6 +60,12 @@ reason_number Reset = 6
 reason_number Local = 7
 reason_number Counts = 8
 
+-- how it ended that this end disconnected it
+abbrev pub ending_number : Ending → ℕ
+ending_number ByUa = 1
+ending_number ByDm = 2
+ending_number GivenUp = 3
+
 -- what the user of a channel asked
 abbrev pub asked_event : ℕ → Name → Request → Event
 asked_event channel name (Calls called calling user proposal) =
@@ -100,6 +108,7 @@ entry_event disconnect_asked = kind_alone 21
 entry_event relink_asked = kind_alone 31
 entry_event link_up = kind_alone 3
 entry_event (link_down reason) = record (kind_alone 4) { reason = reason_number reason }
+entry_event (disconnected ending) = record (kind_alone 34) { reason = ending_number ending }
 entry_event (was_restarted cause diagnostic) = for_reason cause diagnostic (kind_alone 5)
 entry_event restart_confirmed = kind_alone 6
 entry_event (at_fault diagnostic) = record (kind_alone 7) { diagnostic = diagnostic }

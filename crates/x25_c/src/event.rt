@@ -1,14 +1,14 @@
 //! What a C program is told of an item of an answer: an event, of which each kind has what `include/x25.h` says, and
 //! else 0.
 ghost use Rattle.std.specs.Prelude.{◌≡◌, length};
-ghost use Rattle.x25_c.specs.Event.{asked_event, entry_event, kind_alone, on, reason_number, under};
+ghost use Rattle.x25_c.specs.Event.{asked_event, ending_number, entry_event, kind_alone, on, reason_number, under};
 ghost use Rattle.x25_c.specs.Event.{told_event};
 ghost use Rattle.x25_station.specs.code.PlainEntry.{plain_asked, plain_entry, plain_name, plain_told};
 
 use crate::sizes::Sizes;
 use crate::stretch_name::StretchName;
 use x25_layer::{Params, Stretch};
-use x25_link::Reason;
+use x25_link::{Ending, Reason};
 use x25_station::{Asked, Entry, Lent, Marks, Told};
 
 pub(crate) const FRAME: u16 = 1;
@@ -76,6 +76,8 @@ const RELINK_ASKED: u16 = 31;
 pub(crate) const TIMEOUT: u16 = 32;
 
 const CONFIRMED: u16 = 33;
+
+const DISCONNECTED: u16 = 34;
 
 /// An event: its kind, and what that has; `count` is how many octets of a frame or of user data there are. `later` and
 /// `more` are room for what later versions tell.
@@ -260,6 +262,10 @@ impl Event {
                 reason: number_of_reason(*reason),
                 ..Event::alone(LINK_DOWN)
             },
+            Entry::Disconnected(ending) => Event {
+                reason: number_of_ending(*ending),
+                ..Event::alone(DISCONNECTED)
+            },
             Entry::WasRestarted { cause, diagnostic } => Event {
                 cause: *cause,
                 diagnostic: *diagnostic,
@@ -302,5 +308,15 @@ fn number_of_reason(reason: Reason) -> u8
         Reason::Reset => 6,
         Reason::Local => 7,
         Reason::Counts => 8,
+    }
+}
+
+fn number_of_ending(ending: Ending) -> u8
+    ensures { result ≡ ending_number ending }
+{
+    match ending {
+        Ending::ByUa => 1,
+        Ending::ByDm => 2,
+        Ending::GivenUp => 3,
     }
 }

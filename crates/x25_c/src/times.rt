@@ -4,8 +4,7 @@ ghost use Rattle.x25_c.specs.Clocked.{times_in, times_told};
 
 use x25_clock::Times as ClockTimes;
 
-/// How long each answer may take, in milliseconds, each as the clock has it; 0 is for ever. `more` is room for a time
-/// of a later version.
+/// How long each answer may take, in milliseconds, each as the clock has it; 0 is for ever.
 #[repr(C)]
 #[derive(Clone, Copy)]
 pub struct Times {
@@ -16,7 +15,7 @@ pub struct Times {
     pub t22: u32,
     pub t23: u32,
     pub t26: u32,
-    pub more: u32,
+    pub t25: u32,
 }
 
 impl Times {
@@ -31,7 +30,7 @@ impl Times {
             t22: times.t22,
             t23: times.t23,
             t26: times.t26,
-            more: 0,
+            t25: times.t25,
         }
     }
 
@@ -45,6 +44,7 @@ impl Times {
             t21: self.t21,
             t22: self.t22,
             t23: self.t23,
+            t25: self.t25,
             t26: self.t26,
         }
     }

@@ -21,6 +21,7 @@ never_lacks d command is = ap or_none is ∙ by d
     by due.T1 = refl
     by due.Probe = refl
     by (due.Reset h) = refl
+    by (due.ResetUnacknowledged h) = refl
     by (due.Clear h) = refl
     by (due.Restart h) = refl
     by due.Relink = refl

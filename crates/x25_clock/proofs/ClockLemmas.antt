@@ -1,10 +1,11 @@
 -- Deadlines stand for what is awaited.
 use Rattle.x25_clock.proofs.Names.{◌≡◌, ℕ, zero, suc, ◌+◌, ◌==◌, List, [], ◌∷◌, map, Bool, true, false, not, ◌||◌, if◌then◌else◌, Option, Some, None, refl, sym}
-use Rattle.x25_clock.proofs.Names.{ap, ◌∙◌, arith, true≢false, none-some, Awaits, Nothing, Acceptance, ResetConfirmation, ClearConfirmation, InterruptConfirmation, awaited_at}
+use Rattle.x25_clock.proofs.Names.{ap, subst, ◌∙◌, arith, true≢false, none-some, Awaits, Nothing, Acceptance, ResetConfirmation, ClearConfirmation}
+use Rattle.x25_clock.proofs.Names.{InterruptConfirmation, awaited_at, is_some, is_any, is_same, unacknowledged_at, rotated, unmoved_of}
 use Rattle.x25_clock.proofs.Names.{is_channel, Settings, layer_settings, Station, is_at_rest, Outcome, Did, Refused, runs, tells_link, is_acknowledged}
 use Rattle.x25_clock.proofs.Names.{timer_of, Times, Wait, Deadlines, channels_from, deadline, time_of, number_of, running, is_past, t1_after, wait_after}
 use Rattle.x25_clock.proofs.Names.{renewed, overdue_of, renewed_on, after_due, Moment, Watched, seen_of, heeds, watched_by, watched_from, IsSince, AreAwaited}
-use Rattle.x25_clock.{proofs.Names.{AreTrue}, specs.Clock.{nothing_awaited}, specs.laws.ClockLaw.{Happens, IsDue, Stands, IsAwaited, DeadlinesAreTrue}}
+use Rattle.x25_clock.{proofs.Names.{AreTrue}, specs.Clock.{nothing_awaited, since}, specs.laws.ClockLaw.{Happens, IsDue, Stands, IsAwaited, DeadlinesAreTrue, TrueStays}}
 use Rattle.x25_station.specs.Station.{new_station}
 use Rattle.x25_station.specs.laws.TimerLaw as timer
 
@@ -45,6 +46,18 @@ t1_stands : (times : Times) (now more : ℕ) (was : Bool) (until : Option ℕ) �
 t1_stands times now more false until h = record { on = λ e. false_true e; off = λ e. refl }
 t1_stands times now more true until h = record { on = λ e. goes_on now more times.t1 until (h.on refl); off = λ e. false_true (sym e) }
 
+-- ---- a wait that isn't renewed
+
+if_wait : (h : ℕ) (b : Bool) (u v : Wait) → u.channel ≡ h → v.channel ≡ h → (let w : Wait = if b then u else v in w.channel) ≡ h
+if_wait h true u v p q = p
+if_wait h false u v p q = q
+
+pub renewed_channel : (times : Times) (now k : ℕ) (w : Wait) → (renewed times now k w).channel ≡ w.channel
+renewed_channel times now k w = if_wait w.channel (not (w.channel == k)) _ _ refl refl
+
+pub rotated_channel : (times : Times) (now k : ℕ) (w : Wait) → (rotated times now k w).channel ≡ w.channel
+rotated_channel times now k w = if_wait w.channel (not (w.channel == k)) _ _ refl refl
+
 -- ---- channels
 
 same_number : (a b : Awaits) → (number_of a == number_of b) ≡ true → a ≡ b
@@ -55,74 +68,126 @@ same_number ClearConfirmation ClearConfirmation e = refl
 same_number InterruptConfirmation InterruptConfirmation e = refl
 same_number a b e = false_true e
 
+not_false : (b : Bool) → not b ≡ false → b ≡ true
+not_false true e = refl
+not_false false e = absurd (true≢false e)
+
+-- a deadline that begins now, where something is so
+since_stands : (now time : ℕ) (so : Bool) → Stands now time so (since so now time)
+since_stands now time true = record { on = λ e. begins now time; off = λ e. false_true (sym e) }
+since_stands now time false = record { on = λ e. false_true e; off = λ e. refl }
+
 module _ (times : Times) (now more : ℕ) where
-  wait_true : (old new : ℕ → Awaits) (w : Wait) → IsAwaited times now old w → IsAwaited times (now + more) new (wait_after times (now + more) (new w.channel) w)
-  wait_true old new w h = by (number_of w.awaits == number_of (new w.channel)) refl
-    where
-      by : (b : Bool) → (number_of w.awaits == number_of (new w.channel)) ≡ b
-          → IsAwaited times (now + more) new (if b then w
-          else record { channel = w.channel; awaits = new w.channel; until = deadline (now + more) (time_of times (new w.channel)) })
-      by true e = record { awaits = same_number w.awaits (new w.channel) e; until = goes_on now more (time_of times w.awaits) w.until h.until }
-      by false e = record { awaits = refl; until = begins (now + more) (time_of times (new w.channel)) }
+  -- the deadline of an answer
+  answer_since : (a : Awaits) (anew : Bool) (until : Option ℕ) → (anew ≡ false → IsSince now (time_of times a) until)
+      → IsSince (now + more) (time_of times a) (running (is_any a) anew until (deadline (now + more) (time_of times a)))
+  answer_since Nothing anew until was = record { since = now + more; past = omega arith; is = refl }
+  answer_since a true until was = begins (now + more) (time_of times a)
+  answer_since a false None was = begins (now + more) (time_of times a)
+  answer_since a false (Some moment) was = goes_on now more (time_of times a) (Some moment) (was refl)
 
-  waits_true : (old new : ℕ → Awaits) (waits : List Wait) → AreAwaited times now old waits
-      → AreAwaited times (now + more) new (map (λ w. wait_after times (now + more) (new w.channel) w) waits)
-  waits_true old new [] h = tt
-  waits_true old new (w ∷ waits) h = (wait_true old new w h.0, waits_true old new waits h.1)
+  wait_true : (old new : ℕ → Awaits) (first next : ℕ → Option ℕ) (w : Wait) → IsAwaited times now old first w
+      → IsAwaited times (now + more) new next (wait_after times (now + more) (new w.channel) (next w.channel) w)
+  wait_true old new first next w h = record {
+    awaits = refl;
+    until = answer_since (new w.channel) (not (number_of w.awaits == number_of (new w.channel))) w.until
+        (λ e. subst (λ (a : Awaits). IsSince now (time_of times a) w.until)
+        (same_number w.awaits (new w.channel) (not_false (number_of w.awaits == number_of (new w.channel)) e)) h.until);
+    unacknowledged = refl;
+    rotates = runs_on now more times.t25 (is_some w.unacknowledged) (is_some (next w.channel)) (not (is_same w.unacknowledged (next w.channel))) w.rotates
+        h.rotates;
+  }
 
-  wait_channel : (awaits : Awaits) (w : Wait) → (wait_after times (now + more) awaits w).channel ≡ w.channel
-  wait_channel awaits w = by (number_of w.awaits == number_of awaits)
-    where
-      by : (b : Bool) → (let x : Wait = if b then w
-          else record { channel = w.channel; awaits = awaits; until = deadline (now + more) (time_of times awaits) } in x.channel) ≡ w.channel
-      by true = refl
-      by false = refl
+  waits_true : (old new : ℕ → Awaits) (first next : ℕ → Option ℕ) (waits : List Wait) → AreAwaited times now old first waits
+      → AreAwaited times (now + more) new next (map (λ w. wait_after times (now + more) (new w.channel) (next w.channel) w) waits)
+  waits_true old new first next [] h = tt
+  waits_true old new first next (w ∷ waits) h = (wait_true old new first next w h.0, waits_true old new first next waits h.1)
 
-  waits_channels : (new : ℕ → Awaits) (waits : List Wait) → map (λ (x : Wait). x.channel) (map (λ w. wait_after times (now + more) (new w.channel) w) waits)
-      ≡ map (λ (x : Wait). x.channel) waits
-  waits_channels new [] = refl
-  waits_channels new (w ∷ waits) = ap (λ (h : ℕ). h ∷ map (λ (x : Wait). x.channel) (map (λ w. wait_after times (now + more) (new w.channel) w) waits))
-      (wait_channel (new w.channel) w)
-      ∙ ap (λ (hs : List ℕ). w.channel ∷ hs) (waits_channels new waits)
+  waits_channels : (new : ℕ → Awaits) (next : ℕ → Option ℕ) (waits : List Wait)
+      → map (λ (x : Wait). x.channel) (map (λ w. wait_after times (now + more) (new w.channel) (next w.channel) w) waits) ≡ map (λ (x : Wait). x.channel) waits
+  waits_channels new next [] = refl
+  waits_channels new next (w ∷ waits) = ap (λ (hs : List ℕ). w.channel ∷ hs) (waits_channels new next waits)
+
+  wait_later : (awaited : ℕ → Awaits) (first : ℕ → Option ℕ) (w : Wait) → IsAwaited times now awaited first w
+      → IsAwaited times (now + more) awaited first w
+  wait_later awaited first w is = record {
+    awaits = is.awaits;
+    until = goes_on now more (time_of times w.awaits) w.until is.until;
+    unacknowledged = is.unacknowledged;
+    rotates = stands_later now more times.t25 (is_some w.unacknowledged) w.rotates is.rotates;
+  }
+
+  all_later : (awaited : ℕ → Awaits) (first : ℕ → Option ℕ) (waits : List Wait) → AreAwaited times now awaited first waits
+      → AreAwaited times (now + more) awaited first waits
+  all_later awaited first [] is = tt
+  all_later awaited first (w ∷ waits) is = (wait_later awaited first w is.0, all_later awaited first waits is.1)
 
   -- what is due is asked for, and its time begins anew
-  renewed_true : (awaited : ℕ → Awaits) (h : ℕ) (w : Wait) → IsAwaited times now awaited w
-      → IsAwaited times (now + more) awaited (renewed times (now + more) h w)
-  renewed_true awaited h w is = by (not (w.channel == h))
+  renewed_true : (awaited : ℕ → Awaits) (first : ℕ → Option ℕ) (h : ℕ) (w : Wait) → IsAwaited times now awaited first w
+      → IsAwaited times (now + more) awaited first (renewed times (now + more) h w)
+  renewed_true awaited first h w is = by (not (w.channel == h))
     where
-      by : (b : Bool) → IsAwaited times (now + more) awaited
-          (if b then w else record { channel = w.channel; awaits = w.awaits; until = deadline (now + more) (time_of times w.awaits) })
-      by true = record { awaits = is.awaits; until = goes_on now more (time_of times w.awaits) w.until is.until }
-      by false = record { awaits = is.awaits; until = begins (now + more) (time_of times w.awaits) }
+      later : IsAwaited times (now + more) awaited first w
+      later = wait_later awaited first w is
 
-  all_renewed : (awaited : ℕ → Awaits) (h : ℕ) (waits : List Wait) → AreAwaited times now awaited waits
-      → AreAwaited times (now + more) awaited (map (renewed times (now + more) h) waits)
-  all_renewed awaited h [] is = tt
-  all_renewed awaited h (w ∷ waits) is = (renewed_true awaited h w is.0, all_renewed awaited h waits is.1)
+      by : (b : Bool) → IsAwaited times (now + more) awaited first (if b then w else record {
+        channel = w.channel;
+        awaits = w.awaits;
+        until = deadline (now + more) (time_of times w.awaits);
+        unacknowledged = w.unacknowledged;
+        rotates = w.rotates;
+      })
+      by true = later
+      by false = record {
+        awaits = is.awaits;
+        until = begins (now + more) (time_of times w.awaits);
+        unacknowledged = is.unacknowledged;
+        rotates = later.rotates;
+      }
 
-  all_later : (awaited : ℕ → Awaits) (waits : List Wait) → AreAwaited times now awaited waits → AreAwaited times (now + more) awaited waits
-  all_later awaited [] is = tt
-  all_later awaited (w ∷ waits) is = (
-    record { awaits = is.0.awaits; until = goes_on now more (time_of times w.awaits) w.until is.0.until },
-    all_later awaited waits is.1,
-  )
-
-  renewed_channels : (h : ℕ) (waits : List Wait) → map (λ (x : Wait). x.channel) (map (renewed times (now + more) h) waits)
-      ≡ map (λ (x : Wait). x.channel) waits
-  renewed_channels h [] = refl
-  renewed_channels h (w ∷ waits) = ap (λ (k : ℕ). k ∷ map (λ (x : Wait). x.channel) (map (renewed times (now + more) h) waits)) (by (not (w.channel == h)))
-      ∙ ap (λ (hs : List ℕ). w.channel ∷ hs) (renewed_channels h waits)
+  rotated_true : (awaited : ℕ → Awaits) (first : ℕ → Option ℕ) (h : ℕ) (w : Wait) → IsAwaited times now awaited first w
+      → IsAwaited times (now + more) awaited first (rotated times (now + more) h w)
+  rotated_true awaited first h w is = by (not (w.channel == h))
     where
-      by : (b : Bool) → (let x : Wait = if b then w
-          else record { channel = w.channel; awaits = w.awaits; until = deadline (now + more) (time_of times w.awaits) } in x.channel) ≡ w.channel
-      by true = refl
-      by false = refl
+      later : IsAwaited times (now + more) awaited first w
+      later = wait_later awaited first w is
+
+      by : (b : Bool) → IsAwaited times (now + more) awaited first (if b then w else record {
+        channel = w.channel;
+        awaits = w.awaits;
+        until = w.until;
+        unacknowledged = w.unacknowledged;
+        rotates = since (is_some w.unacknowledged) (now + more) times.t25;
+      })
+      by true = later
+      by false = record {
+        awaits = is.awaits;
+        until = later.until;
+        unacknowledged = is.unacknowledged;
+        rotates = since_stands (now + more) times.t25 (is_some w.unacknowledged);
+      }
+
+  -- each of these is so where each before was
+  all_changed : (f : Wait → Wait) (awaited : ℕ → Awaits) (first : ℕ → Option ℕ)
+      → ((w : Wait) → IsAwaited times now awaited first w → IsAwaited times (now + more) awaited first (f w)) → (waits : List Wait)
+      → AreAwaited times now awaited first waits → AreAwaited times (now + more) awaited first (map f waits)
+  all_changed f awaited first one [] is = tt
+  all_changed f awaited first one (w ∷ waits) is = (one w is.0, all_changed f awaited first one waits is.1)
+
+  changed_channels : (f : Wait → Wait) → ((w : Wait) → (f w).channel ≡ w.channel) → (waits : List Wait)
+      → map (λ (x : Wait). x.channel) (map f waits) ≡ map (λ (x : Wait). x.channel) waits
+  changed_channels f keeps [] = refl
+  changed_channels f keeps (w ∷ waits) = ap (λ (k : ℕ). k ∷ map (λ (x : Wait). x.channel) (map f waits)) (keeps w)
+      ∙ ap (λ (hs : List ℕ). w.channel ∷ hs) (changed_channels f keeps waits)
 
 -- ---- moments
 
 module _ (c : Settings) (times : Times) where
   abbrev awaited_by : Station → ℕ → Awaits
   awaited_by s h = awaited_at (layer_settings c) s.layer h
+
+  abbrev first_by : Station → ℕ → Option ℕ
+  first_by s h = unacknowledged_at (layer_settings c) s.layer h
 
   pub happens_true : (w : Watched) (more : ℕ) (event : timer.StationEvent) (o : Outcome) → AreTrue c times w
       → AreTrue c times (heeds c times (w.now + more) event o w)
@@ -131,15 +196,15 @@ module _ (c : Settings) (times : Times) where
         (timer.is_firing event || (tells_link step.entries || is_acknowledged w.station.link step.near.link)) w.deadlines.t1 h.t1;
     idle = runs_on w.now more times.t3 (is_at_rest w.station) (is_at_rest step.near) (seen_of c w.station event (Did step)).heard w.deadlines.idle h.idle;
     restart = runs_on w.now more times.t20 w.station.layer.restarting step.near.layer.restarting (tells_link step.entries) w.deadlines.restart h.restart;
-    waits = waits_true times w.now more (awaited_by w.station) (awaited_by step.near) w.deadlines.waits h.waits;
-    channels = waits_channels times w.now more (awaited_by step.near) w.deadlines.waits ∙ h.channels;
+    waits = waits_true times w.now more (awaited_by w.station) (awaited_by step.near) (first_by w.station) (first_by step.near) w.deadlines.waits h.waits;
+    channels = waits_channels times w.now more (awaited_by step.near) (first_by step.near) w.deadlines.waits ∙ h.channels;
   }
   happens_true w more event (Refused e) h = record {
     t1 = t1_stands times w.now more (runs w.station) w.deadlines.t1 h.t1;
     idle = runs_on w.now more times.t3 (is_at_rest w.station) (is_at_rest w.station) (seen_of c w.station event (Refused e)).heard w.deadlines.idle h.idle;
     restart = runs_on w.now more times.t20 w.station.layer.restarting w.station.layer.restarting false w.deadlines.restart h.restart;
-    waits = waits_true times w.now more (awaited_by w.station) (awaited_by w.station) w.deadlines.waits h.waits;
-    channels = waits_channels times w.now more (awaited_by w.station) w.deadlines.waits ∙ h.channels;
+    waits = waits_true times w.now more (awaited_by w.station) (awaited_by w.station) (first_by w.station) (first_by w.station) w.deadlines.waits h.waits;
+    channels = waits_channels times w.now more (awaited_by w.station) (first_by w.station) w.deadlines.waits ∙ h.channels;
   }
 
   -- a deadline that is past begins anew
@@ -170,29 +235,37 @@ module _ (c : Settings) (times : Times) where
       restart : Stands now times.t20 w.station.layer.restarting d.restart
       restart = stands_later w.now more times.t20 w.station.layer.restarting d.restart h.restart
 
-      waits : AreAwaited times now (awaited_by w.station) d.waits
-      waits = all_later times w.now more (awaited_by w.station) d.waits h.waits
+      waits : AreAwaited times now (awaited_by w.station) (first_by w.station) d.waits
+      waits = all_later times w.now more (awaited_by w.station) (first_by w.station) d.waits h.waits
 
-      on_channels : (o : Option Wait) (is_idle : Bool) → is_past now d.idle ≡ is_idle → At (renewed_on times now o is_idle d)
-      on_channels (Some x) is_idle e = record {
+      changed : (f : Wait → Wait) → ((x : Wait) → (f x).channel ≡ x.channel)
+          → ((x : Wait) → IsAwaited times w.now (awaited_by w.station) (first_by w.station) x
+          → IsAwaited times now (awaited_by w.station) (first_by w.station) (f x)) → At (record d { waits = map f d.waits })
+      changed f keeps one = record {
         t1 = t1;
         idle = idle;
         restart = restart;
-        waits = all_renewed times w.now more (awaited_by w.station) x.channel d.waits h.waits;
-        channels = renewed_channels times w.now more x.channel d.waits
-            ∙ h.channels;
+        waits = all_changed times w.now more f (awaited_by w.station) (first_by w.station) one d.waits h.waits;
+        channels = changed_channels times w.now more f keeps d.waits ∙ h.channels;
       }
-      on_channels None true e = record {
+
+      on_channels : (o : Option Wait) (u : Option ℕ) (is_idle : Bool) → is_past now d.idle ≡ is_idle → At (renewed_on times now o u is_idle d)
+      on_channels (Some x) u is_idle e = changed (renewed times now x.channel) (renewed_channel times now x.channel)
+          (renewed_true times w.now more (awaited_by w.station) (first_by w.station) x.channel)
+      on_channels None (Some k) is_idle e = changed (rotated times now k) (rotated_channel times now k)
+          (rotated_true times w.now more (awaited_by w.station) (first_by w.station) k)
+      on_channels None None true e = record {
         t1 = t1;
         idle = anew w.now more times.t3 (is_at_rest w.station) d.idle e h.idle;
         restart = restart;
         waits = waits;
         channels = h.channels;
       }
-      on_channels None false e = record { t1 = t1; idle = idle; restart = restart; waits = waits; channels = h.channels }
+      on_channels None None false e = record { t1 = t1; idle = idle; restart = restart; waits = waits; channels = h.channels }
 
       behind : (b : Bool) → is_past now d.restart ≡ b
-          → At (if b then record d { restart = deadline now times.t20 } else renewed_on times now (overdue_of now d.waits) (is_past now d.idle) d)
+          → At (if b then record d { restart = deadline now times.t20 }
+          else renewed_on times now (overdue_of now d.waits) (unmoved_of now d.waits) (is_past now d.idle) d)
       behind true e = record {
         t1 = t1;
         idle = idle;
@@ -200,17 +273,27 @@ module _ (c : Settings) (times : Times) where
         waits = waits;
         channels = h.channels;
       }
-      behind false e = on_channels (overdue_of now d.waits) (is_past now d.idle) refl
+      behind false e = on_channels (overdue_of now d.waits) (unmoved_of now d.waits) (is_past now d.idle) refl
 
       by : (b : Bool) → is_past now d.t1 ≡ b
           → At (if b then record d { t1 = deadline now times.t1 } else if is_past now d.restart then record d { restart = deadline now times.t20 }
-          else renewed_on times now (overdue_of now d.waits) (is_past now d.idle) d)
+          else renewed_on times now (overdue_of now d.waits) (unmoved_of now d.waits) (is_past now d.idle) d)
       by true e = record { t1 = anew w.now more times.t1 (runs w.station) d.t1 e h.t1; idle = idle; restart = restart; waits = waits; channels = h.channels }
       by false e = behind (is_past now d.restart) refl
 
   moment_true : (moment : Moment) (w : Watched) → AreTrue c times w → AreTrue c times (watched_by c times moment w)
   moment_true (Happens later event) w h = happens_true w later event (timer.outcome c w.station event) h
   moment_true (IsDue later) w h = due_true w later h
+
+  -- a time passes
+  pub true_later : (w : Watched) (more : ℕ) → AreTrue c times w → AreTrue c times (record w { now = w.now + more })
+  true_later w more h = record {
+    t1 = stands_later w.now more times.t1 (runs w.station) w.deadlines.t1 h.t1;
+    idle = stands_later w.now more times.t3 (is_at_rest w.station) w.deadlines.idle h.idle;
+    restart = stands_later w.now more times.t20 w.station.layer.restarting w.deadlines.restart h.restart;
+    waits = all_later times w.now more (awaited_by w.station) (first_by w.station) w.deadlines.waits h.waits;
+    channels = h.channels;
+  }
 
   from_here : (moments : List Moment) (w : Watched) → AreTrue c times w → AreTrue c times (watched_from c times moments w)
   from_here [] w h = h
@@ -222,15 +305,24 @@ module _ (c : Settings) (times : Times) where
   nothing_on true = refl
   nothing_on false = refl
 
-  first_waits : (n first : ℕ) → AreAwaited times 0 (awaited_by new_station) (channels_from first n)
-  first_waits zero first = tt
-  first_waits (suc n) first = (
-    record { awaits = nothing_on (is_channel c.channels first); until = record { since = 0; past = omega arith; is = refl } },
-    first_waits n (first + 1),
-  )
+  none_on : (b : Bool) → None ≡ (let o : Option ℕ = if b then None else None in o)
+  none_on true = refl
+  none_on false = refl
 
   off_first : (time : ℕ) → Stands 0 time false None
   off_first time = record { on = λ e. false_true e; off = λ e. refl }
+
+  first_waits : (n first : ℕ) → AreAwaited times 0 (awaited_by new_station) (first_by new_station) (channels_from first n)
+  first_waits zero first = tt
+  first_waits (suc n) first = (
+    record {
+      awaits = nothing_on (is_channel c.channels first);
+      until = record { since = 0; past = omega arith; is = refl };
+      unacknowledged = none_on (is_channel c.channels first);
+      rotates = off_first times.t25;
+    },
+    first_waits n (first + 1),
+  )
 
   first_true : AreTrue c times (record { station = new_station; deadlines = nothing_awaited c.channels.count; now = 0 })
   first_true = record {
@@ -243,3 +335,6 @@ module _ (c : Settings) (times : Times) where
 
 pub deadlines_are_true : DeadlinesAreTrue
 deadlines_are_true c times moments = from_here c times moments _ (first_true c times)
+
+pub true_stays : TrueStays
+true_stays = from_here

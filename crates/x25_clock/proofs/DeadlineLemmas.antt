@@ -1,6 +1,6 @@
 -- Deadlines: none is past where the next moment isn't, and one stands so long before a moment.
 use Rattle.x25_clock.proofs.Names.{◌≡◌, ℕ, ◌+◌, ◌^◌, ◌<◌, ◌≤◌, ◌==◌, List, [], ◌∷◌, Bool, true, false, nat_le, if◌then◌else◌, Option, Some, None, refl, sym, ap}
-use Rattle.x25_clock.proofs.Names.{subst, ◌∙◌, arith, eqb-true, leb-true, Due, Wait, Deadlines, deadline, sooner, first_of, next_of, IsNotPast}
+use Rattle.x25_clock.proofs.Names.{subst, ◌∙◌, arith, eqb-true, leb-true, Due, Wait, Deadlines, deadline, sooner, first_of, next_of, running, IsNotPast, IsSince}
 use Rattle.std.proofs.{Common.{nat_lt}, lemmas.Bool.{leb-false, lt-ltb}}
 use Rattle.x25_clock.specs.declared.due.Due.TheVariants as due
 
@@ -26,15 +26,22 @@ past_second now (Some x) (Some y) h = test (nat_le x y) refl h
 
 abbrev pub AreNotPast : ℕ → List Wait → Type 0
 AreNotPast now [] = Unit {0}
-AreNotPast now (w ∷ ws) = IsNotPast now w.until × AreNotPast now ws
+AreNotPast now (w ∷ ws) = IsNotPast now w.until × IsNotPast now w.rotates × AreNotPast now ws
 
 pub first_past : (now : ℕ) (ws : List Wait) (first : Option ℕ) → IsNotPast now (first_of first ws) → IsNotPast now first
 first_past now [] first h = h
-first_past now (w ∷ ws) first h = past_first now first w.until (first_past now ws (sooner first w.until) h)
+first_past now (w ∷ ws) first h =
+    past_first now first w.until (past_first now (sooner first w.until) w.rotates (first_past now ws (sooner (sooner first w.until) w.rotates) h))
 
 pub waits_past : (now : ℕ) (ws : List Wait) (first : Option ℕ) → IsNotPast now (first_of first ws) → AreNotPast now ws
 waits_past now [] first h = tt
-waits_past now (w ∷ ws) first h = (past_second now first w.until (first_past now ws (sooner first w.until) h), waits_past now ws (sooner first w.until) h)
+waits_past now (w ∷ ws) first h =
+    let answered : Option ℕ = sooner first w.until in
+    let both : IsNotPast now (sooner answered w.rotates) = first_past now ws (sooner answered w.rotates) h in (
+      past_second now first w.until (past_first now answered w.rotates both),
+      past_second now answered w.rotates both,
+      waits_past now ws (sooner answered w.rotates) h,
+    )
 
 pub restart_past : (now : ℕ) (d : Deadlines) → IsNotPast now (next_of d) → IsNotPast now d.restart
 restart_past now d h = past_second now (sooner d.t1 d.idle) d.restart (first_past now d.waits (sooner (sooner d.t1 d.idle) d.restart) h)
@@ -69,3 +76,15 @@ begins_at bound small now time more positive late =
 pub end_in_time : (bound now : ℕ) (o : Option ℕ) (more : ℕ) → Ends bound o more → IsNotPast now o → now + more ≤ bound
 end_in_time bound now None more ends past = absurd ends
 end_in_time bound now (Some moment) more ends past = omega (arith, ends, past)
+
+-- of something that has lasted since a moment
+pub ends_by : (bound now time more : ℕ) (until : Option ℕ) → (few : bound < 2 ^ 64) → 0 < time → now + (time + more) ≤ bound → IsSince now time until
+    → Ends bound until more
+ends_by bound now time more until few positive low since =
+    let past : since.since ≤ now = since.past in
+    subst (λ (o : Option ℕ). Ends bound o more) (sym since.is) (begins_at bound few since.since time more positive (omega (arith, low, past)))
+
+-- one that goes on
+pub runs_still : (bound more : ℕ) (until new : Option ℕ) → Ends bound until more → Ends bound (running true false until new) more
+runs_still bound more None new ends = absurd ends
+runs_still bound more (Some moment) new ends = ends

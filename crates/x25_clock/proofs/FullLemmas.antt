@@ -8,7 +8,7 @@ use Rattle.x25_clock.specs.Due.{asked_of, event_for, lacks_room}
 use Rattle.x25_layer.specs.Calls.{LayerRequest, LayerOutcome, Asks, Restarts, Declined, if_at_once, outcome_in, outcome_on, layer_outcome}
 use Rattle.x25_layer.specs.{Layer.{LayerSettings, Layer}, laws.Rounds.{LinkView, Refuses, went}}
 use Rattle.x25_link.specs.{Link.{alone}, Outgoing.{waits}}
-use Rattle.x25_station.specs.{Config.{link_settings}, Entry.{StationEntry}, Station.{new_station, view_of}, Step.{did, entries_of_outcome}}
+use Rattle.x25_station.specs.{Command.{Requests}, Config.{link_settings}, Entry.{StationEntry}, Station.{new_station, view_of}, Step.{did, entries_of_outcome}}
 use Rattle.x25_clock.specs.declared.due.Due.TheVariants as due
 use Rattle.x25_layer.specs.declared.error.LayerError.TheVariants as layer_error
 use Rattle.x25_station.specs.declared.error.StationError.TheVariants as error
@@ -41,9 +41,10 @@ module _ (c : Settings) (s : Station) (up : is_up s.link.phase ≡ true) (ready 
       ∙ ap (λ (b : Bool). did c (alone s.link) (entries request) (went view lc (outcome_in lc true b l.restarts l.circuits request))) ready
       ∙ ap (λ (o : LayerOutcome). did c (alone s.link) (entries request) (went view lc o)) is
 
-  reset_refused : (h : ℕ) → is_channel c.channels h ≡ true → timer.outcome c s (event_for (due.Reset h)) ≡ Refused (error.Layer layer_error.QueueFull)
-  reset_refused h configured = refused_as (Asks h (Resets 0 0))
-      (ap (λ (b : Bool). if b then if_at_once true true (outcome_on l.restarts l.circuits h (circuit_outcome lc.circuit (l.circuits h) (Resets 0 0)))
+  reset_refused : (h diagnostic : ℕ) → is_channel c.channels h ≡ true
+      → timer.outcome c s (timer.Asks (Requests (Asks h (Resets 0 diagnostic)))) ≡ Refused (error.Layer layer_error.QueueFull)
+  reset_refused h diagnostic configured = refused_as (Asks h (Resets 0 diagnostic))
+      (ap (λ (b : Bool). if b then if_at_once true true (outcome_on l.restarts l.circuits h (circuit_outcome lc.circuit (l.circuits h) (Resets 0 diagnostic)))
       else Declined layer_error.NoSuchChannel) configured)
 
   clear_refused : (h : ℕ) → is_channel c.channels h ≡ true → timer.outcome c s (event_for (due.Clear h)) ≡ Refused (error.Layer layer_error.QueueFull)
@@ -55,7 +56,10 @@ module _ (c : Settings) (s : Station) (up : is_up s.link.phase ≡ true) (ready 
   restart_refused h = refused_as (Restarts 0 0) refl
 
   pub reset_relinks : (h : ℕ) → is_channel c.channels h ≡ true → asked_of c s (due.Reset h) ≡ due.Relink
-  reset_relinks h configured = ap (λ (o : Outcome). if lacks_room o then due.Relink else due.Reset h) (reset_refused h configured)
+  reset_relinks h configured = ap (λ (o : Outcome). if lacks_room o then due.Relink else due.Reset h) (reset_refused h 0 configured)
+
+  pub rotation_relinks : (h : ℕ) → is_channel c.channels h ≡ true → asked_of c s (due.ResetUnacknowledged h) ≡ due.Relink
+  rotation_relinks h configured = ap (λ (o : Outcome). if lacks_room o then due.Relink else due.ResetUnacknowledged h) (reset_refused h 146 configured)
 
   pub clear_relinks : (h : ℕ) → is_channel c.channels h ≡ true → asked_of c s (due.Clear h) ≡ due.Relink
   clear_relinks h configured = ap (λ (o : Outcome). if lacks_room o then due.Relink else due.Clear h) (clear_refused h configured)
@@ -68,6 +72,11 @@ pub reset_asked : (c : Settings) (s : Station) (h : ℕ) (o : Outcome) → timer
     → asked_of c s (due.Reset h) ≡ due.Reset h
 reset_asked c s h o is good = ap (λ (o : Outcome). if lacks_room o then due.Relink else due.Reset h) is
     ∙ ap (λ (b : Bool). if b then due.Relink else due.Reset h) good
+
+pub rotation_asked : (c : Settings) (s : Station) (h : ℕ) (o : Outcome) → timer.outcome c s (event_for (due.ResetUnacknowledged h)) ≡ o → lacks_room o ≡ false
+    → asked_of c s (due.ResetUnacknowledged h) ≡ due.ResetUnacknowledged h
+rotation_asked c s h o is good = ap (λ (o : Outcome). if lacks_room o then due.Relink else due.ResetUnacknowledged h) is
+    ∙ ap (λ (b : Bool). if b then due.Relink else due.ResetUnacknowledged h) good
 
 pub clear_asked : (c : Settings) (s : Station) (h : ℕ) (o : Outcome) → timer.outcome c s (event_for (due.Clear h)) ≡ o → lacks_room o ≡ false
     → asked_of c s (due.Clear h) ≡ due.Clear h

@@ -7,6 +7,7 @@ pub mod FullLemmas
 pub mod NoiseLemmas
 pub mod DeadlineLemmas
 pub mod WaitLemmas
+pub mod RotationLemmas
 pub mod AnswerLemmas
 pub mod PullLemmas
 pub mod SilenceLemmas

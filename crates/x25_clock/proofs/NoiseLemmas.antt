@@ -1,8 +1,11 @@
 -- Noise leaves a station as it was, which answers nothing; and what is pulled brings no link to rest that sends.
+use Rattle.x25_link.specs.declared.phase.Ending.{Ending}
+use Rattle.x25_station.proofs.EndsLemmas.{still_ends}
+use Rattle.x25_station.specs.{Entry.{end_between, entries_ended}, Step.{ends}}
 use Rattle.x25_clock.proofs.Names.{◌≡◌, ℕ, zero, suc, ◌+◌, ◌≤◌, ◌==◌, List, [], ◌∷◌, ◌++◌, length, Bool, true, false, not, if◌then◌else◌, refl, sym, ap}
 use Rattle.x25_clock.proofs.Names.{◌∙◌, arith, true≢false, eqb-true, and_parts, Phase, Down, Waiting, Up, Closed, LinkStation, is_up, Settings, Station}
 use Rattle.x25_clock.proofs.Names.{layer_settings, is_at_rest, Step, tells_link, IsSettled}
-use Rattle.std.proofs.{Common.{◌&&◌, Ok, Err, None, Result}, lemmas.List.{length-append}}
+use Rattle.std.proofs.{Common.{◌&&◌, Ok, Err, None, Option, Result, Some}, lemmas.List.{length-append}}
 use Rattle.x25_clock.specs.laws.SilenceLaw.{is_noise, is_unread}
 use Rattle.x25_frame.specs.{Frame.{PlainFrame}, Reading.{frame_of}, declared.error.FrameError.{FrameError}}
 use Rattle.x25_layer.specs.{Calls.{PullsAll, layer_outcome, outcome_in}, Layer.{is_ready}, laws.Rounds.{LinkView, Putting, Refuses, begin, rounds, went}}
@@ -49,15 +52,20 @@ module _ (c : Settings) (s : Station) (octets : List ℕ) (settled : IsSettled c
   abbrev lc : LinkSettings
   lc = link_settings c
 
-  taken_quietly : follows c s (take_step lc octets s.link) ≡ nothing_at s
+  taken_quietly : ends c s (take_step lc octets s.link) ≡ nothing_at s
   taken_quietly =
-      ap (λ (k : LinkStep). follows c s (closed_by c.window k))
+      ap (λ (k : LinkStep). ends c s (closed_by c.window k))
       (unread_quiet lc octets (frame_of (other c.role) lc.longest octets) s.link.phase (alone s.link) noise)
-      ∙ ap (λ (t : Side). follows c s (record (quiet t) { side = t })) (ended_rests c.window (alone s.link) settled.said)
+      ∙ ap (λ (t : Side). ends c s (record (quiet t) { side = t })) (ended_rests c.window (alone s.link) settled.said)
+      ∙ still_ends c s (quiet (alone s.link)) refl
 
-  by : (b : Bool) → (let step : Step = follows c s (if b then abandon_step lc s.link else take_step lc octets s.link) in tells_link step.entries ≡ false
+  abandon_tells : (e : Option Ending) → tells_link (entries_ended e ++ (follows c s (abandon_step lc s.link)).entries) ≡ true
+  abandon_tells None = refl
+  abandon_tells (Some ending) = refl
+
+  by : (b : Bool) → (let step : Step = ends c s (if b then abandon_step lc s.link else take_step lc octets s.link) in tells_link step.entries ≡ false
       → step ≡ nothing_at s)
-  by true told = absurd (true≢false told)
+  by true told = absurd (true≢false (sym (abandon_tells (end_between s.link (abandon_step lc s.link).side.near)) ∙ told))
   by false told = taken_quietly
 
   pub noise_rests : tells_link (receives c s octets).entries ≡ false → receives c s octets ≡ nothing_at s

@@ -1,4 +1,5 @@
 -- One who asks at once what is due hears nothing no longer than the times say.
+use Rattle.x25_station.specs.Step.{ends}
 use Rattle.x25_clock.proofs.Names.{◌≡◌, ℕ, suc, ◌+◌, ◌^◌, ◌<◌, ◌≤◌, ◌⊎◌, inl, inr, List, [], ◌∷◌, Bool, true, false, not, ◌||◌, if◌then◌else◌, Option, Some}
 use Rattle.x25_clock.proofs.Names.{None, refl, sym, ap, subst, ◌∙◌, arith, true≢false, le-ltb, and_parts, none-some, Phase, Waiting, Up}
 use Rattle.x25_clock.proofs.Names.{LinkStation, is_up, Settings, Station, is_at_rest, Step, Outcome, Did, Refused, runs, timer_of, tells_link, is_acknowledged}
@@ -10,6 +11,7 @@ use Rattle.x25_clock.proofs.{ClockLemmas.{deadlines_are_true}, DeadlineLemmas.{p
 use Rattle.x25_clock.{proofs.NoiseLemmas.{noise_rests, nothing_at}, proofs.PullLemmas.{none_heard}, proofs.WaitLemmas.{asks}, specs.Due.{asked_of, event_for}}
 use Rattle.x25_clock.specs.laws.{ClockLaw.{hears}, SilenceLaw.{IsSilent, longest_silence, SilenceEnds, IsIdle, IdleIsAsked, IsQuiet}}
 use Rattle.x25_clock.specs.laws.SilenceLaw.{AreUnheard, IdleIsSinceHeard, NoiseIsUnheard}
+use Rattle.x25_clock.{proofs.Names.{unmoved_of}, specs.Clock.{unless_unmoved}}
 use Rattle.x25_link.specs.Link.{is_idle, timer_runs, timer_step, probe_refusal}
 use Rattle.x25_station.specs.{Config.{link_settings}, Step.{follows, receives, unless}, laws.SettledLaw.{SettledBy, NewIsSettled, StaysSettled, SettledAsks}}
 use Rattle.x25_station.specs.laws.UnheardLaw.{MayAsk, IsUnheard, takes, TakesTries, AsksOn, UnheardAsksOn}
@@ -36,18 +38,20 @@ module _ (times : Times) (now : ℕ) (d : Deadlines) (what : Due) where
   abbrev IsOneOf : Deadlines → Type 0
   IsOneOf e = AsksT1 d e what ⊎ (AsksProbe d e what ⊎ AsksOther d e)
 
-  one_by : (t1 restart : Bool) (o : Option Wait) (idle : Bool)
-      → (if t1 then Some due.T1 else if restart then Some due.Relink else unless_on o (if idle then Some due.Probe else None)) ≡ Some what
+  one_by : (t1 restart : Bool) (o : Option Wait) (u : Option ℕ) (idle : Bool)
+      → (if t1 then Some due.T1 else if restart then Some due.Relink
+      else unless_on o (unless_unmoved u (if idle then Some due.Probe else None))) ≡ Some what
       → IsOneOf (if t1 then record d { t1 = deadline now times.t1 } else if restart then record d { restart = deadline now times.t20 }
-      else renewed_on times now o idle d)
-  one_by true restart o idle is = inl (record { is = sym (ap or_t1 is); idle = refl })
-  one_by false true o idle is = inr (inr (record { t1 = refl; idle = refl }))
-  one_by false false (Some x) idle is = inr (inr (record { t1 = refl; idle = refl }))
-  one_by false false None true is = inr (inl (record { is = sym (ap or_t1 is); t1 = refl }))
-  one_by false false None false is = absurd (none-some what is)
+      else renewed_on times now o u idle d)
+  one_by true restart o u idle is = inl (record { is = sym (ap or_t1 is); idle = refl })
+  one_by false true o u idle is = inr (inr (record { t1 = refl; idle = refl }))
+  one_by false false (Some x) u idle is = inr (inr (record { t1 = refl; idle = refl }))
+  one_by false false None (Some h) idle is = inr (inr (record { t1 = refl; idle = refl }))
+  one_by false false None None true is = inr (inl (record { is = sym (ap or_t1 is); t1 = refl }))
+  one_by false false None None false is = absurd (none-some what is)
 
   one_of : due_of now d ≡ Some what → IsOneOf (after_due times now d)
-  one_of is = one_by (is_past now d.t1) (is_past now d.restart) (overdue_of now d.waits) (is_past now d.idle) is
+  one_of is = one_by (is_past now d.t1) (is_past now d.restart) (overdue_of now d.waits) (unmoved_of now d.waits) (is_past now d.idle) is
 
 -- ---- so many tries, each of T1
 
@@ -153,6 +157,7 @@ due_unheard : (s : Station) (d : Due) → IsUnheard s (event_for d)
 due_unheard s due.T1 = tt
 due_unheard s due.Probe = tt
 due_unheard s (due.Reset h) = tt
+due_unheard s (due.ResetUnacknowledged h) = tt
 due_unheard s (due.Clear h) = tt
 due_unheard s (due.Restart h) = tt
 due_unheard s due.Relink = tt
@@ -289,7 +294,7 @@ module _ (c : Settings) (times : Times) (phase : Phase) (bound : ℕ) (may : May
             → (let o : Outcome = timer.outcome c s (asks c s x) in IsOn phase (timer.after s o) → tells o ≡ false → Then x o)
         t1_first x is same =
             subst (λ (y : Due). let o : Outcome = timer.outcome c s (asks c s y) in IsOn phase (timer.after s o) → tells o ≡ false → Then y o) (sym is)
-            (fires_by (runs s) refl same (follows c s (timer_step (link_settings c) s.link))
+            (fires_by (runs s) refl same (ends c s (timer_step (link_settings c) s.link))
             (silent c s timer.Fires (subst MayAsk (sym before.phase) may) tt))
 
         polled : (x : Due) → x ≡ due.Probe → e.t1 ≡ w.deadlines.t1

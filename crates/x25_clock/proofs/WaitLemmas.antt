@@ -6,9 +6,10 @@ use Rattle.x25_clock.proofs.Names.{is_channel, awaited_at, Settings, layer_setti
 use Rattle.x25_clock.proofs.Names.{AwaitsStill, Due, Times, Wait, Deadlines, channels_from, deadline, is_past, sooner, number_of, time_of, running, wait_after}
 use Rattle.x25_clock.proofs.Names.{heeded, next_of, overdue_of, unless_on, due_of, renewed, renewed_on, after_due, Watched, seen_of, heeds, watched, IsSince}
 use Rattle.x25_clock.proofs.Names.{AreAwaited, AreTrue, Deed, Happens, IsAsked, later_by, event_of, found_by, outcome_of, done, all_done, IsFounded, IsNotPast}
-use Rattle.x25_clock.proofs.ClockLemmas.{happens_true, due_true, deadlines_are_true}
-use Rattle.x25_clock.proofs.DeadlineLemmas.{AreNotPast, waits_past, restart_past, or_t1, Ends, begins_at, end_in_time}
-use Rattle.x25_clock.{proofs.Names.{AreObeyed, tells, AwaitsAll, NothingWaits}, specs.Clock.{asked_for, due_on}, specs.laws.WaitLaw.{longest_wait, AreSet}}
+use Rattle.x25_clock.proofs.Names.{AreObeyed, tells, AwaitsAll, NothingWaits, is_any, is_some, rotated, unacknowledged_at, unmoved_of}
+use Rattle.x25_clock.proofs.ClockLemmas.{happens_true, due_true, deadlines_are_true, renewed_channel}
+use Rattle.x25_clock.proofs.DeadlineLemmas.{AreNotPast, waits_past, restart_past, or_t1, Ends, begins_at, end_in_time, ends_by, runs_still}
+use Rattle.x25_clock.specs.{Clock.{asked_for, due_on, since, unless_unmoved}, laws.WaitLaw.{longest_wait, AreSet}}
 use Rattle.x25_clock.proofs.FullLemmas.{Keeps, reset_asked, reset_relinks, clear_asked, clear_relinks, deed_kept, moments_kept, new_kept, restart_asked}
 use Rattle.x25_clock.proofs.FullLemmas.{restart_relinks}
 use Rattle.x25_circuit.specs.Circuit.{awaited_by}
@@ -21,52 +22,61 @@ use Rattle.x25_clock.specs.declared.due.Due.TheVariants as due
 
 -- ---- what is asked, and the deadlines behind it
 
-record AsksNone (d e : Deadlines) : Type 0 where
-  restart : e.restart ≡ d.restart
-  waits : e.waits ≡ d.waits
+pub record AsksNone (d e : Deadlines) : Type 0 where
+  pub restart : e.restart ≡ d.restart
+  pub waits : e.waits ≡ d.waits
 
-record AsksRelink (d e : Deadlines) (what : Due) : Type 0 where
-  is : what ≡ due.Relink
-  waits : e.waits ≡ d.waits
+pub record AsksRelink (d e : Deadlines) (what : Due) : Type 0 where
+  pub is : what ≡ due.Relink
+  pub waits : e.waits ≡ d.waits
 
-record AsksOn (times : Times) (now : ℕ) (d e : Deadlines) (what : Due) : Type 0 where
-  wait : Wait
-  found : overdue_of now d.waits ≡ Some wait
-  is : due_on wait ≡ Some what
-  restart : e.restart ≡ d.restart
-  waits : e.waits ≡ map (renewed times now wait.channel) d.waits
+pub record AsksRotation (times : Times) (now : ℕ) (d e : Deadlines) (what : Due) : Type 0 where
+  pub channel : ℕ
+  pub is : what ≡ due.ResetUnacknowledged channel
+  pub restart : e.restart ≡ d.restart
+  pub waits : e.waits ≡ map (rotated times now channel) d.waits
+
+pub record AsksOn (times : Times) (now : ℕ) (d e : Deadlines) (what : Due) : Type 0 where
+  pub wait : Wait
+  pub found : overdue_of now d.waits ≡ Some wait
+  pub is : due_on wait ≡ Some what
+  pub restart : e.restart ≡ d.restart
+  pub waits : e.waits ≡ map (renewed times now wait.channel) d.waits
 
 abbrev or_wait : Wait → Option Wait → Wait
 or_wait w None = w
 or_wait w (Some x) = x
 
 module _ (times : Times) (now : ℕ) (d : Deadlines) (what : Due) where
-  abbrev due_by : Bool → Bool → Option Wait → Bool → Option Due
-  due_by t1 restart o idle = if t1 then Some due.T1 else if restart then Some due.Relink else unless_on o (if idle then Some due.Probe else None)
+  abbrev due_by : Bool → Bool → Option Wait → Option ℕ → Bool → Option Due
+  due_by t1 restart o u idle = if t1 then Some due.T1 else if restart then Some due.Relink
+      else unless_on o (unless_unmoved u (if idle then Some due.Probe else None))
 
-  abbrev after_by : Bool → Bool → Option Wait → Bool → Deadlines
-  after_by t1 restart o idle = if t1 then record d { t1 = deadline now times.t1 } else if restart then record d { restart = deadline now times.t20 }
-      else renewed_on times now o idle d
+  abbrev after_by : Bool → Bool → Option Wait → Option ℕ → Bool → Deadlines
+  after_by t1 restart o u idle = if t1 then record d { t1 = deadline now times.t1 } else if restart then record d { restart = deadline now times.t20 }
+      else renewed_on times now o u idle d
 
-  abbrev WhatIsAsked : Deadlines → Type 0
-  WhatIsAsked e = AsksNone d e ⊎ (AsksRelink d e what ⊎ AsksOn times now d e what)
+  abbrev pub WhatIsAsked : Deadlines → Type 0
+  WhatIsAsked e = AsksNone d e ⊎ (AsksRelink d e what ⊎ (AsksOn times now d e what ⊎ AsksRotation times now d e what))
 
-  asked_by : (t1 restart : Bool) (o : Option Wait) (idle : Bool) → overdue_of now d.waits ≡ o → due_by t1 restart o idle ≡ Some what
-      → WhatIsAsked (after_by t1 restart o idle)
-  asked_by true restart o idle found is = inl (record { restart = refl; waits = refl })
-  asked_by false true o idle found is = inr (inl (record { is = sym (ap or_t1 is); waits = refl }))
-  asked_by false false (Some x) idle found is = inr (inr (record { wait = x; found = found; is = is; restart = refl; waits = refl }))
-  asked_by false false None true found is = inl (record { restart = refl; waits = refl })
-  asked_by false false None false found is = absurd (none-some what is)
+  asked_by : (t1 restart : Bool) (o : Option Wait) (u : Option ℕ) (idle : Bool) → overdue_of now d.waits ≡ o → due_by t1 restart o u idle ≡ Some what
+      → WhatIsAsked (after_by t1 restart o u idle)
+  asked_by true restart o u idle found is = inl (record { restart = refl; waits = refl })
+  asked_by false true o u idle found is = inr (inl (record { is = sym (ap or_t1 is); waits = refl }))
+  asked_by false false (Some x) u idle found is = inr (inr (inl (record { wait = x; found = found; is = is; restart = refl; waits = refl })))
+  asked_by false false None (Some h) idle found is = inr (inr (inr (record { channel = h; is = sym (ap or_t1 is); restart = refl; waits = refl })))
+  asked_by false false None None true found is = inl (record { restart = refl; waits = refl })
+  asked_by false false None None false found is = absurd (none-some what is)
 
-  what_is_asked : due_of now d ≡ Some what → WhatIsAsked (after_due times now d)
-  what_is_asked is = asked_by (is_past now d.t1) (is_past now d.restart) (overdue_of now d.waits) (is_past now d.idle) refl is
+  pub what_is_asked : due_of now d ≡ Some what → WhatIsAsked (after_due times now d)
+  what_is_asked is = asked_by (is_past now d.t1) (is_past now d.restart) (overdue_of now d.waits) (unmoved_of now d.waits) (is_past now d.idle) refl is
 
 -- the first channel on which an answer is due awaits what it is said to
-overdue_is : (times : Times) (before now : ℕ) (f : ℕ → Awaits) (ws : List Wait) (x : Wait) → AreAwaited times before f ws → overdue_of now ws ≡ Some x
+overdue_is : (times : Times) (before now : ℕ) (f : ℕ → Awaits) (g : ℕ → Option ℕ) (ws : List Wait) (x : Wait) → AreAwaited times before f g ws
+    → overdue_of now ws ≡ Some x
     → x.awaits ≡ f x.channel
-overdue_is times before now f [] x are is = absurd (none-some x is)
-overdue_is times before now f (w ∷ ws) x are is = by (overdue_is times before now f ws x are.1) (is_past now w.until) is
+overdue_is times before now f g [] x are is = absurd (none-some x is)
+overdue_is times before now f g (w ∷ ws) x are is = by (overdue_is times before now f g ws x are.1) (is_past now w.until) is
   where
     by : (overdue_of now ws ≡ Some x → x.awaits ≡ f x.channel) → (b : Bool) → (if b then Some w else overdue_of now ws) ≡ Some x → x.awaits ≡ f x.channel
     by rest true e = subst (λ (y : Wait). y.awaits ≡ f y.channel) (ap (or_wait w) e) are.0.awaits
@@ -74,11 +84,11 @@ overdue_is times before now f (w ∷ ws) x are is = by (overdue_is times before 
 
 -- ---- the list has each channel once
 
-abbrev Has : ℕ → List ℕ → Type 0
+abbrev pub Has : ℕ → List ℕ → Type 0
 Has h [] = ⊥
 Has h (k ∷ ks) = (k ≡ h) ⊎ Has h ks
 
-abbrev channel_in : Wait → ℕ
+abbrev pub channel_in : Wait → ℕ
 channel_in w = w.channel
 
 has_channel : (h n first : ℕ) → first ≤ h → h < first + n → Has h (map channel_in (channels_from first n))
@@ -90,25 +100,46 @@ has_channel h (suc n) first low high = test (λ more. has_channel h n (first + 1
     test rest true is = inl (eqb-true first h is)
     test rest false is = inr (rest (omega (arith, low, (λ (same : first ≡ h). true≢false (sym (eq-eqb first h same) ∙ is)))))
 
+-- the list has each configured channel
+pub has_it : (c : Settings) (times : Times) (h : ℕ) (w : Watched) → AreTrue c times w → is_channel c.channels h ≡ true
+    → Has h (map channel_in w.deadlines.waits)
+has_it c times h w true_now is =
+    let both = and_parts (nat_le 1 h) (nat_le h c.channels.count) is in
+    let low : 1 ≤ h = leb-true 1 h both.0 in
+    let high : h ≤ c.channels.count = leb-true h c.channels.count both.1 in
+    subst (Has h) (sym true_now.channels) (has_channel h c.channels.count 1 low (omega (arith, high)))
+
+-- ---- room for a packet
+
+pub room_or_full : (n : ℕ) → n ≤ 256 → ((n == 256) ≡ true) ⊎ (n < 256)
+room_or_full n few = test (n == 256) refl
+  where
+    test : (b : Bool) → (n == 256) ≡ b → ((n == 256) ≡ true) ⊎ (n < 256)
+    test true is = inl is
+    test false is = inr (omega (arith, few, (λ (same : n ≡ 256). true≢false (sym (eq-eqb n 256 same) ∙ is))))
+
+-- ---- a deed leaves the deadlines true
+
+pub deed_true : (c : Settings) (times : Times) (w : Watched) (deed : Deed) → AreTrue c times w → AreTrue c times (done c times deed w)
+deed_true c times w (Happens later event) true_now = happens_true c times w later event (timer.outcome c w.station event) true_now
+deed_true c times w (IsAsked later what) true_now =
+    let found : Watched = found_by times (IsAsked later what) w in
+    let nothing : found.now + 0 ≡ found.now = omega arith in
+    let event : timer.StationEvent = event_of c (IsAsked 0 what) w.station in
+    subst (λ (n : ℕ). AreTrue c times (heeds c times n event (timer.outcome c w.station event) found)) nothing
+    (happens_true c times found 0 event (timer.outcome c w.station event) (due_true c times w later true_now))
+
 -- ---- a wait that isn't renewed
-
-if_wait : (h : ℕ) (b : Bool) (u v : Wait) → u.channel ≡ h → v.channel ≡ h → (let w : Wait = if b then u else v in w.channel) ≡ h
-if_wait h true u v p q = p
-if_wait h false u v p q = q
-
-pub after_channel : (times : Times) (now : ℕ) (a : Awaits) (w : Wait) → (wait_after times now a w).channel ≡ w.channel
-after_channel times now a w = if_wait w.channel (number_of w.awaits == number_of a) _ _ refl refl
-
-pub renewed_channel : (times : Times) (now k : ℕ) (w : Wait) → (renewed times now k w).channel ≡ w.channel
-renewed_channel times now k w = if_wait w.channel (not (w.channel == k)) _ _ refl refl
-
-same_after : (times : Times) (now : ℕ) (a : Awaits) (w : Wait) → w.awaits ≡ a → wait_after times now a w ≡ w
-same_after times now a w is = ap (λ (b : Bool). let x : Wait = if b then w
-    else record { channel = w.channel; awaits = a; until = deadline now (time_of times a) } in x) (eq-eqb (number_of w.awaits) (number_of a) (ap number_of is))
 
 not_renewed : (times : Times) (now k : ℕ) (w : Wait) → (w.channel == k) ≡ false → renewed times now k w ≡ w
 not_renewed times now k w is = ap (λ (b : Bool). let x : Wait = if not b then w
-    else record { channel = w.channel; awaits = w.awaits; until = deadline now (time_of times w.awaits) } in x) is
+    else record {
+      channel = w.channel;
+      awaits = w.awaits;
+      until = deadline now (time_of times w.awaits);
+      unacknowledged = w.unacknowledged;
+      rotates = w.rotates;
+    } in x) is
 
 -- ---- what a rank says
 
@@ -143,6 +174,7 @@ still_rank c s next h high still =
 record IsAnother (times : Times) (left_a left_b : ℕ) (a b : Awaits) : Type 0 where
   enough : time_of times b + left_b ≤ left_a
   some : 0 < time_of times b
+  any : is_any b ≡ true
   differ : (number_of a == number_of b) ≡ false
 
 abbrev pub asks : Settings → Station → Due → timer.StationEvent
@@ -189,19 +221,12 @@ module _ (c : Settings) (times : Times) (h bound : ℕ) (first : Awaits) (set : 
 
   -- ---- no deadline is past
 
-  channel_in_time : (before now : ℕ) (f : ℕ → Awaits) (ws : List Wait) → Has h (map channel_in ws) → AreAwaited times before f ws → OnChannel ws
-      → AreNotPast now ws → now + left (f h) ≤ bound
-  channel_in_time before now f [] has are on past = absurd has
-  channel_in_time before now f (w ∷ ws) (inl is) are on past =
+  channel_in_time : (before now : ℕ) (f : ℕ → Awaits) (g : ℕ → Option ℕ) (ws : List Wait) → Has h (map channel_in ws) → AreAwaited times before f g ws
+      → OnChannel ws → AreNotPast now ws → now + left (f h) ≤ bound
+  channel_in_time before now f g [] has are on past = absurd has
+  channel_in_time before now f g (w ∷ ws) (inl is) are on past =
       subst (λ (a : Awaits). now + left a ≤ bound) (are.0.awaits ∙ ap f is) (end_in_time bound now w.until (left w.awaits) (on.0 is) past.0)
-  channel_in_time before now f (w ∷ ws) (inr has) are on past = channel_in_time before now f ws has are.1 on.1 past.1
-
-  has_it : (w : Watched) → AreTrue c times w → is_channel c.channels h ≡ true → Has h (map channel_in w.deadlines.waits)
-  has_it w true_now is =
-      let both = and_parts (nat_le 1 h) (nat_le h c.channels.count) is in
-      let low : 1 ≤ h = leb-true 1 h both.0 in
-      let high : h ≤ c.channels.count = leb-true h c.channels.count both.1 in
-      subst (Has h) (sym true_now.channels) (has_channel h c.channels.count 1 low (omega (arith, high)))
+  channel_in_time before now f g (w ∷ ws) (inr has) are on past = channel_in_time before now f g ws has are.1 on.1 past.2
 
   in_time : (w : Watched) (now : ℕ) → AreTrue c times w → 2 ≤ rank c w.station h → IsNotPast now (next_of w.deadlines)
       → IsBy w.station.layer.restarting w.deadlines.restart w.deadlines.waits
@@ -216,8 +241,8 @@ module _ (c : Settings) (times : Times) (h bound : ℕ) (first : Awaits) (set : 
       on false is by =
           let two : 2 ≤ rank_of w.station.link.phase false (awaited w.station) =
           subst (λ (r : Bool). 2 ≤ rank_of w.station.link.phase r (awaited w.station)) is high in
-          channel_in_time w.now now (λ k. awaited_at (layer_settings c) w.station.layer k) d.waits
-          (has_it w true_now (is_configured w.station.link.phase (is_channel c.channels h) (awaited_by (w.station.layer.circuits h)) two)) true_now.waits by
+          channel_in_time w.now now (λ k. awaited_at (layer_settings c) w.station.layer k) (λ k. unacknowledged_at (layer_settings c) w.station.layer k)
+          d.waits (has_it c times h w true_now (is_configured w.station.link.phase (is_channel c.channels h) (awaited_by (w.station.layer.circuits h)) two)) true_now.waits by
           (waits_past now d.waits (sooner (sooner d.t1 d.idle) d.restart) past)
 
   now_in_time : (r : Bool) (a : Awaits) (now : ℕ) → InTime r a now → now ≤ bound
@@ -227,22 +252,28 @@ module _ (c : Settings) (times : Times) (h bound : ℕ) (first : Awaits) (set : 
   -- ---- behind a step
 
   -- the waits behind it
-  abbrev heeded_waits : ℕ → (ℕ → Awaits) → List Wait → List Wait
-  heeded_waits now f ws = map (λ w. wait_after times now (f w.channel) w) ws
+  abbrev heeded_waits : ℕ → (ℕ → Awaits) → (ℕ → Option ℕ) → List Wait → List Wait
+  heeded_waits now f g ws = map (λ w. wait_after times now (f w.channel) (g w.channel) w) ws
 
   -- what is awaited is what was
-  waits_stay : (before now : ℕ) (old new : ℕ → Awaits) (ws : List Wait) → new h ≡ old h → AreAwaited times before old ws → OnChannel ws
-      → OnChannel (heeded_waits now new ws)
-  waits_stay before now old new [] same are on = tt
-  waits_stay before now old new (w ∷ ws) same are on = (first_wait, waits_stay before now old new ws same are.1 on.1)
+  still_ends : (a : Awaits) (until new : Option ℕ) → is_any a ≡ true → Ends bound until (left a)
+      → Ends bound (running (is_any a) (not (number_of a == number_of a)) until new) (left a)
+  still_ends a until new any ends =
+      subst (λ (b : Bool). Ends bound (running b (not (number_of a == number_of a)) until new) (left a)) (sym any)
+      (subst (λ (b : Bool). Ends bound (running true (not b) until new) (left a)) (sym (eq-eqb (number_of a) (number_of a) refl))
+      (runs_still bound (left a) until new ends))
+
+  waits_stay : (before now : ℕ) (old new : ℕ → Awaits) (g k : ℕ → Option ℕ) (ws : List Wait) → new h ≡ old h → is_any (old h) ≡ true
+      → AreAwaited times before old g ws → OnChannel ws → OnChannel (heeded_waits now new k ws)
+  waits_stay before now old new g k [] same any are on = tt
+  waits_stay before now old new g k (w ∷ ws) same any are on = (first_wait, waits_stay before now old new g k ws same any are.1 on.1)
     where
-      first_wait : (wait_after times now (new w.channel) w).channel ≡ h
-          → (let x : Wait = wait_after times now (new w.channel) w in Ends bound x.until (left x.awaits))
-      first_wait is =
-          let at_h : w.channel ≡ h = sym (after_channel times now (new w.channel) w) ∙ is in
-          let unchanged : wait_after times now (new w.channel) w ≡ w =
-          same_after times now (new w.channel) w (are.0.awaits ∙ ap old at_h ∙ sym same ∙ ap new (sym at_h)) in
-          subst (λ (x : Wait). Ends bound x.until (left x.awaits)) (sym unchanged) (on.0 at_h)
+      first_wait : w.channel ≡ h → (let x : Wait = wait_after times now (new w.channel) (k w.channel) w in Ends bound x.until (left x.awaits))
+      first_wait at_h =
+          let was : w.awaits ≡ old h = are.0.awaits ∙ ap old at_h in
+          let is : w.awaits ≡ new w.channel = was ∙ sym same ∙ ap new (sym at_h) in
+          subst (λ (a : Awaits). Ends bound (running (is_any a) (not (number_of w.awaits == number_of a)) w.until (deadline now (time_of times a))) (left a)) is
+          (still_ends w.awaits w.until (deadline now (time_of times w.awaits)) (ap is_any was ∙ any) (on.0 at_h))
 
   not_less : {A : Type 0} (m n : ℕ) → n ≤ m → m < n → A
   not_less m n low high = absurd (omega (arith, low, high))
@@ -254,12 +285,12 @@ module _ (c : Settings) (times : Times) (h bound : ℕ) (first : Awaits) (set : 
   is_another Acceptance ResetConfirmation two low no_call = not_less 4 4 (omega arith) low
   is_another ResetConfirmation ResetConfirmation two low no_call = not_less 4 4 (omega arith) low
   is_another ClearConfirmation ResetConfirmation two low no_call = not_less 4 3 (omega arith) low
-  is_another InterruptConfirmation ResetConfirmation two low no_call = record { enough = omega arith; some = set.t22; differ = refl }
+  is_another InterruptConfirmation ResetConfirmation two low no_call = record { enough = omega arith; some = set.t22; any = refl; differ = refl }
   is_another Nothing ClearConfirmation two low no_call = not_less 3 0 (omega arith) low
-  is_another Acceptance ClearConfirmation two low no_call = record { enough = omega arith; some = set.t23; differ = refl }
-  is_another ResetConfirmation ClearConfirmation two low no_call = record { enough = omega arith; some = set.t23; differ = refl }
+  is_another Acceptance ClearConfirmation two low no_call = record { enough = omega arith; some = set.t23; any = refl; differ = refl }
+  is_another ResetConfirmation ClearConfirmation two low no_call = record { enough = omega arith; some = set.t23; any = refl; differ = refl }
   is_another ClearConfirmation ClearConfirmation two low no_call = not_less 3 3 (omega arith) low
-  is_another InterruptConfirmation ClearConfirmation two low no_call = record { enough = omega arith; some = set.t23; differ = refl }
+  is_another InterruptConfirmation ClearConfirmation two low no_call = record { enough = omega arith; some = set.t23; any = refl; differ = refl }
   is_another Nothing InterruptConfirmation two low no_call = not_less 5 0 (omega arith) low
   is_another Acceptance InterruptConfirmation two low no_call = not_less 5 4 (omega arith) low
   is_another ResetConfirmation InterruptConfirmation two low no_call = not_less 5 4 (omega arith) low
@@ -267,48 +298,48 @@ module _ (c : Settings) (times : Times) (h bound : ℕ) (first : Awaits) (set : 
   is_another InterruptConfirmation InterruptConfirmation two low no_call = not_less 5 5 (omega arith) low
 
   -- another is awaited for it
-  waits_fall : (before now : ℕ) (old new : ℕ → Awaits) (ws : List Wait) → IsAnother times (left (old h)) (left (new h)) (old h) (new h)
-      → now + left (old h) ≤ bound → AreAwaited times before old ws → OnChannel (heeded_waits now new ws)
-  waits_fall before now old new [] gone late are = tt
-  waits_fall before now old new (w ∷ ws) gone late are = (first_wait, waits_fall before now old new ws gone late are.1)
+  waits_fall : (before now : ℕ) (old new : ℕ → Awaits) (g k : ℕ → Option ℕ) (ws : List Wait) → IsAnother times (left (old h)) (left (new h)) (old h) (new h)
+      → now + left (old h) ≤ bound → AreAwaited times before old g ws → OnChannel (heeded_waits now new k ws)
+  waits_fall before now old new g k [] gone late are = tt
+  waits_fall before now old new g k (w ∷ ws) gone late are = (first_wait, waits_fall before now old new g k ws gone late are.1)
     where
-      first_wait : (wait_after times now (new w.channel) w).channel ≡ h
-          → (let x : Wait = wait_after times now (new w.channel) w in Ends bound x.until (left x.awaits))
-      first_wait is =
-          let at_h : w.channel ≡ h = sym (after_channel times now (new w.channel) w) ∙ is in
+      first_wait : w.channel ≡ h → (let x : Wait = wait_after times now (new w.channel) (k w.channel) w in Ends bound x.until (left x.awaits))
+      first_wait at_h =
           let b : Awaits = new h in
-          let anew : Wait = record { channel = w.channel; awaits = b; until = deadline now (time_of times b) } in
           let other : (number_of w.awaits == number_of b) ≡ false =
           ap (λ (a : Awaits). number_of a == number_of b) (are.0.awaits ∙ ap old at_h) ∙ gone.differ in
-          let changed : wait_after times now (new w.channel) w ≡ anew =
-          ap (λ (a : Awaits). wait_after times now a w) (ap new at_h) ∙ ap (λ (t : Bool). let x : Wait = if t then w else anew in x) other in
           let enough = gone.enough in
           let more : now + (time_of times b + left b) ≤ bound = omega (arith, late, enough) in
-          subst (λ (x : Wait). Ends bound x.until (left x.awaits)) (sym changed) (begins_at bound small now (time_of times b) (left b) gone.some more)
+          let until : Bool → Bool → Option ℕ = λ any differs. running any (not differs) w.until (deadline now (time_of times b)) in
+          subst (λ (a : Awaits). Ends bound (running (is_any a) (not (number_of w.awaits == number_of a)) w.until (deadline now (time_of times a))) (left a))
+          (ap new (sym at_h))
+          (subst (λ (x : Bool). Ends bound (until x (number_of w.awaits == number_of b)) (left b)) (sym gone.any)
+          (subst (λ (x : Bool). Ends bound (until true x) (left b)) (sym other) (begins_at bound small now (time_of times b) (left b) gone.some more)))
 
   -- an answer that is awaited leaves time for a restart
   left_some : (a : Awaits) → 2 ≤ rank_in a → times.t20 ≤ left a
   left_some Nothing two = low_one 0 (omega arith) two
   left_some a two = omega arith
 
-  restart_stays : (now : ℕ) (restart : Option ℕ) → Ends bound restart 0 → Ends bound (running true false restart (deadline now times.t20)) 0
-  restart_stays now None ends = absurd ends
-  restart_stays now (Some moment) ends = ends
+  any_of : (a : Awaits) → 2 ≤ rank_in a → is_any a ≡ true
+  any_of Nothing two = low_one 0 (omega arith) two
+  any_of a two = refl
 
   -- of a station between these two, of which the link is up, and of its deadlines
   module _ (before now : ℕ) (s next : Station) (high : 2 ≤ rank_of Up s.layer.restarting (awaited s))
       (higher : 2 ≤ rank_of Up next.layer.restarting (awaited next))
       (restart : Option ℕ) (ws : List Wait) (off : s.layer.restarting ≡ false → restart ≡ None)
-      (are : AreAwaited times before (λ k. awaited_at (layer_settings c) s.layer k) ws) where
+      (are : AreAwaited times before (λ k. awaited_at (layer_settings c) s.layer k) (λ k. unacknowledged_at (layer_settings c) s.layer k) ws) where
     abbrev Heeded : Bool → Bool → Type 0
-    Heeded r noted = IsBy r (running r noted restart (deadline now times.t20)) (heeded_waits now (λ k. awaited_at (layer_settings c) next.layer k) ws)
+    Heeded r noted = IsBy r (running r noted restart (deadline now times.t20))
+        (heeded_waits now (λ k. awaited_at (layer_settings c) next.layer k) (λ k. unacknowledged_at (layer_settings c) next.layer k) ws)
 
-    stays_by : (r n : Bool) → n ≡ r → awaited next ≡ awaited s → IsBy r restart ws → Heeded n false
-    stays_by true true is same by = restart_stays now restart by
-    stays_by true false is same by = absurd (true≢false (sym is))
-    stays_by false true is same by = absurd (true≢false is)
-    stays_by false false is same by = waits_stay before now (λ k. awaited_at (layer_settings c) s.layer k) (λ k. awaited_at (layer_settings c) next.layer k) ws
-        same are by
+    stays_by : (r n : Bool) → n ≡ r → 2 ≤ rank_of Up r (awaited s) → awaited next ≡ awaited s → IsBy r restart ws → Heeded n false
+    stays_by true true is two same by = runs_still bound 0 restart (deadline now times.t20) by
+    stays_by true false is two same by = absurd (true≢false (sym is))
+    stays_by false true is two same by = absurd (true≢false is)
+    stays_by false false is two same by = waits_stay before now (λ k. awaited_at (layer_settings c) s.layer k) (λ k. awaited_at (layer_settings c) next.layer k)
+        (λ k. unacknowledged_at (layer_settings c) s.layer k) (λ k. unacknowledged_at (layer_settings c) next.layer k) ws same (any_of (awaited s) two) are by
 
     falls_by : (r n : Bool) → s.layer.restarting ≡ r → 2 ≤ rank_of Up r (awaited s) → 2 ≤ rank_of Up n (awaited next)
         → rank_of Up n (awaited next) < rank_of Up r (awaited s) → is_call (awaited next) ≡ false → InTime r (awaited s) now → Heeded n false
@@ -319,7 +350,8 @@ module _ (c : Settings) (times : Times) (h bound : ℕ) (first : Awaits) (set : 
         subst (λ (o : Option ℕ). Ends bound (running true false o (deadline now times.t20)) 0) (sym (off is))
         (begins_at bound small now times.t20 0 set.t20 more)
     falls_by false false is two three low no_call late =
-        waits_fall before now (λ k. awaited_at (layer_settings c) s.layer k) (λ k. awaited_at (layer_settings c) next.layer k) ws
+        waits_fall before now (λ k. awaited_at (layer_settings c) s.layer k) (λ k. awaited_at (layer_settings c) next.layer k)
+        (λ k. unacknowledged_at (layer_settings c) s.layer k) (λ k. unacknowledged_at (layer_settings c) next.layer k) ws
         (is_another (awaited s) (awaited next) three low no_call) late are
 
     fallen : rank_of Up next.layer.restarting (awaited next) < rank_of Up s.layer.restarting (awaited s) → is_call (awaited next) ≡ false
@@ -327,11 +359,11 @@ module _ (c : Settings) (times : Times) (h bound : ℕ) (first : Awaits) (set : 
     fallen low no_call late = falls_by s.layer.restarting next.layer.restarting refl high higher low no_call late
 
     stayed : AwaitsStill c s next h → IsBy s.layer.restarting restart ws → Heeded next.layer.restarting false
-    stayed still by = stays_by s.layer.restarting next.layer.restarting still.restarting still.awaits by
+    stayed still by = stays_by s.layer.restarting next.layer.restarting still.restarting high still.awaits by
 
   -- of a station whose link is up, and of deadlines that are true of it
   module _ (before now : ℕ) (s : Station) (high : 2 ≤ rank c s h) (d : Deadlines) (off : s.layer.restarting ≡ false → d.restart ≡ None)
-      (are : AreAwaited times before (λ k. awaited_at (layer_settings c) s.layer k) d.waits) where
+      (are : AreAwaited times before (λ k. awaited_at (layer_settings c) s.layer k) (λ k. unacknowledged_at (layer_settings c) s.layer k) d.waits) where
     up : is_up s.link.phase ≡ true
     up = is_up_high s.link.phase s.layer.restarting (awaited s) high
 
@@ -347,10 +379,10 @@ module _ (c : Settings) (times : Times) (h bound : ℕ) (first : Awaits) (set : 
     -- what a step tells of the link
     noted : (event : timer.StationEvent) (step : Step) → tells_link step.entries ≡ false
         → IsBy step.near.layer.restarting (running step.near.layer.restarting false d.restart (deadline now times.t20))
-        (heeded_waits now (λ k. awaited_at (layer_settings c) step.near.layer k) d.waits) → Behind event (Did step)
+        (heeded_waits now (λ k. awaited_at (layer_settings c) step.near.layer k) (λ k. unacknowledged_at (layer_settings c) step.near.layer k) d.waits) → Behind event (Did step)
     noted event step quiet by =
         subst (λ (b : Bool). IsBy step.near.layer.restarting (running step.near.layer.restarting b d.restart (deadline now times.t20))
-        (heeded_waits now (λ k. awaited_at (layer_settings c) step.near.layer k) d.waits)) (sym quiet) by
+        (heeded_waits now (λ k. awaited_at (layer_settings c) step.near.layer k) (λ k. unacknowledged_at (layer_settings c) step.near.layer k) d.waits)) (sym quiet) by
 
     higher_up : (next : Station) → 2 ≤ rank c next h → (rank c next h ≡ rank_of Up next.layer.restarting (awaited next))
         × (2 ≤ rank_of Up next.layer.restarting (awaited next))
@@ -394,6 +426,22 @@ module _ (c : Settings) (times : Times) (h bound : ℕ) (first : Awaits) (set : 
           not_same false same at_h = refl
           not_same true same at_h = absurd (true≢false (sym (eq-eqb k h (sym (eqb-true w.channel k same) ∙ at_h)) ∙ other))
 
+  -- T25 of a channel leaves what is awaited
+  rotated_on : (now k : ℕ) (ws : List Wait) → OnChannel ws → OnChannel (map (rotated times now k) ws)
+  rotated_on now k [] on = tt
+  rotated_on now k (w ∷ ws) on = (by (not (w.channel == k)), rotated_on now k ws on.1)
+    where
+      by : (b : Bool)
+          → (let x : Wait = if b then w else record {
+            channel = w.channel;
+            awaits = w.awaits;
+            until = w.until;
+            unacknowledged = w.unacknowledged;
+            rotates = since (is_some w.unacknowledged) now times.t25;
+          } in x.channel ≡ h → Ends bound x.until (left x.awaits))
+      by true = on.0
+      by false = on.0
+
   -- the rank falls, or LinkDown is told
   abbrev FallsOrTells : Station → Due → Type 0
   FallsOrTells s what = Falls c h s what ⊎ (tells (timer.outcome c s (asks c s what)) ≡ true)
@@ -402,13 +450,6 @@ module _ (c : Settings) (times : Times) (h bound : ℕ) (first : Awaits) (set : 
   relinks laws s what up is =
       let found = laws.relink c s up in
       ap (λ (x : Due). tells (timer.outcome c s (event_for x))) is ∙ ap tells found.1 ∙ ap tells_link found.2.entries
-
-  room_or_full : (n : ℕ) → n ≤ 256 → ((n == 256) ≡ true) ⊎ (n < 256)
-  room_or_full n few = test (n == 256) refl
-    where
-      test : (b : Bool) → (n == 256) ≡ b → ((n == 256) ≡ true) ⊎ (n < 256)
-      test true is = inl is
-      test false is = inr (omega (arith, few, (λ (same : n ≡ 256). true≢false (sym (eq-eqb n 256 same) ∙ is))))
 
   -- it is asked by a packet, where there is room for one
   sent : Laws → (s : Station) (what it : Due) → is_up s.link.phase ≡ true → what ≡ it → waits s.link.outgoing ≤ 256
@@ -536,7 +577,8 @@ module _ (c : Settings) (times : Times) (h bound : ℕ) (first : Awaits) (set : 
       itself asked at_h true is by = goes (subst (λ (r : Bool). IsBy r e.restart e.waits) (sym is)
           (subst (λ (x : Option ℕ). Ends bound x 0) (sym asked.restart) by))
       itself asked at_h false is by =
-          let awaits : asked.wait.awaits ≡ awaited s = overdue_is times w.now now (λ k. awaited_at (layer_settings c) s.layer k) d.waits asked.wait
+          let awaits : asked.wait.awaits ≡ awaited s = overdue_is times w.now now (λ k. awaited_at (layer_settings c) s.layer k)
+          (λ k. unacknowledged_at (layer_settings c) s.layer k) d.waits asked.wait
           true_now.waits asked.found ∙ ap (λ (k : ℕ). awaited_at (layer_settings c) s.layer k) at_h in
           let asks_it : asked_for h (awaited s) ≡ Some what = sym (ap (λ (k : ℕ). asked_for k asked.wait.awaits) at_h ∙ ap (asked_for h) awaits) ∙ asked.is in
           let same : rank c s h ≡ rank_in (awaited s) = rank_up s.link.phase s.layer.restarting (awaited s) is_up_now
@@ -552,10 +594,15 @@ module _ (c : Settings) (times : Times) (h bound : ℕ) (first : Awaits) (set : 
       none asked true by = subst (λ (x : Option ℕ). Ends bound x 0) (sym asked.restart) by
       none asked false by = subst (λ (ws : List Wait). OnChannel ws) (sym asked.waits) by
 
+      rotates : AsksRotation times now d e what → (r : Bool) → IsBy r d.restart d.waits → IsBy r e.restart e.waits
+      rotates asked true by = subst (λ (x : Option ℕ). Ends bound x 0) (sym asked.restart) by
+      rotates asked false by = subst (λ (ws : List Wait). OnChannel ws) (sym asked.waits) (rotated_on now asked.channel d.waits by)
+
       on : WhatIsAsked times now d what e → Behind now now s high e then_true.restart.off then_true.waits event o
       on (inl asked) = goes (none asked s.layer.restarting by)
       on (inr (inl asked)) = goes (relinked asked s.layer.restarting refl by)
-      on (inr (inr asked)) = on_wait asked (asked.wait.channel == h) refl
+      on (inr (inr (inl asked))) = on_wait asked (asked.wait.channel == h) refl
+      on (inr (inr (inr asked))) = goes (rotates asked s.layer.restarting by)
 
   deed_by : Laws → (w : Watched) (deed : Deed) → AreTrue c times w → 2 ≤ rank c w.station h → IsFounded deed w → IsKept w.station
       → tells (outcome_of c deed w) ≡ false → 2
@@ -570,15 +617,6 @@ module _ (c : Settings) (times : Times) (h bound : ℕ) (first : Awaits) (set : 
 
   -- ---- deed after deed
 
-  deed_true : (w : Watched) (deed : Deed) → AreTrue c times w → AreTrue c times (done c times deed w)
-  deed_true w (Happens later event) true_now = happens_true c times w later event (timer.outcome c w.station event) true_now
-  deed_true w (IsAsked later what) true_now =
-      let found : Watched = found_by times (IsAsked later what) w in
-      let nothing : found.now + 0 ≡ found.now = omega arith in
-      let event : timer.StationEvent = asks c w.station what in
-      subst (λ (n : ℕ). AreTrue c times (heeds c times n event (timer.outcome c w.station event) found)) nothing
-      (happens_true c times found 0 event (timer.outcome c w.station event) (due_true c times w later true_now))
-
   higher_next : (deeds : List Deed) (w : Watched) → AwaitsAll c times h deeds w → 2 ≤ rank c w.station h
   higher_next [] w all = all
   higher_next (deed ∷ deeds) w all = all.0
@@ -590,23 +628,17 @@ module _ (c : Settings) (times : Times) (h bound : ℕ) (first : Awaits) (set : 
   all_by laws keeps (deed ∷ deeds) w true_now kept obeyed all low by =
       let late : InTime w.station.layer.restarting (awaited w.station) (w.now + later_by deed) = in_time w (w.now + later_by deed) true_now all.0 obeyed.1 by in
       let v : Watched = done c times deed w in
-      all_by laws keeps deeds v (deed_true w deed true_now) (deed_kept keeps c times w deed kept) obeyed.2 all.2
+      all_by laws keeps deeds v (deed_true c times w deed true_now) (deed_kept keeps c times w deed kept) obeyed.2 all.2
       (now_in_time w.station.layer.restarting (awaited w.station) (w.now + later_by deed) late)
       (deed_by laws w deed true_now all.0 obeyed.0 kept all.1 (higher_next deeds v all.2) by late)
 
 -- ---- where it begins
 
 module _ (c : Settings) (times : Times) (h : ℕ) (first : Awaits) (set : AreSet times first) where
-  ends_by : (bound now time more : ℕ) (until : Option ℕ) → (few : bound < 2 ^ 64) → 0 < time → now + (time + more) ≤ bound → IsSince now time until
-      → Ends bound until more
-  ends_by bound now time more until few positive low since =
-      let past : since.since ≤ now = since.past in
-      subst (λ (o : Option ℕ). Ends bound o more) (sym since.is) (begins_at bound few since.since time more positive (omega (arith, low, past)))
-
-  first_on : (bound now : ℕ) (few : bound < 2 ^ 64) (f : ℕ → Awaits) (ws : List Wait) → f h ≡ first → bound ≡ now + longest_wait times false first
-      → 2 ≤ rank_in first → AreAwaited times now f ws → OnChannel c times h bound first set few ws
-  first_on bound now few f [] same is high are = tt
-  first_on bound now few f (w ∷ ws) same is high are = (first_wait, first_on bound now few f ws same is high are.1)
+  first_on : (bound now : ℕ) (few : bound < 2 ^ 64) (f : ℕ → Awaits) (g : ℕ → Option ℕ) (ws : List Wait) → f h ≡ first
+      → bound ≡ now + longest_wait times false first → 2 ≤ rank_in first → AreAwaited times now f g ws → OnChannel c times h bound first set few ws
+  first_on bound now few f g [] same is high are = tt
+  first_on bound now few f g (w ∷ ws) same is high are = (first_wait, first_on bound now few f g ws same is high are.1)
     where
       at : (a : Awaits) → first ≡ a → bound ≡ now + longest_wait times false a → 2 ≤ rank_in a → IsSince now (time_of times a) w.until
           → Ends bound w.until (left c times h bound first set few a)
@@ -632,7 +664,8 @@ module _ (c : Settings) (times : Times) (h : ℕ) (first : Awaits) (set : AreSet
       let a : Awaits = awaited_at (layer_settings c) w.station.layer h in
       let up : is_up w.station.link.phase ≡ true = is_up_high w.station.link.phase w.station.layer.restarting a high in
       let two : rank c w.station h ≡ rank_in a = rank_up w.station.link.phase w.station.layer.restarting a up ∙ ap (λ (r : Bool). rank_of Up r a) is in
-      first_on bound w.now few (λ k. awaited_at (layer_settings c) w.station.layer k) w.deadlines.waits at_first same
+      first_on bound w.now few (λ k. awaited_at (layer_settings c) w.station.layer k) (λ k. unacknowledged_at (layer_settings c) w.station.layer k)
+      w.deadlines.waits at_first same
       (subst (λ (n : ℕ). 2 ≤ n) (two ∙ ap rank_in at_first) high) true_now.waits
 
 pub nothing_waits : ResetLeadsOn → ClearLeadsOn → RestartLeadsOn → RelinkLeadsOn → NothingLeadsBack → Keeps → NothingWaits

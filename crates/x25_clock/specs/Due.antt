@@ -19,11 +19,12 @@ use Rattle.x25_clock.specs.declared.due.Due.{Due}
 use Rattle.x25_clock.specs.declared.due.Due.TheVariants as due
 pub mod Asking
 
--- T1 fires, and is no command
+-- T1 fires, and is no command. A reset for T25 has a diagnostic of its own (profile).
 abbrev pub command_for : Due → Option Command
 command_for due.T1 = None
 command_for due.Probe = Some Probes
 command_for (due.Reset h) = Some (Requests (layer.Asks h (Resets 0 0)))
+command_for (due.ResetUnacknowledged h) = Some (Requests (layer.Asks h (Resets 0 146)))
 command_for (due.Clear h) = Some (Requests (layer.Asks h (Clears 0 0)))
 command_for (due.Restart h) = Some (Requests (layer.Restarts 0 0))
 command_for due.Relink = Some Relinks
@@ -44,6 +45,7 @@ abbrev pub is_packet : Due → Bool
 is_packet due.T1 = false
 is_packet due.Probe = false
 is_packet (due.Reset h) = true
+is_packet (due.ResetUnacknowledged h) = true
 is_packet (due.Clear h) = true
 is_packet (due.Restart h) = true
 is_packet due.Relink = false
@@ -66,6 +68,7 @@ channel_for due.T1 = 0
 channel_for due.Probe = 0
 channel_for due.Relink = 0
 channel_for (due.Reset h) = h
+channel_for (due.ResetUnacknowledged h) = h
 channel_for (due.Clear h) = h
 channel_for (due.Restart h) = h
 
@@ -74,6 +77,7 @@ abbrev pub timer_number : Role → Awaits → Due → ℕ
 timer_number end awaits due.T1 = 1
 timer_number end awaits due.Probe = 3
 timer_number end awaits (due.Reset h) = 26
+timer_number end awaits (due.ResetUnacknowledged h) = 25
 timer_number Dte awaits due.Relink = 20
 timer_number Dce awaits due.Relink = 10
 timer_number Dte ResetConfirmation (due.Clear h) = 22

@@ -1,10 +1,10 @@
-//! What is awaited on channels; of those on which nothing is under way nothing is looked at.
+//! What is under way on channels; those on which nothing is aren't looked at.
 ghost use Rattle.std.specs.Prelude.{◌≡◌, ℕ, suc, ◌+◌, ◌<◌, ◌≤◌, drop, length, map, vec_capacity, IfSome, IfNone};
-ghost use Rattle.x25_layer.specs.code.FitsLayer.{awaited_at};
+ghost use Rattle.x25_layer.specs.code.FitsLayer.{awaited_at, unacknowledged_at};
 ghost use Rattle.x25_station.specs.code.FitsStation.{FitsStation};
 ghost use Rattle.x25_station.specs.Config.{Settings, layer_settings};
 ghost use Rattle.x25_station.specs.Station.{Station as State};
-ghost use Rattle.x25_clock.specs.Clock.{first_of, heeded_on, overdue_of, renewed, wait_at};
+ghost use Rattle.x25_clock.specs.Clock.{first_of, heeded_on, overdue_of, renewed, rotated, unmoved_of, wait_at};
 ghost use Rattle.x25_clock.specs.Awaited.{AreListed, AwaitsNone};
 
 use crate::times::Times;
@@ -17,18 +17,30 @@ pub(crate) fn soonest(waits: &[Wait], moment: Option<u64>) -> Option<u64>
 {
     let mut first = moment;
     for wait in waits {
-        first = sooner(first, wait.until);
+        first = sooner(sooner(first, wait.until), wait.rotates);
     }
     first
 }
 
-/// The first of these whose moment has come.
+/// The first of these of which an answer is due.
 pub(crate) fn overdue_in(waits: &[Wait], now: u64) -> Option<Wait>
     ensures { result ≡ overdue_of now waits.now }
 {
     for wait in waits {
         if is_past(wait.until, now) {
             return Some(*wait);
+        }
+    }
+    None
+}
+
+/// The channel of the first of these of which a data packet wasn't acknowledged in time.
+pub(crate) fn unmoved_in(waits: &[Wait], now: u64) -> Option<u16>
+    ensures { result ≡ unmoved_of now waits.now }
+{
+    for wait in waits {
+        if is_past(wait.rotates, now) {
+            return Some(wait.channel);
         }
     }
     None
@@ -44,14 +56,26 @@ pub(crate) fn renew_in(waits: &mut Vec<Wait>, times: Times, now: u64, channel: u
     }
 }
 
+/// The time of a data packet on a channel begins anew.
+pub(crate) fn rotate_in(waits: &mut Vec<Wait>, times: Times, now: u64, channel: u16)
+    ensures items { waits.new.items ≡ map (rotated times now channel) waits.old.items }
+    ensures places { vec_capacity waits.new ≡ vec_capacity waits.old }
+{
+    for wait in waits.iter_mut() {
+        *wait = wait.rotated(times, now, channel);
+    }
+}
+
 // The next channel after one, up to a number, on which something may be under way.
 fn busy_after(station: &Station, past: u16, most: u16) -> Option<u16>
     ensures higher { IfSome result (λ h. past < h) }
     ensures within { IfSome result (λ h. h ≤ most) }
     ensures between { (c : Settings) (s : State) → FitsStation c station.now s
-        → IfSome result (λ h. AwaitsNone (awaited_at (layer_settings c) s.layer) past h) }
+        → IfSome result (λ h. AwaitsNone (awaited_at (layer_settings c) s.layer)
+        (unacknowledged_at (layer_settings c) s.layer) past h) }
     ensures none { (c : Settings) (s : State) → FitsStation c station.now s
-        → IfNone result (AwaitsNone (awaited_at (layer_settings c) s.layer) past (most + 1)) }
+        → IfNone result (AwaitsNone (awaited_at (layer_settings c) s.layer)
+        (unacknowledged_at (layer_settings c) s.layer) past (most + 1)) }
 {
     match station.busy_after(past) {
         Some(channel) => {
@@ -84,7 +108,7 @@ fn find(waits: &[Wait], at: usize, channel: u16) -> (usize, Wait)
     (waits.len(), Wait::nothing_on(channel))
 }
 
-/// Makes the list of what is awaited on channels up to a number, by what was listed.
+/// Makes the list of what is under way on channels up to a number, by what was listed.
 pub(crate) fn list_all(
     old: &[Wait],
     list: &mut Vec<Wait>,
@@ -105,11 +129,9 @@ pub(crate) fn list_all(
     let mut past = 0;
     while let Some(channel) = busy_after(station, past, most) {
         past = channel;
-        let awaits = station.channel(channel).awaits;
-        if awaits.is_any() {
-            let (place, wait) = find(old, at, channel);
-            at = place;
-            list.push_reserved(wait.heed(times, now, awaits));
-        }
+        let (place, wait) = find(old, at, channel);
+        at = place;
+        let stands = station.channel(channel);
+        list.push_reserved(wait.heed(times, now, stands.awaits, stands.unacknowledged));
     }
 }

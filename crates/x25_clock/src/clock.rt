@@ -4,7 +4,7 @@ ghost use Rattle.x25_station.specs.code.FitsStation.{FitsStation};
 ghost use Rattle.x25_station.specs.Config.{Settings, layer_settings};
 ghost use Rattle.x25_station.specs.Station.{Station as State};
 
-use crate::awaited::{list_all, overdue_in, renew_in, soonest};
+use crate::awaited::{list_all, overdue_in, renew_in, rotate_in, soonest, unmoved_in};
 use crate::due::Due;
 use crate::times::Times;
 use crate::wait::{Wait, deadline, is_heard, is_past, running, since, sooner};
@@ -12,8 +12,9 @@ use std::alloc::{AllocError, Global};
 use std::mem;
 use x25_station::{Station, Step, Timer};
 
-/// The deadlines of a station: of T1, of an idle link, of a restart, and of what is awaited on each channel. It holds
-/// two lists of these, each with a place for each channel, which are made in `new`.
+/// The deadlines of a station: of T1, of an idle link, of a restart, and on each channel of what is awaited and of a
+/// data packet that isn't acknowledged. It holds two lists of these, each with a place for each channel, which are made
+/// in `new`.
 ///
 /// After each step of the station, pulls among it, it is to `heed` that. `next` says when something is due, if nothing
 /// happens before; then `due` says what is to be asked, one after another, each to be heeded in turn.
@@ -24,7 +25,7 @@ pub struct Clock {
     idle: Option<u64>,
     restart: Option<u64>,
     channels: u16,
-    /// What is awaited on channels, in rising order.
+    /// What is under way on channels, in rising order.
     waits: Vec<Wait>,
     ghost listed: { AreListed channels 0 waits.items } by { listed_is_fact channels 0 waits.items },
     ghost places: { vec_capacity waits ≡ channels },
@@ -36,7 +37,7 @@ pub struct Clock {
 impl Clock {
     ghost use Rattle.std.specs.Prelude.{IfOk};
     ghost use Rattle.x25_clock.specs.Clock.{after_due, due_of, heeded, heeded_on, next_of, nothing_awaited, overdue_of};
-    ghost use Rattle.x25_clock.specs.Clock.{begun, most_due, plain, renewed, seen};
+    ghost use Rattle.x25_clock.specs.Clock.{begun, most_due, plain, renewed, rotated, seen, unmoved_of};
 
     /// The clock of a station with so many channels (`Station::channels`) whose link is down.
     ///
@@ -100,7 +101,7 @@ impl Clock {
         self.heed_channels(now, station);
     }
 
-    // What is awaited on channels.
+    // What is under way on channels.
     fn heed_channels(&mut self, now: u64, station: &Station)
         ensures waits { (c : Settings) (s : State) → FitsStation c station.now s → (plain self.new).waits
             ≡ map (heeded_on self.old.times now (layer_settings c) s.layer) (plain self.old).waits }
@@ -128,12 +129,12 @@ impl Clock {
         soonest(self.waits.as_slice(), first)
     }
 
-    /// How much may be due at one moment, each asked for once: T1, an idle link, a restart, and what each channel
-    /// awaits.
+    /// How much may be due at one moment, each asked for once: T1, an idle link, a restart, and of each channel what it
+    /// awaits and T25.
     pub fn most_due(&self) -> usize
         ensures { result ≡ most_due (plain self.now) }
     {
-        3 + usize::from(self.channels)
+        3 + 2 * usize::from(self.channels)
     }
 
     // The first channel on which an answer is due.
@@ -153,9 +154,26 @@ impl Clock {
         renew_in(&mut self.waits, self.times, now, channel);
     }
 
-    /// What is to be asked at a moment: T1, then what wasn't answered, a restart before channels in rising order, and
-    /// then an idle link; none where nothing is due. Its time begins anew, so that it is asked again where it is
-    /// refused.
+    // The first channel on which T25 has passed.
+    fn unmoved(&self, now: u64) -> Option<u16>
+        ensures { result ≡ unmoved_of now (plain self.now).waits }
+    {
+        unmoved_in(self.waits.as_slice(), now)
+    }
+
+    // T25 of a channel begins anew.
+    fn rotate(&mut self, now: u64, channel: u16)
+        ensures waits { (plain self.new).waits ≡ map (rotated self.old.times now channel) (plain self.old).waits }
+        ensures kept { plain self.new ≡ record (plain self.old) { waits = (plain self.new).waits } }
+        ensures times { self.new.times ≡ self.old.times }
+        ensures channels { self.new.channels ≡ self.old.channels }
+    {
+        rotate_in(&mut self.waits, self.times, now, channel);
+    }
+
+    /// What is to be asked at a moment: T1, then what wasn't answered, a restart before channels in rising order, then
+    /// those on which T25 has passed, and then an idle link; none where nothing is due. Its time begins anew, so that
+    /// it is asked again where it is refused.
     pub fn due(&mut self, now: u64) -> Option<Due>
         ensures due { result ≡ due_of now (plain self.old) }
         ensures after { plain self.new ≡ after_due self.old.times now (plain self.old) }
@@ -174,6 +192,10 @@ impl Clock {
         if let Some(wait) = self.overdue(now) {
             self.renew(now, wait.channel);
             return wait.due();
+        }
+        if let Some(channel) = self.unmoved(now) {
+            self.rotate(now, channel);
+            return Some(Due::ResetUnacknowledged { channel });
         }
         if is_past(self.idle, now) {
             self.idle = deadline(now, times.t3);

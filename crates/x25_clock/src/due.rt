@@ -15,6 +15,8 @@ pub enum Due {
     Probe,
     /// `Cmd::Reset`: an interrupt wasn't confirmed, T26.
     Reset { channel: u16 },
+    /// `Cmd::Reset` with diagnostic 146: a data packet wasn't acknowledged, T25.
+    ResetUnacknowledged { channel: u16 },
     /// `Cmd::Clear`: no answer came to a call, T21, or to a reset, T22.
     Clear { channel: u16 },
     /// `Cmd::Restart`: clearing a channel wasn't confirmed, T23.
@@ -22,6 +24,9 @@ pub enum Due {
     /// `Cmd::Relink`: a restart wasn't confirmed, T20.
     Relink,
 }
+
+// The diagnostic of a reset for T25.
+const TIMER_EXPIRED: u8 = 146;
 
 // Whether it is refused since 256 packets wait.
 fn is_full(error: StationError) -> bool
@@ -43,6 +48,11 @@ impl Due {
                 cause: 0,
                 diagnostic: 0,
             }),
+            Due::ResetUnacknowledged { channel } => Some(Cmd::Reset {
+                channel,
+                cause: 0,
+                diagnostic: TIMER_EXPIRED,
+            }),
             Due::Clear { channel } => Some(Cmd::Clear {
                 channel,
                 cause: 0,
@@ -61,10 +71,13 @@ impl Due {
     fn is_packet(self) -> bool
         ensures { result ≡ is_packet self }
     {
-        matches!(
-            self,
-            Due::Reset { .. } | Due::Clear { .. } | Due::Restart { .. }
-        )
+        match self {
+            Due::T1 | Due::Probe | Due::Relink => false,
+            Due::Reset { .. }
+            | Due::ResetUnacknowledged { .. }
+            | Due::Clear { .. }
+            | Due::Restart { .. } => true,
+        }
     }
 
     // Asks this and nothing else.
@@ -101,12 +114,15 @@ impl Due {
     {
         match self {
             Due::T1 | Due::Probe | Due::Relink => 0,
-            Due::Reset { channel } | Due::Clear { channel } | Due::Restart { channel } => channel,
+            Due::Reset { channel }
+            | Due::ResetUnacknowledged { channel }
+            | Due::Clear { channel }
+            | Due::Restart { channel } => channel,
         }
     }
 
-    /// The number in the name of the timer that has passed at an end that awaits this on its channel: of T1, T3 and
-    /// T26, T20 to T23 of a DTE, T10 to T13 of a DCE.
+    /// The number in the name of the timer that has passed at an end that awaits this on its channel: of T1, T3, T25
+    /// and T26, T20 to T23 of a DTE, T10 to T13 of a DCE.
     pub fn timer(self, end: Role, awaits: Awaits) -> u8
         ensures { result ≡ timer_number end awaits self }
     {
@@ -114,6 +130,7 @@ impl Due {
             (_, Due::T1, _) => 1,
             (_, Due::Probe, _) => 3,
             (_, Due::Reset { .. }, _) => 26,
+            (_, Due::ResetUnacknowledged { .. }, _) => 25,
             (Role::Dte, Due::Relink, _) => 20,
             (Role::Dce, Due::Relink, _) => 10,
             (Role::Dte, Due::Clear { .. }, Awaits::ResetConfirmation) => 22,

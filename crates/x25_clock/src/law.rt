@@ -1,19 +1,23 @@
 //! What deadlines stand for, and what they are good for: laws, each the contract of a function that does nothing.
 ghost use Rattle.x25_clock.specs.laws.AnswerLaw.{AnswerIsTold};
-ghost use Rattle.x25_clock.specs.laws.ClockLaw.{DeadlinesAreTrue};
+ghost use Rattle.x25_clock.specs.laws.ClockLaw.{DeadlinesAreTrue, TrueStays};
 ghost use Rattle.x25_clock.specs.laws.PullLaw.{PullIsHeeded};
 ghost use Rattle.x25_clock.specs.laws.SilenceLaw.{IdleIsAsked, IdleIsSinceHeard, NoiseIsUnheard, SilenceEnds};
-ghost use Rattle.x25_clock.specs.laws.WaitLaw.{NothingWaits};
+ghost use Rattle.x25_clock.specs.laws.WaitLaw.{NothingWaits, WindowRotates};
 ghost use Rattle.x25_clock.specs.rows.SilentRows.{SilentPeerIsLeft};
 
-use x25_station::{silence_is_asked, stations_ask_or_rest, steps_keep_bounds, ways_out_lead_on};
+use x25_station::{
+    silence_is_asked, stations_ask_or_rest, steps_keep_bounds, steps_leave_none, ways_out_lead_on,
+};
 
 /// Over any events of a station at any times, each of them heeded, and with what is due asked for at any moments: the
 /// deadline of T1 stands exactly while T1 runs, that of an idle link while it is at rest, that of a restart while one
-/// is under way, and that of each channel for the answer that it awaits; each is its time after a moment since which it
-/// is so, or none where that is for ever.
+/// is under way, and those of each channel for the answer that it awaits, and for the first data packet that isn't
+/// acknowledged; each is its time after a moment since which it is so, or none where that is for ever. Deadlines of
+/// which that is so stay such.
 pub fn awaited_deadlines_are_true()
-    ensures { DeadlinesAreTrue }
+    ensures so { DeadlinesAreTrue }
+    ensures stays { TrueStays }
 {}
 
 /// No silence of the other end leaves a channel waiting. One who heeds each event, lets no moment pass at which
@@ -23,6 +27,17 @@ pub fn awaited_deadlines_are_true()
 /// packets wait in the link as a reset, a clear or a restart is asked, the link is set up anew, and LinkDown is told.
 pub fn nothing_waits_for_ever()
     ensures { NothingWaits }
+{
+    ways_out_lead_on();
+    steps_keep_bounds();
+}
+
+/// Nor does a window stand still. One who obeys his clock so sees the first data packet that isn't acknowledged stay
+/// the first no longer than T25, while the other end is ready to receive, or hears of LinkUp or LinkDown before, where
+/// T25 isn't for ever: each P(R) that moves begins it anew, RNR stops it, and as it passes the channel is reset, or the
+/// link is set up anew.
+pub fn windows_rotate()
+    ensures { WindowRotates }
 {
     ways_out_lead_on();
     steps_keep_bounds();
@@ -61,9 +76,11 @@ pub fn silent_peer_is_left()
 
 /// One who pulls behind a step may heed both at once: what T1 became at both (`timer_pulled`), what the step tells, and
 /// the station behind the pull. His deadlines are then those of one who heeds the step and the pull in turn, at one
-/// moment. So what these laws say of one who heeds each is true of him. The link is settled, as from a new station on.
+/// moment. So what these laws say of one who heeds each is true of him. The link is settled and the deadlines are true,
+/// as from a new station on.
 pub fn pulls_are_heeded_at_once()
     ensures { PullIsHeeded }
 {
     stations_ask_or_rest();
+    steps_leave_none();
 }

@@ -18,6 +18,9 @@ pub struct Times {
     pub t22: u32,
     /// T23, or T13: clearing is confirmed.
     pub t23: u32,
+    /// T25: a data packet is acknowledged, counted anew as P(R) moves, and not while the other end isn't ready to
+    /// receive. For ever unless it is set (profile).
+    pub t25: u32,
     /// T26: an interrupt is confirmed. Annex D has none of a DCE.
     pub t26: u32,
 }
@@ -35,6 +38,7 @@ impl Times {
                 t21: 200_000,
                 t22: 180_000,
                 t23: 180_000,
+                t25: 0,
                 t26: 180_000,
             },
             Role::Dce => Times {
@@ -44,6 +48,7 @@ impl Times {
                 t21: 180_000,
                 t22: 60_000,
                 t23: 60_000,
+                t25: 0,
                 t26: 0,
             },
         }

@@ -1,19 +1,22 @@
-//! Deadlines, and the answer that is awaited on a channel.
-ghost use Rattle.std.specs.Prelude.{◌≡◌, ◌==◌, not};
+//! Deadlines, and what is under way on a channel: the answer that is awaited, and a data packet.
+ghost use Rattle.std.specs.Prelude.{◌≡◌};
 ghost use Rattle.x25_clock.specs.Clock.{deadline, is_heard, is_past, number_of, running, since, sooner, time_of};
-ghost use Rattle.x25_clock.specs.Clock.{due_on, nothing_on, renewed, wait_after};
+ghost use Rattle.x25_clock.specs.Clock.{due_on, is_same, nothing_on, renewed, rotated, wait_after};
 
 use crate::due::Due;
 use crate::times::Times;
 use x25_layer::Awaits;
 use x25_station::Step;
 
-/// What is awaited on a channel, and until when; no moment where it may take for ever.
+/// What is awaited on a channel, and until when; P(S) of the first data packet that isn't acknowledged, and until when
+/// P(R) is to move. No moment where that may take for ever.
 #[derive(Clone, Copy)]
 pub(crate) struct Wait {
     pub(crate) channel: u16,
     pub(crate) awaits: Awaits,
     pub(crate) until: Option<u64>,
+    pub(crate) unacknowledged: Option<u8>,
+    pub(crate) rotates: Option<u64>,
 }
 
 /// So much later, where it isn't for ever and there is such a moment.
@@ -101,8 +104,18 @@ pub(crate) fn time_of(times: Times, awaits: Awaits) -> u32
     }
 }
 
+// Whether both are there and the same.
+fn is_same(one: Option<u8>, other: Option<u8>) -> bool
+    ensures { result ≡ is_same one other }
+{
+    match (one, other) {
+        (Some(number), Some(another)) => number == another,
+        _ => false,
+    }
+}
+
 impl Wait {
-    /// Nothing is awaited on a channel.
+    /// Nothing is awaited on a channel, and all is acknowledged.
     pub(crate) fn nothing_on(channel: u16) -> Wait
         ensures { result ≡ nothing_on channel }
     {
@@ -110,20 +123,26 @@ impl Wait {
             channel,
             awaits: Awaits::Nothing,
             until: None,
+            unacknowledged: None,
+            rotates: None,
         }
     }
 
-    /// As this is awaited: another answer than before has its time from now on.
-    pub(crate) fn heed(self, times: Times, now: u64, awaits: Awaits) -> Wait
-        ensures { result ≡ wait_after times now awaits self }
+    /// As this is awaited, and this is the first data packet that isn't acknowledged: another one than before has its
+    /// time from now on.
+    pub(crate) fn heed(self, times: Times, now: u64, awaits: Awaits, first: Option<u8>) -> Wait
+        ensures { result ≡ wait_after times now awaits first self }
     {
-        if number(self.awaits) == number(awaits) {
-            return self;
-        }
+        let another = number(self.awaits) != number(awaits);
+        let answered = deadline(now, time_of(times, awaits));
+        let moved = !is_same(self.unacknowledged, first);
+        let rotates = deadline(now, times.t25);
         Wait {
             channel: self.channel,
             awaits,
-            until: deadline(now, time_of(times, awaits)),
+            until: running(awaits.is_any(), another, self.until, answered),
+            unacknowledged: first,
+            rotates: running(first.is_some(), moved, self.rotates, rotates),
         }
     }
 
@@ -148,9 +167,21 @@ impl Wait {
             return self;
         }
         Wait {
-            channel: self.channel,
-            awaits: self.awaits,
             until: deadline(now, time_of(times, self.awaits)),
+            ..self
+        }
+    }
+
+    /// The time of a data packet on a channel begins anew, where this is its.
+    pub(crate) fn rotated(self, times: Times, now: u64, channel: u16) -> Wait
+        ensures { result ≡ rotated times now channel self }
+    {
+        if self.channel != channel {
+            return self;
+        }
+        Wait {
+            rotates: since(self.unacknowledged.is_some(), now, times.t25),
+            ..self
         }
     }
 }

@@ -19,6 +19,7 @@ const ALIKE: Times = Times {
     t21: 210,
     t22: 0,
     t23: 0,
+    t25: 0,
     t26: 0,
 };
 
@@ -70,6 +71,7 @@ const RESETS: Times = Times {
     t21: 210,
     t22: 210,
     t23: 230,
+    t25: 150,
     t26: 220,
 };
 
@@ -153,6 +155,47 @@ static INTERRUPT_ANSWERED: [Row; 11] = [
     (255, CONFIRMED, 0, None, Some(1255), NONE),
     (300, INTERRUPT, 0, None, Some(310), INTERRUPTED),
     (301, RR_4, 0, None, Some(520), INTERRUPTED),
+];
+
+const SEND: Act = Act::Ask(Cmd::Send {
+    channel: 2,
+    q: false,
+    d: false,
+    user: &[7],
+});
+
+/// RNR of channel 2 with P(R) 0, RR with P(R) 0, and RR with P(R) 1.
+const NOT_READY: Act = Act::Take(&[0x03, 0x64, 0x10, 0x02, 0x05, 0x3B, 0xD8]);
+
+const READY: Act = Act::Take(&[0x03, 0x66, 0x10, 0x02, 0x01, 0x69, 0xA7]);
+
+const ONE_TAKEN: Act = Act::Take(&[0x03, 0x88, 0x10, 0x02, 0x21, 0xA3, 0x9C]);
+
+/// A data packet that isn't acknowledged is reset. RNR stops its time, RR begins it; another packet behind it leaves
+/// it, and P(R) that moves begins it anew.
+static DATA_UNANSWERED: [Row; 15] = [
+    (0, Act::Ask(Cmd::Connect), 0, None, Some(10), NONE),
+    (0, UA, 0, None, Some(10), RESTARTS),
+    (0, RR_1, 0, None, Some(200), RESTARTS),
+    (0, RESTART, 0, None, Some(1000), NONE),
+    (30, CALL, 0, None, Some(40), CALLED),
+    (31, RR_2, 0, None, Some(240), CALLED),
+    (240, ACCEPTED, 0, None, Some(1240), NONE),
+    (250, SEND, 0, None, Some(260), NONE),
+    (251, RR_3, 0, None, Some(400), NONE),
+    (300, NOT_READY, 0, None, Some(1300), NONE),
+    (350, READY, 0, None, Some(500), NONE),
+    (400, SEND, 0, None, Some(410), NONE),
+    (401, RR_4, 0, None, Some(500), NONE),
+    (450, ONE_TAKEN, 0, None, Some(600), NONE),
+    (
+        600,
+        Act::Obey,
+        0,
+        Some(Due::ResetUnacknowledged { channel: 2 }),
+        Some(610),
+        RESET,
+    ),
 ];
 
 /// What would be due later than any moment never is.
@@ -264,10 +307,11 @@ fn moments_are_told_apart(rt: HostRuntime) {
         odd_row_of(rt.alloc(), (2, RESETS), &ANSWERED),
         odd_row_of(rt.alloc(), (2, RESETS), &INTERRUPT_UNANSWERED),
         odd_row_of(rt.alloc(), (2, RESETS), &INTERRUPT_ANSWERED),
+        odd_row_of(rt.alloc(), (2, RESETS), &DATA_UNANSWERED),
         odd_row_of(rt.alloc(), (2, TIMES), &LAST),
         odd_row_of(rt.alloc(), (4095, TIMES), &ON_THE_HIGHEST),
         odd_row_of(rt.alloc(), (2, TIMES), &NOISE),
         odd_row_of(rt.alloc(), (2, TIMES), &BEGUN),
     ];
-    assert_eq!(rt; odd_rows, [Some(None); 9]);
+    assert_eq!(rt; odd_rows, [Some(None); 10]);
 }

@@ -12,6 +12,7 @@ pub(crate) const TIMES: Times = Times {
     t21: 210,
     t22: 0,
     t23: 230,
+    t25: 0,
     t26: 220,
 };
 

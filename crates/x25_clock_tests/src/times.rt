@@ -14,14 +14,14 @@ fn quiet(alloc: Global, now: u64, channels: u16) -> Option<(Option<u64>, Option<
 
 #[test]
 fn nothing_is_due_of_a_new_station(rt: HostRuntime) {
-    for &(now, channels, most) in &[(0, 1, 4), (1, 4095, 4098), (u64::MAX, 0, 3)] {
+    for &(now, channels, most) in &[(0, 1, 5), (1, 4095, 8193), (u64::MAX, 0, 3)] {
         let said = quiet(rt.alloc(), now, channels);
         assert_eq!(rt; said, Some((None, None, most)), "{now} {channels}");
     }
 }
 
-/// T1, T3, T20 to T23, and T26, in seconds.
-fn seconds(end: Role) -> [u32; 7] {
+/// T1, T3, T20 to T23, T25 and T26, in seconds.
+fn seconds(end: Role) -> [u32; 8] {
     let times = Times::standard(end);
     [
         times.t1 / 1000,
@@ -30,6 +30,7 @@ fn seconds(end: Role) -> [u32; 7] {
         times.t21 / 1000,
         times.t22 / 1000,
         times.t23 / 1000,
+        times.t25 / 1000,
         times.t26 / 1000,
     ]
 }
@@ -39,8 +40,8 @@ fn times_are_those_of_the_standard(rt: HostRuntime) {
     assert_eq!(rt;
         (seconds(Role::Dte), seconds(Role::Dce)),
         (
-            [3, 60, 180, 200, 180, 180, 180],
-            [3, 60, 60, 180, 60, 60, 0]
+            [3, 60, 180, 200, 180, 180, 0, 180],
+            [3, 60, 60, 180, 60, 60, 0, 0]
         )
     );
 }
@@ -71,7 +72,14 @@ fn is_asked(due: Due) -> u8 {
                 diagnostic: 0,
             },
         ) => 5,
-        Some(_) => 6,
+        Some(
+            Cmd::Reset {
+                channel: 2,
+                cause: 0,
+                diagnostic: 146,
+            },
+        ) => 6,
+        Some(_) => 7,
     }
 }
 
@@ -84,6 +92,7 @@ fn each_is_asked_by_its_command(rt: HostRuntime) {
         is_asked(Due::Restart { channel: 2 }),
         is_asked(Due::Relink),
         is_asked(Due::Reset { channel: 2 }),
+        is_asked(Due::ResetUnacknowledged { channel: 2 }),
     ];
-    assert_eq!(rt; asked, [0, 1, 2, 3, 4, 5]);
+    assert_eq!(rt; asked, [0, 1, 2, 3, 4, 5, 6]);
 }

@@ -17,7 +17,7 @@ use Rattle.x25_joined.specs.laws.Obeyed.{AnswerIsWritten, AreInTime, ClockIsObey
 use Rattle.x25_joined.specs.laws.Played.{Played, lines_plays}
 use Rattle.x25_link.specs.declared.phase.Phase.{Phase}
 use Rattle.x25_circuit.specs.declared.awaits.Awaits.{Awaits}
-use Rattle.x25_layer.specs.code.FitsLayer.{awaited_at}
+use Rattle.x25_layer.specs.code.FitsLayer.{awaited_at, unacknowledged_at}
 use Rattle.x25_pipe.specs.Pipe.{asked_act, event_in, nothing_act}
 unfoldable use Rattle.x25_pipe.specs.Timed.{due_turns, timed_turn, timed_turns}
 use Rattle.x25_pipe.specs.Timed.{Timed, TimedTurn, act_turn, answer_turn, due_first, insist_turn, moment_of, new_timed, pass_turn, seen_at, time_said, told_due}
@@ -80,7 +80,8 @@ module _ (new : NewIsSettled) (stays : StaysSettled) (goes : PullsGoOn) (done_so
       none : (now : ℕ) → time_said line ≡ Some now → moment_of w.now ≤ now → AreNotPast now (timed_turn c times line w).next.deadlines
       none now said later =
           let v : Timed = (timed_turn c times line w).next in
-          (none_due times now (moment_of v.now) (λ h. awaited_at (layer_settings c) v.station.layer h) v.deadlines truth.waits
+          (none_due times now (moment_of v.now) (λ h. awaited_at (layer_settings c) v.station.layer h)
+          (λ h. unacknowledged_at (layer_settings c) v.station.layer h) v.deadlines truth.waits
           (none_so c times lines line now said later)).stand
 
       passed : (now : ℕ) (o : Option ℕ) → w.now ≡ o → (moment_of w.now ≤ now → AreNotPast now (pass_turn c times now w o).next.deadlines)

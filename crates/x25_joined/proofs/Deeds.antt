@@ -22,7 +22,7 @@ use Rattle.x25_joined.specs.laws.Joined.{entries_in}
 use Rattle.x25_joined.specs.laws.Obeyed.{AreInTime, IsInTime, IsQuietAt, IsSilent, IsUntold, watched_at}
 use Rattle.x25_joined.specs.laws.Played.{Answers, Insists, Marks, Passes, Play, Played, answer_plays, asked_by, due_plays, first_due, line_plays, lines_plays}
 use Rattle.x25_joined.specs.laws.Played.{pass_plays, playing, timed_entries, told}
-use Rattle.x25_layer.specs.{Calls.{Asks as asks_on, PullsAll, outcome_in}, code.FitsLayer.{awaited_at}, laws.Rounds.{Refuses, went}}
+use Rattle.x25_layer.specs.{Calls.{Asks as asks_on, PullsAll, outcome_in}, code.FitsLayer.{awaited_at, unacknowledged_at}, laws.Rounds.{Refuses, went}}
 use Rattle.x25_layer.specs.declared.error.LayerError.TheVariants as layer_error
 use Rattle.x25_link.specs.declared.phase.Phase.{Phase}
 use Rattle.x25_link.specs.{Link.{alone}, Outgoing.{waits}, Station.{is_up}}
@@ -164,6 +164,10 @@ module _ (stays : StaysSettled) (goes : PullsGoOn) (done_so : EventIsDone) (due_
     pub said : IsSome w.now
     pub not_past : AreNotPast (moment_of w.now) w.deadlines
     pub past : since ≤ moment_of w.now
+
+  -- so the deadlines are true there
+  true_at : (n : ℕ) (w : Timed) → StandsSince n w → AreTrue c times (watched_at n w)
+  true_at n w s = subst (AreTrue c times) s.is (so c times s.moments)
 
   -- what is played is deeds, which lead there
   pub record Does (ps : List Played) (n : ℕ) (w v : Timed) : Type 0 where
@@ -360,7 +364,7 @@ module _ (stays : StaysSettled) (goes : PullsGoOn) (done_so : EventIsDone) (due_
       told_entries c w play ∙ ap (λ (e : Option StationEvent). entries_in (asked_act c w.station e).sayings) asks ∙ said_is w.station event in
       deed_does (playing w play ∷ []) n w v (Happens k event) o s refl later refl tt
       (pulled_same o (Happens k event) (Happens 0 event) x (watched_in w) (ap (λ (m : ℕ). heeds c times m event o x) there)
-      ∙ sym (done_so c times event w small s.settled))
+      ∙ sym (done_so c times event w n small s.settled s.past (true_at n w s)))
       (λ h u. ap (list_any (is_answered_on h (awaited_at (layer_settings c) w.station.layer h))) (sym said) ∙ u.0)
       (λ phase u. record {
         at = u.0;
@@ -398,7 +402,7 @@ module _ (stays : StaysSettled) (goes : PullsGoOn) (done_so : EventIsDone) (due_
       (ap (λ (m : ℕ). due_of m w.deadlines) later ∙ is)
       (pulled_same o (IsAsked k due) (IsAsked 0 due) x (watched_in w)
       (ap (λ (m : ℕ). let y : Watched = record { station = w.station; deadlines = after_due times m w.deadlines; now = m } in heeds c times m event o y) there)
-      ∙ sym (due_so c times due w small s.settled))
+      ∙ sym (due_so c times due w n small s.settled s.past (true_at n w s)))
       (λ h u. ap (list_any (is_answered_on h (awaited_at (layer_settings c) w.station.layer h))) (sym said) ∙ u.0)
       (λ phase u. record { at = u.0; quiet = u.1; told = ap tells_link (sym said) ∙ u.2 })
 
@@ -433,8 +437,9 @@ module _ (stays : StaysSettled) (goes : PullsGoOn) (done_so : EventIsDone) (due_
       → StandsSince n w
       → Does (first_due c times (due_plays c times m) w o) n w (due_first c times (due_turns c times m) w o).next
   first_does m n w None is rest s =
-      let truth : AreTrue c times (watched_at n w) = subst (AreTrue c times) s.is (so c times s.moments) in
-      let whole = none_due times (moment_of w.now) n (λ h. awaited_at (layer_settings c) w.station.layer h) w.deadlines truth.waits is in
+      let truth = true_at n w s in
+      let whole = none_due times (moment_of w.now) n (λ h. awaited_at (layer_settings c) w.station.layer h)
+      (λ h. unacknowledged_at (layer_settings c) w.station.layer h) w.deadlines truth.waits is in
       none_does [] n w (told_due times w) refl (sym whole.same) (omega arith) s.said
       (subst (AreNotPast (moment_of w.now)) (sym whole.same) s.not_past) s
   first_does m n w (Some due) is rest s =

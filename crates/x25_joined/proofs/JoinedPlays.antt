@@ -25,7 +25,7 @@ use Rattle.x25_joined.proofs.PeerPlays.{AreOpen, IsOpenPlay, few_channels, line_
 use Rattle.x25_joined.proofs.PlayedFollows.{AreLowPlays, AreQuiet, IsLowPlay, IsQuiet, Linked, RestQuiet, StayLow, line_follows, line_quiet, new_low, next_by}
 use Rattle.x25_joined.proofs.PlayedLines.{first_plays, first_stands, more_is, next_more, written_is}
 use Rattle.x25_joined.proofs.PlayedReads.{reads_one, timed_entries-append, timed_frames-append, told_entries, told_frames, words_ask, words_open}
-use Rattle.x25_joined.specs.laws.Played.{Answers, Insists, Marks, Passes, Play, Played, TimedSaying, answer_plays, asked_by, due_words, first_asked, line_plays}
+use Rattle.x25_joined.specs.laws.Played.{Answers, AreSaid, Insists, IsSaidPlay, Marks, Passes, Play, Played, TimedSaying, answer_plays, asked_by, due_words, first_asked, line_plays}
 use Rattle.x25_joined.specs.laws.Played.{playing, timed_entries, timed_frames, timed_station, timed_written, told}
 use Rattle.x25_joined.specs.laws.TimedJoined as clocked
 use Rattle.x25_joined.specs.laws.TimedJoined.{Clocks}
@@ -106,14 +106,14 @@ module _ (spelled : ReadsWhatIsSpelled) (c : Settings) where
             (r.frames ∙ ap (λ (s : Station). frames_in (asked_act c s o).sayings) (sym at) ∙ sym (told_frames c w play));
       }
 
-  one_done : (j : Joined) → AreWhole j.near → (w : Timed) (play : Play) → w.station ≡ station_of c j.near → IsLowPlay play → IsOpenPlay play
+  one_done : (j : Joined) → AreWhole j.near → (w : Timed) (play : Play) → w.station ≡ station_of c j.near → IsLowPlay play → IsOpenPlay play → IsSaidPlay c play
       → IsNoFrame (asked_by c play) → plain.IsInTime c j (asked_by c play) → Done c j (told c (playing w play)) (next_by c (playing w play))
-  one_done j whole w (Answers line) at low none no_frame in_time = line_done j whole w (Answers line) at line none refl no_frame in_time
-  one_done j whole w (Insists due asked) at low none no_frame in_time =
+  one_done j whole w (Answers line) at low none said no_frame in_time = line_done j whole w (Answers line) at line none refl no_frame in_time
+  one_done j whole w (Insists due asked) at low none said no_frame in_time =
       line_done j whole w (Insists due asked) at (due_words c.role asked) (words_open c.role asked low)
-      (words_ask spelled c.wide c.role asked low) no_frame in_time
-  one_done j whole w Passes at low none no_frame in_time = none_done j whole (told c (playing w Passes)) w.station (sym at) refl refl
-  one_done j whole w Marks at low none no_frame in_time = none_done j whole (told c (playing w Marks)) w.station (sym at) refl refl
+      (words_ask spelled c.wide c.role asked low said) no_frame in_time
+  one_done j whole w Passes at low none said no_frame in_time = none_done j whole (told c (playing w Passes)) w.station (sym at) refl refl
+  one_done j whole w Marks at low none said no_frame in_time = none_done j whole (told c (playing w Marks)) w.station (sym at) refl refl
 
   join : (j : Joined) (a b : List TimedSaying) (s t : Station) (first : Done c j a s) → Done c (came j first.text (timed_frames a)) b t → Done c j (a ++ b) t
   join j a b s t first rest = record {
@@ -133,22 +133,22 @@ module _ (spelled : ReadsWhatIsSpelled) (c : Settings) where
         (append_assoc j.out (timed_frames a) (timed_frames b) ∙ ap (λ (fs : List (List ℕ)). j.out ++ fs) (sym (timed_frames-append a b)));
   }
 
-  rest_done : (ps : List Played) (j : Joined) (s t : Station) → AreWhole j.near → Linked c ps s t → s ≡ station_of c j.near → AreLowPlays ps → AreOpen ps
+  rest_done : (ps : List Played) (j : Joined) (s t : Station) → AreWhole j.near → Linked c ps s t → s ≡ station_of c j.near → AreLowPlays ps → AreOpen ps → AreSaid c ps
       → AreQuiet c ps → Done c j (flat_map (told c) ps) t
-  rest_done [] j s t whole linked at low none quiet = none_done j whole [] t (sym at ∙ linked) refl refl
-  rest_done (x ∷ ps) j s t whole linked at low none quiet =
-      let first = one_done j whole x.at x.play (linked.0 ∙ at) low.0 none.0 (quiet_no_frame (asked_by c x.play) quiet.0)
+  rest_done [] j s t whole linked at low none said quiet = none_done j whole [] t (sym at ∙ linked) refl refl
+  rest_done (x ∷ ps) j s t whole linked at low none said quiet =
+      let first = one_done j whole x.at x.play (linked.0 ∙ at) low.0 none.0 said.0 (quiet_no_frame (asked_by c x.play) quiet.0)
       (quiet_in_time c j (asked_by c x.play) quiet.0) in
       join j (told c x) (flat_map (told c) ps) (next_by c x) t first
-      (rest_done ps (came j first.text (timed_frames (told c x))) (next_by c x) t first.whole linked.1 (sym first.station) low.1 none.1 quiet.1)
+      (rest_done ps (came j first.text (timed_frames (told c x))) (next_by c x) t first.whole linked.1 (sym first.station) low.1 none.1 said.1 quiet.1)
 
-  all_done : (ps : List Played) (j : Joined) (s t : Station) → AreWhole j.near → Linked c ps s t → s ≡ station_of c j.near → AreLowPlays ps → AreOpen ps
+  all_done : (ps : List Played) (j : Joined) (s t : Station) → AreWhole j.near → Linked c ps s t → s ≡ station_of c j.near → AreLowPlays ps → AreOpen ps → AreSaid c ps
       → RestQuiet c ps → IsNoFrame (first_asked c ps) → plain.IsInTime c j (first_asked c ps) → Done c j (flat_map (told c) ps) t
-  all_done [] j s t whole linked at low none quiet no_frame in_time = none_done j whole [] t (sym at ∙ linked) refl refl
-  all_done (x ∷ ps) j s t whole linked at low none quiet no_frame in_time =
-      let first = one_done j whole x.at x.play (linked.0 ∙ at) low.0 none.0 no_frame in_time in
+  all_done [] j s t whole linked at low none said quiet no_frame in_time = none_done j whole [] t (sym at ∙ linked) refl refl
+  all_done (x ∷ ps) j s t whole linked at low none said quiet no_frame in_time =
+      let first = one_done j whole x.at x.play (linked.0 ∙ at) low.0 none.0 said.0 no_frame in_time in
       join j (told c x) (flat_map (told c) ps) (next_by c x) t first
-      (rest_done ps (came j first.text (timed_frames (told c x))) (next_by c x) t first.whole linked.1 (sym first.station) low.1 none.1 quiet)
+      (rest_done ps (came j first.text (timed_frames (told c x))) (next_by c x) t first.whole linked.1 (sym first.station) low.1 none.1 said.1 quiet)
 
 -- ---- an end's program without a clock behind one with it
 
@@ -221,7 +221,7 @@ module _ (spelled : ReadsWhatIsSpelled) (c : Settings) (times : Times) (j : Join
       let ps : List Played = line_plays c times line w in
       let f = line_follows c times line w k.low in
       let d = all_done spelled c ps q w.station (timed_turn c times line w).next.station k.whole_text f.linked (sym k.station) f.low
-      (line_open c times line w may.is_line) (line_quiet c times line w) may.is_no_frame (in_time (first_asked c ps) may.in_time) in
+      (line_open c times line w may.is_line) may.said (line_quiet c times line w) may.is_no_frame (in_time (first_asked c ps) may.in_time) in
       record {
         acts = d.acts;
         possible = d.possible;

@@ -1,4 +1,6 @@
 -- How often a step of a station tells of LinkUp.
+use Rattle.x25_link.specs.declared.phase.Ending.{Ending}
+use Rattle.x25_station.specs.{Entry.{end_between, entries_ended}, Step.{ends}}
 use Rattle.x25_joined.proofs.Names.{◌≡◌, ◌∙◌, ℕ, suc, ◌+◌, Bool, true, false, List, [], ◌∷◌, ◌++◌, Option, Some, None, ap, sym, subst, refl, arith, Settings}
 use Rattle.x25_joined.proofs.Names.{StationEntry, Station, Step, Did, commands, fires, ups_in}
 use Rattle.x25_layer.specs.{Calls.{LayerRequest, LayerOutcome}, Layer.{LayerSettings, Layer}}
@@ -39,12 +41,22 @@ ups_noted None false b = omega (arith)
 ups_noted (Some reason) true b = omega (arith)
 ups_noted (Some reason) false b = omega (arith)
 
-pub follows_ups : (c : Settings) (s : Station) (k : LinkStep) (b : ℕ) → begun_by k.notes.up b ≡ b + ups_in (follows c s k).entries
+follows_ups : (c : Settings) (s : Station) (k : LinkStep) (b : ℕ) → begun_by k.notes.up b ≡ b + ups_in (follows c s k).entries
 follows_ups c s k b =
     let more = ups_append (entries_noted k.notes) (entries_heard (layer_settings c) c.wide s.layer k.packet k.notes.down k.notes.up) in
     let none = ups_heard (layer_settings c) c.wide s.layer k.packet k.notes.down k.notes.up in
     let noted = ups_noted k.notes.down k.notes.up b in
     omega (arith, more, none, noted)
+
+-- the end of what a DISC awaits is none
+ended_ups : (e : Option Ending) → ups_in (entries_ended e) ≡ 0
+ended_ups None = refl
+ended_ups (Some ending) = refl
+
+pub ends_ups : (c : Settings) (s : Station) (k : LinkStep) (b : ℕ) → begun_by k.notes.up b ≡ b + ups_in (ends c s k).entries
+ends_ups c s k b =
+    let ending = end_between s.link k.side.near in
+    omega (arith, ups_append (entries_ended ending) (follows c s k).entries, ended_ups ending, follows_ups c s k b)
 
 -- ---- a command
 
@@ -77,4 +89,6 @@ commands_ups c s command.Relinks step is =
 
 pub fires_ups : (c : Settings) (s : Station) (step : Step) → fires c s ≡ Did step → ups_in step.entries ≡ 0
 fires_ups c s step is =
-    link_ups c s (timer_refusal s.link) [] (timer_step (link_settings c) s.link) step refl (timer_silent (link_settings c) s.link).1 is
+    let k = timer_step (link_settings c) s.link in
+    let ending = end_between s.link k.side.near in
+    link_ups c s (timer_refusal s.link) (entries_ended ending) k step (ended_ups ending) (timer_silent (link_settings c) s.link).1 is

@@ -28,7 +28,7 @@ use Rattle.x25_joined.proofs.PlayedFollows.{AreLowPlays, AreQuiet, IsLowPlay, Is
 use Rattle.x25_joined.proofs.PlayedLines.{first_plays, first_stands, more_is, next_more, written_is}
 use Rattle.x25_joined.proofs.PlayedReads.{quiet_ups, reads_one, timed_entries-append, timed_frames-append, told_entries, told_frames}
 use Rattle.x25_joined.proofs.PlayedReads.{words_ask, words_open}
-use Rattle.x25_joined.specs.laws.Played.{Answers, Insists, Marks, Passes, Play, Played, TimedSaying, answer_plays, asked_by, due_plays, due_words}
+use Rattle.x25_joined.specs.laws.Played.{Answers, AreSaid, Insists, IsSaidPlay, Marks, Passes, Play, Played, TimedSaying, answer_plays, asked_by, due_plays, due_words}
 use Rattle.x25_joined.specs.laws.Played.{first_asked, first_due, line_plays, pass_plays, playing, timed_entries, timed_frames, timed_station, timed_written}
 use Rattle.x25_joined.specs.laws.Played.{told}
 use Rattle.x25_joined.specs.laws.{TimedPeer.{HappensToTimed, Reads, Takes, Elsewhere, ReachedTimed, at_start, goes_on}, TimedPeerClaims.{OfTimedProgram}}
@@ -148,16 +148,16 @@ module _ (spelled : ReadsWhatIsSpelled) (c : Settings) where
         same = refl;
       }
 
-  one_done : (p : Program) → ReachedProgram c p → AreWhole p.read → (x : Played) → x.at.station ≡ station_of c p.read → IsLowPlay x.play → IsOpenPlay x.play
+  one_done : (p : Program) → ReachedProgram c p → AreWhole p.read → (x : Played) → x.at.station ≡ station_of c p.read → IsLowPlay x.play → IsOpenPlay x.play → IsSaidPlay c x.play
       → IsNoFrame (asked_by c x.play) → plain.IsInTime c p (asked_by c x.play) → Done c p (told c x) (next_by c x)
-  one_done p reached whole x at low none no_frame in_time = by x.play refl
+  one_done p reached whole x at low none said no_frame in_time = by x.play refl
     where
       by : (play : Play) → x.play ≡ play → Done c p (told c x) (next_by c x)
       by (Answers line) is = line_done p reached whole x at line (subst IsOpenPlay is none) (sym (ap (asked_by c) is)) no_frame in_time
       by (Insists due asked) is =
           let few = subst IsLowPlay is low in
           line_done p reached whole x at (due_words c.role asked) (words_open c.role asked few)
-          (words_ask spelled c.wide c.role asked few ∙ sym (ap (asked_by c) is)) no_frame in_time
+          (words_ask spelled c.wide c.role asked few (subst (IsSaidPlay c) is said) ∙ sym (ap (asked_by c) is)) no_frame in_time
       by Passes is =
           none_done p reached whole (told c x) (next_by c x) (sym at ∙ ap (λ (y : Play). (asked_act c x.at.station (asked_by c y)).next) (sym is))
           (told_entries c x.at x.play ∙ ap (λ (y : Play). entries_in (asked_act c x.at.station (asked_by c y)).sayings) is)
@@ -188,22 +188,22 @@ module _ (spelled : ReadsWhatIsSpelled) (c : Settings) where
 
   rest_done : (ps : List Played) (p : Program) (s t : Station) → ReachedProgram c p → AreWhole p.read → Linked c ps s t → s ≡ station_of c p.read
       → AreLowPlays ps
-      → AreOpen ps → AreQuiet c ps → Done c p (flat_map (told c) ps) t
-  rest_done [] p s t reached whole linked at low none quiet = none_done p reached whole [] t (sym at ∙ linked) refl refl
-  rest_done (x ∷ ps) p s t reached whole linked at low none quiet =
-      let first = one_done p reached whole x (linked.0 ∙ at) low.0 none.0 (quiet_no_frame (asked_by c x.play) quiet.0)
+      → AreOpen ps → AreSaid c ps → AreQuiet c ps → Done c p (flat_map (told c) ps) t
+  rest_done [] p s t reached whole linked at low none said quiet = none_done p reached whole [] t (sym at ∙ linked) refl refl
+  rest_done (x ∷ ps) p s t reached whole linked at low none said quiet =
+      let first = one_done p reached whole x (linked.0 ∙ at) low.0 none.0 said.0 (quiet_no_frame (asked_by c x.play) quiet.0)
       (quiet_in_time c p (asked_by c x.play) quiet.0) in
       join p (told c x) (flat_map (told c) ps) (next_by c x) t first
-      (rest_done ps first.q (next_by c x) t first.reached first.whole linked.1 (sym first.station) low.1 none.1 quiet.1)
+      (rest_done ps first.q (next_by c x) t first.reached first.whole linked.1 (sym first.station) low.1 none.1 said.1 quiet.1)
 
   all_done : (ps : List Played) (p : Program) (s t : Station) → ReachedProgram c p → AreWhole p.read → Linked c ps s t → s ≡ station_of c p.read
       → AreLowPlays ps
-      → AreOpen ps → RestQuiet c ps → IsNoFrame (first_asked c ps) → plain.IsInTime c p (first_asked c ps) → Done c p (flat_map (told c) ps) t
-  all_done [] p s t reached whole linked at low none quiet no_frame in_time = none_done p reached whole [] t (sym at ∙ linked) refl refl
-  all_done (x ∷ ps) p s t reached whole linked at low none quiet no_frame in_time =
-      let first = one_done p reached whole x (linked.0 ∙ at) low.0 none.0 no_frame in_time in
+      → AreOpen ps → AreSaid c ps → RestQuiet c ps → IsNoFrame (first_asked c ps) → plain.IsInTime c p (first_asked c ps) → Done c p (flat_map (told c) ps) t
+  all_done [] p s t reached whole linked at low none said quiet no_frame in_time = none_done p reached whole [] t (sym at ∙ linked) refl refl
+  all_done (x ∷ ps) p s t reached whole linked at low none said quiet no_frame in_time =
+      let first = one_done p reached whole x (linked.0 ∙ at) low.0 none.0 said.0 no_frame in_time in
       join p (told c x) (flat_map (told c) ps) (next_by c x) t first
-      (rest_done ps first.q (next_by c x) t first.reached first.whole linked.1 (sym first.station) low.1 none.1 quiet)
+      (rest_done ps first.q (next_by c x) t first.reached first.whole linked.1 (sym first.station) low.1 none.1 said.1 quiet)
 
 -- ---- the program without a clock behind one with it
 
@@ -290,7 +290,7 @@ module _ (c : Settings) (times : Times) (p : Program) (k : Shadow c times p) whe
       let ps : List Played = line_plays c times line w in
       let f = line_follows c times line w k.low in
       let d = all_done spelled c ps q w.station (timed_turn c times line w).next.station k.reached k.whole_text f.linked (sym k.station) f.low
-      (line_open c times line w may.is_line) (line_quiet c times line w) may.is_no_frame (in_time (first_asked c ps) may.in_time) in
+      (line_open c times line w may.is_line) may.said (line_quiet c times line w) may.is_no_frame (in_time (first_asked c ps) may.in_time) in
       more line may.is_line p.back p.met d.q.read d.whole d.station d.entries
       (subst (ReachedProgram c)
       (d.same ∙ ap (λ (os : List Entry). let r : Program = record p { read = d.q.read; out = os } in r)

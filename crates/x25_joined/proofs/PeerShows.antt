@@ -7,7 +7,7 @@ use Rattle.std.proofs.{Common.{zero, ◌==◌, if◌then◌else◌, ap₂, eq-eq
 use Rattle.x25_frame.specs.Frame.{PlainFrame}
 use Rattle.x25_joined.proofs.{AskedOctets.{AsksOctets, asks_octets}, FrameText.{frame_words, frame_text, frame_open, frame_comes}}
 use Rattle.x25_joined.proofs.LineText.{AreWhole, none_whole, more_whole, one_more, said_more, first_said}
-use Rattle.x25_joined.proofs.PeerEntries.{ups_append, follows_ups, commands_ups, fires_ups}
+use Rattle.x25_joined.proofs.PeerEntries.{ups_append, ends_ups, commands_ups, fires_ups}
 use Rattle.x25_joined.proofs.Turns.{entries-append, TurnIs, first_is, line_did, line_refused, line_none}
 use Rattle.x25_joined.specs.laws.BesidePeer.{Program, nothing_read, begun_in, seen, bare, sent_then, reads, IsInTime, HappensToProgram, Reads, Takes, Elsewhere}
 use Rattle.x25_joined.specs.laws.{BesidePeer.{ReachedProgram, at_start, goes_on}, BesidePeerClaims.{entries_to, OfProgram}}
@@ -285,7 +285,7 @@ module _ (c : Settings) (p : Program) (k : Kept c p) where
       let l = link_receives c s e.octets in
       something_happens (frame_words (other c.role) e.octets) (frame_open (other c.role) e.octets) l.notes.up rest (met_by c w e) step
       (line_did c s (frame_words (other c.role) e.octets) (Comes e.octets) (and_pulls c step) (frame_comes c.wide c.role e.octets fits) refl)
-      (follows_ups c s l b) (beside.here w (took c w e rest) k.world.reached (beside.Takes e rest front))
+      (ends_ups c s l b) (beside.here w (took c w e rest) k.world.reached (beside.Takes e rest front))
 
   -- ---- the peer and the line
 

@@ -1,11 +1,12 @@
 -- What is played follows from where a program stands: its stations, its channels, and that T1 is asked first.
 use Rattle.std.proofs.Common.{◌≡◌, ◌≤◌, ◌<◌, ◌+◌, ◌==◌, ◌&&◌, ℕ, zero, suc, nat_lt, Bool, true, false, if◌then◌else◌, List, [], ◌∷◌, ◌++◌, map, Option, Some}
-use Rattle.std.proofs.Common.{None}
+use Rattle.std.proofs.Common.{None, is_some}
 use Rattle.std.proofs.Common.{refl, sym, subst, arith, ◌^◌, not}
 use Rattle.std.proofs.lemmas.Bool.{lt-leb, true≢false}
 use Rattle.x25_circuit.specs.declared.awaits.{Awaits.{Awaits}, Awaits.TheVariants.{Nothing, Acceptance, ResetConfirmation, ClearConfirmation}}
 use Rattle.x25_circuit.specs.declared.awaits.Awaits.TheVariants.{InterruptConfirmation}
 use Rattle.x25_clock.specs.Clock.{Deadlines, after_due, asked_for, channels_from, deadline, due_of, is_past, most_due, number_of, overdue_of}
+use Rattle.x25_clock.specs.Clock.{rotated, since, unless_unmoved, unmoved_of}
 use Rattle.x25_clock.specs.Clock.{nothing_awaited, renewed, renewed_on, seen_first, t1_after, time_of, unless_on, wait_after}
 use Rattle.x25_clock.specs.{Due.{asked_of, event_for, is_packet, lacks_room}, declared.due.Due.{Due}, declared.times.Times.{Times}, declared.wait.Wait.{Wait}}
 use Rattle.x25_clock.specs.declared.due.Due.TheVariants as due
@@ -57,46 +58,59 @@ low_first zero first few = tt
 low_first (suc n) first few = (omega (arith, few), low_first n (first + 1) (omega (arith, few)))
 
 module _ (times : Times) (now : ℕ) where
-  wait_low : (a : Awaits) (w : Wait) → w.channel ≤ 4095 → (wait_after times now a w).channel ≤ 4095
-  wait_low a w low = by (number_of w.awaits == number_of a)
+  heeded_low : (f : ℕ → Awaits) (g : ℕ → Option ℕ) (ws : List Wait) → AreLow ws
+      → AreLow (map (λ w. wait_after times now (f w.channel) (g w.channel) w) ws)
+  heeded_low f g [] low = tt
+  heeded_low f g (w ∷ ws) low = (low.0, heeded_low f g ws low.1)
+
+  -- waits that are changed on their channels
+  changed_low : (f : Wait → Wait) → ((w : Wait) → (f w).channel ≡ w.channel) → (ws : List Wait) → AreLow ws → AreLow (map f ws)
+  changed_low f keeps [] low = tt
+  changed_low f keeps (w ∷ ws) low = (subst (λ (h : ℕ). h ≤ 4095) (sym (keeps w)) low.0, changed_low f keeps ws low.1)
+
+  renewed_keeps : (k : ℕ) (w : Wait) → (renewed times now k w).channel ≡ w.channel
+  renewed_keeps k w = by (not (w.channel == k))
     where
-      by : (b : Bool) → (let x : Wait = if b then w else record { channel = w.channel; awaits = a; until = deadline now (time_of times a) } in x.channel) ≤ 4095
-      by true = low
-      by false = low
+      by : (b : Bool) → (let x : Wait = if b then w else record {
+        channel = w.channel;
+        awaits = w.awaits;
+        until = deadline now (time_of times w.awaits);
+        unacknowledged = w.unacknowledged;
+        rotates = w.rotates;
+      } in x.channel) ≡ w.channel
+      by true = refl
+      by false = refl
 
-  heeded_low : (f : ℕ → Awaits) (ws : List Wait) → AreLow ws → AreLow (map (λ w. wait_after times now (f w.channel) w) ws)
-  heeded_low f [] low = tt
-  heeded_low f (w ∷ ws) low = (wait_low (f w.channel) w low.0, heeded_low f ws low.1)
-
-  one_renewed_low : (h : ℕ) (w : Wait) → w.channel ≤ 4095 → (renewed times now h w).channel ≤ 4095
-  one_renewed_low h w low = by (not (w.channel == h))
+  rotated_keeps : (k : ℕ) (w : Wait) → (rotated times now k w).channel ≡ w.channel
+  rotated_keeps k w = by (not (w.channel == k))
     where
-      by : (b : Bool) →
-          (let x : Wait = if b then w else record { channel = w.channel; awaits = w.awaits; until = deadline now (time_of times w.awaits) } in x.channel)
-          ≤ 4095
-      by true = low
-      by false = low
+      by : (b : Bool) → (let x : Wait = if b then w else record {
+        channel = w.channel;
+        awaits = w.awaits;
+        until = w.until;
+        unacknowledged = w.unacknowledged;
+        rotates = since (is_some w.unacknowledged) now times.t25;
+      } in x.channel) ≡ w.channel
+      by true = refl
+      by false = refl
 
-  renewed_low : (h : ℕ) (ws : List Wait) → AreLow ws → AreLow (map (renewed times now h) ws)
-  renewed_low h [] low = tt
-  renewed_low h (w ∷ ws) low = (one_renewed_low h w low.0, renewed_low h ws low.1)
-
-  renewed_on_low : (o : Option Wait) (idle : Bool) (d : Deadlines) → AreLow d.waits → AreLow (renewed_on times now o idle d).waits
-  renewed_on_low None true d low = low
-  renewed_on_low None false d low = low
-  renewed_on_low (Some x) idle d low = renewed_low x.channel d.waits low
+  renewed_on_low : (o : Option Wait) (u : Option ℕ) (idle : Bool) (d : Deadlines) → AreLow d.waits → AreLow (renewed_on times now o u idle d).waits
+  renewed_on_low None None true d low = low
+  renewed_on_low None None false d low = low
+  renewed_on_low None (Some k) idle d low = changed_low (rotated times now k) (rotated_keeps k) d.waits low
+  renewed_on_low (Some x) u idle d low = changed_low (renewed times now x.channel) (renewed_keeps x.channel) d.waits low
 
   due_low : (d : Deadlines) → AreLow d.waits → AreLow (after_due times now d).waits
   due_low d low = by_t1 (is_past now d.t1)
     where
       by_restart : (b : Bool) → (let x : Deadlines = if b then record d { restart = deadline now times.t20 }
-          else renewed_on times now (overdue_of now d.waits) (is_past now d.idle) d in AreLow x.waits)
+          else renewed_on times now (overdue_of now d.waits) (unmoved_of now d.waits) (is_past now d.idle) d in AreLow x.waits)
       by_restart true = low
-      by_restart false = renewed_on_low (overdue_of now d.waits) (is_past now d.idle) d low
+      by_restart false = renewed_on_low (overdue_of now d.waits) (unmoved_of now d.waits) (is_past now d.idle) d low
 
       by_t1 : (b : Bool) → (let x : Deadlines = if b then record d { t1 = deadline now times.t1 }
           else if is_past now d.restart then record d { restart = deadline now times.t20 }
-          else renewed_on times now (overdue_of now d.waits) (is_past now d.idle) d in AreLow x.waits)
+          else renewed_on times now (overdue_of now d.waits) (unmoved_of now d.waits) (is_past now d.idle) d in AreLow x.waits)
       by_t1 true = low
       by_t1 false = by_restart (is_past now d.restart)
 
@@ -116,6 +130,15 @@ overdue_low now (w ∷ ws) other low h = by (is_past now w.until) (overdue_low n
     by true rest = asked_low w.channel w.awaits low.0
     by false rest = rest
 
+unmoved_low : (now : ℕ) (ws : List Wait) (other : Option Due) → AreLow ws → IsLow other → IsLow (unless_unmoved (unmoved_of now ws) other)
+unmoved_low now [] other low h = h
+unmoved_low now (w ∷ ws) other low h = by (is_past now w.rotates) (unmoved_low now ws other low.1 h)
+  where
+    by : (b : Bool) → IsLow (unless_unmoved (unmoved_of now ws) other)
+        → IsLow (unless_unmoved (let o : Option ℕ = if b then Some w.channel else unmoved_of now ws in o) other)
+    by true rest = low.0
+    by false rest = rest
+
 if_low : (b : Bool) (x y : Option Due) → IsLow x → IsLow y → IsLow (let o : Option Due = if b then x else y in o)
 if_low true x y a b = a
 if_low false x y a b = b
@@ -123,11 +146,12 @@ if_low false x y a b = b
 found_low : (now : ℕ) (d : Deadlines) → AreLow d.waits → IsLow (due_of now d)
 found_low now d low =
     let idle : Option Due = if is_past now d.idle then Some due.Probe else None in
-    let waits : Option Due = unless_on (overdue_of now d.waits) idle in
+    let packets : Option Due = unless_unmoved (unmoved_of now d.waits) idle in
+    let waits : Option Due = unless_on (overdue_of now d.waits) packets in
     let restart : Option Due = if is_past now d.restart then Some due.Relink else waits in
     if_low (is_past now d.t1) (Some due.T1) restart (omega arith)
     (if_low (is_past now d.restart) (Some due.Relink) waits (omega arith)
-    (overdue_low now d.waits idle low (if_low (is_past now d.idle) (Some due.Probe) None (omega arith) tt)))
+    (overdue_low now d.waits packets low (unmoved_low now d.waits idle low (if_low (is_past now d.idle) (Some due.Probe) None (omega arith) tt))))
 
 -- ---- T1 is asked first
 
@@ -156,19 +180,20 @@ module _ (times : Times) (now : ℕ) where
   told_quiet : (d : Deadlines) → is_past now (after_due times now d).t1 ≡ false
   told_quiet d = by_t1 (is_past now d.t1) refl
     where
-      on : (o : Option Wait) (idle : Bool) → is_past now d.t1 ≡ false → is_past now (renewed_on times now o idle d).t1 ≡ false
-      on None true is = is
-      on None false is = is
-      on (Some x) idle is = is
+      on : (o : Option Wait) (unmoved : Option ℕ) (idle : Bool) → is_past now d.t1 ≡ false → is_past now (renewed_on times now o unmoved idle d).t1 ≡ false
+      on None None true is = is
+      on None None false is = is
+      on None (Some h) idle is = is
+      on (Some x) unmoved idle is = is
 
       by_restart : (b : Bool) → is_past now d.t1 ≡ false → is_past now (let x : Deadlines = if b then record d { restart = deadline now times.t20 }
-          else renewed_on times now (overdue_of now d.waits) (is_past now d.idle) d in x.t1) ≡ false
+          else renewed_on times now (overdue_of now d.waits) (unmoved_of now d.waits) (is_past now d.idle) d in x.t1) ≡ false
       by_restart true is = is
-      by_restart false is = on (overdue_of now d.waits) (is_past now d.idle) is
+      by_restart false is = on (overdue_of now d.waits) (unmoved_of now d.waits) (is_past now d.idle) is
 
       by_t1 : (b : Bool) → is_past now d.t1 ≡ b → is_past now (let x : Deadlines = if b then record d { t1 = deadline now times.t1 }
           else if is_past now d.restart then record d { restart = deadline now times.t20 }
-          else renewed_on times now (overdue_of now d.waits) (is_past now d.idle) d in x.t1) ≡ false
+          else renewed_on times now (overdue_of now d.waits) (unmoved_of now d.waits) (is_past now d.idle) d in x.t1) ≡ false
       by_t1 true is = fresh now times.t1
       by_t1 false is = by_restart (is_past now d.restart) is
 
@@ -222,7 +247,7 @@ pub record Follows (c : Settings) (ps : List Played) (w v : Timed) : Type 0 wher
 
 module _ (c : Settings) (times : Times) where
   acted_low : (w : Timed) (a : Act) → StayLow c w.deadlines.waits → StayLow c (act_turn c times w a).next.deadlines.waits
-  acted_low w a low = (heeded_low times (moment_of w.now) (seen_at c a).awaited w.deadlines.waits low.0, low.1)
+  acted_low w a low = (heeded_low times (moment_of w.now) (seen_at c a).awaited (seen_at c a).unacknowledged w.deadlines.waits low.0, low.1)
 
   insisted_low : (due : Due) (w : Timed) → StayLow c w.deadlines.waits → StayLow c (insist_turn c times due (told_due times w)).next.deadlines.waits
   insisted_low due w low =
@@ -231,7 +256,7 @@ module _ (c : Settings) (times : Times) where
 
   begun_low : (now : ℕ) (w : Timed) → c.channels.count ≤ 4095 → StayLow c (begins c times now w).deadlines.waits
   begun_low now w few = (
-    heeded_low times now (seen_first c w.station).awaited (nothing_awaited c.channels.count).waits
+    heeded_low times now (seen_first c w.station).awaited (seen_first c w.station).unacknowledged (nothing_awaited c.channels.count).waits
         (low_first c.channels.count 1 (omega (arith, few))),
     few,
   )
@@ -301,6 +326,7 @@ module _ (c : Settings) (times : Times) where
   not_quiet due.Probe other = tt
   not_quiet due.Relink other = tt
   not_quiet (due.Reset h) other = tt
+  not_quiet (due.ResetUnacknowledged h) other = tt
   not_quiet (due.Clear h) other = tt
   not_quiet (due.Restart h) other = tt
 
@@ -315,6 +341,10 @@ module _ (c : Settings) (times : Times) where
   unless_not None other h = h
   unless_not (Some x) other h = asked_not x.channel x.awaits
 
+  unmoved_not : (u : Option ℕ) (other : Option Due) → NotT1 other → NotT1 (unless_unmoved u other)
+  unmoved_not None other h = h
+  unmoved_not (Some k) other h = tt
+
   if_not : (b : Bool) (x y : Option Due) → NotT1 x → NotT1 y → NotT1 (let o : Option Due = if b then x else y in o)
   if_not true x y a b = a
   if_not false x y a b = b
@@ -322,11 +352,12 @@ module _ (c : Settings) (times : Times) where
   found_not : (now : ℕ) (d : Deadlines) → is_past now d.t1 ≡ false → NotT1 (due_of now d)
   found_not now d is =
       let idle : Option Due = if is_past now d.idle then Some due.Probe else None in
-      let waits : Option Due = unless_on (overdue_of now d.waits) idle in
+      let packets : Option Due = unless_unmoved (unmoved_of now d.waits) idle in
+      let waits : Option Due = unless_on (overdue_of now d.waits) packets in
       let restart : Option Due = if is_past now d.restart then Some due.Relink else waits in
       subst (λ (b : Bool). NotT1 (let o : Option Due = if b then Some due.T1 else restart in o)) (sym is)
       (if_not (is_past now d.restart) (Some due.Relink) waits tt
-      (unless_not (overdue_of now d.waits) idle (if_not (is_past now d.idle) (Some due.Probe) None tt tt)))
+      (unless_not (overdue_of now d.waits) packets (unmoved_not (unmoved_of now d.waits) idle (if_not (is_past now d.idle) (Some due.Probe) None tt tt))))
 
   behind_quiet : (due : Due) (w : Timed) → (let u : Timed = (insist_turn c times due (told_due times w)).next in is_past (moment_of u.now) u.deadlines.t1 ≡ false)
   behind_quiet due w =

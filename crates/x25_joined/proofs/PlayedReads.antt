@@ -2,7 +2,7 @@
 use Rattle.std.proofs.Common.{◌≡◌, ◌∙◌, ◌+◌, ◌≤◌, ℕ, nat_eq, Bool, true, false, List, [], ◌∷◌, ◌++◌, length, map, Option, Some, None}
 use Rattle.std.proofs.Common.{ap, ap₂, refl, sym, subst, arith, append-nil, if◌then◌else◌, rules}
 use Rattle.std.proofs.lemmas.{Bool.{le-leb}, Fmt.{digits_decimal, length-decimal-le}, Grind.{flat_map-append}, Str.Parse.{IsNumeralModel, numerals_by_value}}
-use Rattle.std.specs.{Char.{is_ascii_digit}, List.{list_all}, Prelude.{codes, decimal, ◌&&◌, ◌≢◌}, Str.Parse.{digits_value}}
+use Rattle.std.specs.{Char.{is_ascii_digit}, Fmt.{digits}, List.{list_all}, Prelude.{codes, decimal, ◌&&◌, ◌≢◌}, Str.Parse.{digits_value}}
 use Rattle.x25_bits.specs.{declared.role.Role.{Role}, declared.role.Role.TheVariants.{Dte, Dce}}
 use Rattle.x25_clock.specs.{Due.{event_for}, declared.due.Due.{Due}}
 use Rattle.x25_clock.specs.declared.due.Due.TheVariants as due
@@ -21,14 +21,14 @@ use Rattle.x25_pipe.specs.Pipe.{with_pulls, and_pulls}
 unfoldable use Rattle.x25_pipe.specs.Pipe.{event_act, event_in, event_turn, turn}
 use Rattle.x25_pipe.specs.Timed.{Timed, channel_for}
 use Rattle.x25_script.specs.Reading.{nothing_given}
-use Rattle.x25_script.specs.Reading.Spelling.{Spells}
+use Rattle.x25_script.specs.Reading.Spelling.{Spells, given_text}
 unfoldable use Rattle.x25_script.specs.Reading.{line_in}
 use Rattle.x25_script.specs.ScriptLine.{PlainLine, clear, command, probe, relink, reset, restart, t1, taken}
 use Rattle.x25_script.specs.laws.ReadingLaw.{ReadsWhatIsSpelled}
 use Rattle.x25_station.specs.{Command.{Requests}, Config.{Settings}, Entry.{StationEntry}, Station.{Station}}
 use Rattle.x25_station.specs.{Step.{Did, Outcome, Refused, Step, commands, fires}}
 use Rattle.x25_station.specs.laws.TimerLaw.{StationEvent, Asks, Comes, Fires, outcome}
-use Rattle.x25_joined.specs.laws.Played.{Answers, Insists, Marks, Passes, Play, TimedSaying, asked_by, due_words, plain_of, plainly, says, timed_entries}
+use Rattle.x25_joined.specs.laws.Played.{Answers, Insists, IsSaid, Marks, Passes, Play, TimedSaying, asked_by, due_words, plain_of, plainly, says, timed_entries}
 use Rattle.x25_joined.specs.laws.Played.{timed_frames, told_by}
 use Rattle.x25_world.specs.laws.Claims.{ups_in}
 
@@ -130,6 +130,10 @@ words_open Dte (due.Reset h) low = open_append (codes "dte reset ") (decimal h +
     (open_append (decimal h) [] (decimal_open h low) tt)
 words_open Dce (due.Reset h) low = open_append (codes "dce reset ") (decimal h ++ []) (opens (codes "dce reset ") refl)
     (open_append (decimal h) [] (decimal_open h low) tt)
+words_open Dte (due.ResetUnacknowledged h) low = open_append (codes "dte reset ") (decimal h ++ codes " diag=146") (opens (codes "dte reset ") refl)
+    (open_append (decimal h) (codes " diag=146") (decimal_open h low) (opens (codes " diag=146") refl))
+words_open Dce (due.ResetUnacknowledged h) low = open_append (codes "dce reset ") (decimal h ++ codes " diag=146") (opens (codes "dce reset ") refl)
+    (open_append (decimal h) (codes " diag=146") (decimal_open h low) (opens (codes " diag=146") refl))
 words_open Dte (due.Clear h) low = open_append (codes "dte clear ") (decimal h ++ []) (opens (codes "dte clear ") refl)
     (open_append (decimal h) [] (decimal_open h low) tt)
 words_open Dce (due.Clear h) low = open_append (codes "dce clear ") (decimal h ++ []) (opens (codes "dce clear ") refl)
@@ -140,14 +144,22 @@ line_for end due.T1 = t1 end
 line_for end due.Probe = command end probe
 line_for end due.Relink = command end relink
 line_for end (due.Reset h) = command end (reset h nothing_given)
+line_for end (due.ResetUnacknowledged h) = command end (reset h (record { cause = None; diagnostic = Some 146 }))
 line_for end (due.Clear h) = command end (clear h nothing_given)
 line_for end (due.Restart h) = command end (restart nothing_given)
+
+unacknowledged_text : codes " diag=146" ≡ given_text (record { cause = None; diagnostic = Some 146 })
+unfolding digits
+unacknowledged_text = refl
 
 spelled : (end : Role) (due : Due) → channel_for due ≤ 4095 → Spells (line_for end due) (due_words end due)
 spelled end due.T1 low = refl
 spelled end due.Probe low = (codes "probe", refl, refl)
 spelled end due.Relink low = (codes "relink", refl, refl)
 spelled end (due.Reset h) low = (codes "reset " ++ (decimal h ++ []), refl, (omega (arith, low), (tt, tt), refl))
+spelled end (due.ResetUnacknowledged h) low =
+    let text : List ℕ = codes "reset " ++ (decimal h ++ codes " diag=146") in
+    (text, refl, (omega (arith, low), (tt, omega arith), ap (λ (given : List ℕ). codes "reset " ++ (decimal h ++ given)) unacknowledged_text))
 spelled end (due.Clear h) low = (codes "clear " ++ (decimal h ++ []), refl, (omega (arith, low), (tt, tt), refl))
 spelled end (due.Restart h) low = (codes "restart" ++ [], refl, ((tt, tt), refl))
 
@@ -172,6 +184,14 @@ words_short Dce (due.Reset h) low =
     let few = length-decimal-le 5 h (omega arith) (omega (arith, low)) (omega (arith, low)) in
     let own_length = length_append (decimal h) [] in
     omega (arith, few, own_length)
+words_short Dte (due.ResetUnacknowledged h) low =
+    let few = length-decimal-le 5 h (omega arith) (omega (arith, low)) (omega (arith, low)) in
+    let own_length = length_append (decimal h) (codes " diag=146") in
+    omega (arith, few, own_length)
+words_short Dce (due.ResetUnacknowledged h) low =
+    let few = length-decimal-le 5 h (omega arith) (omega (arith, low)) (omega (arith, low)) in
+    let own_length = length_append (decimal h) (codes " diag=146") in
+    omega (arith, few, own_length)
 words_short Dte (due.Clear h) low =
     let few = length-decimal-le 5 h (omega arith) (omega (arith, low)) (omega (arith, low)) in
     let own_length = length_append (decimal h) [] in
@@ -181,29 +201,40 @@ words_short Dce (due.Clear h) low =
     let own_length = length_append (decimal h) [] in
     omega (arith, few, own_length)
 
-read_so : (wide : Bool) (end : Role) (due : Due) → line_in (due_words end due) ≡ Some (line_for end due)
-    → read_event wide end (due_words end due) (sent_in (due_words end due)) ≡ Some (event_for due)
-read_so wide Dte due.T1 is = ap (λ (r : Option PlainLine). option_and_then (script_event Dte) (taken wide r)) is
-read_so wide Dce due.T1 is = ap (λ (r : Option PlainLine). option_and_then (script_event Dce) (taken wide r)) is
-read_so wide Dte due.Probe is = ap (λ (r : Option PlainLine). option_and_then (script_event Dte) (taken wide r)) is
-read_so wide Dce due.Probe is = ap (λ (r : Option PlainLine). option_and_then (script_event Dce) (taken wide r)) is
-read_so wide Dte due.Relink is = ap (λ (r : Option PlainLine). option_and_then (script_event Dte) (taken wide r)) is
-read_so wide Dce due.Relink is = ap (λ (r : Option PlainLine). option_and_then (script_event Dce) (taken wide r)) is
-read_so wide Dte (due.Reset h) is = ap (λ (r : Option PlainLine). option_and_then (script_event Dte) (taken wide r)) is
-read_so wide Dce (due.Reset h) is = ap (λ (r : Option PlainLine). option_and_then (script_event Dce) (taken wide r)) is
-read_so wide Dte (due.Clear h) is = ap (λ (r : Option PlainLine). option_and_then (script_event Dte) (taken wide r)) is
-read_so wide Dce (due.Clear h) is = ap (λ (r : Option PlainLine). option_and_then (script_event Dce) (taken wide r)) is
-read_so wide Dte (due.Restart h) is = ap (λ (r : Option PlainLine). option_and_then (script_event Dte) (taken wide r)) is
-read_so wide Dce (due.Restart h) is = ap (λ (r : Option PlainLine). option_and_then (script_event Dce) (taken wide r)) is
+-- with `--wide`
+unacknowledged_so : (wide : Bool) (end : Role) (h : ℕ) → wide ≡ true
+    → line_in (due_words end (due.ResetUnacknowledged h)) ≡ Some (line_for end (due.ResetUnacknowledged h))
+    → read_event wide end (due_words end (due.ResetUnacknowledged h)) (sent_in (due_words end (due.ResetUnacknowledged h)))
+    ≡ Some (event_for (due.ResetUnacknowledged h))
+unacknowledged_so true Dte h said is = ap (λ (r : Option PlainLine). option_and_then (script_event Dte) (taken true r)) is
+unacknowledged_so true Dce h said is = ap (λ (r : Option PlainLine). option_and_then (script_event Dce) (taken true r)) is
+unacknowledged_so false end h said is = let bad : false ≡ true = said in absurd (cc bad)
 
-pub words_ask : ReadsWhatIsSpelled → (wide : Bool) (end : Role) (due : Due) → channel_for due ≤ 4095
+read_so : (wide : Bool) (end : Role) (due : Due) → IsSaid wide due → line_in (due_words end due) ≡ Some (line_for end due)
+    → read_event wide end (due_words end due) (sent_in (due_words end due)) ≡ Some (event_for due)
+read_so wide Dte due.T1 said is = ap (λ (r : Option PlainLine). option_and_then (script_event Dte) (taken wide r)) is
+read_so wide Dce due.T1 said is = ap (λ (r : Option PlainLine). option_and_then (script_event Dce) (taken wide r)) is
+read_so wide Dte due.Probe said is = ap (λ (r : Option PlainLine). option_and_then (script_event Dte) (taken wide r)) is
+read_so wide Dce due.Probe said is = ap (λ (r : Option PlainLine). option_and_then (script_event Dce) (taken wide r)) is
+read_so wide Dte due.Relink said is = ap (λ (r : Option PlainLine). option_and_then (script_event Dte) (taken wide r)) is
+read_so wide Dce due.Relink said is = ap (λ (r : Option PlainLine). option_and_then (script_event Dce) (taken wide r)) is
+read_so wide Dte (due.Reset h) said is = ap (λ (r : Option PlainLine). option_and_then (script_event Dte) (taken wide r)) is
+read_so wide Dce (due.Reset h) said is = ap (λ (r : Option PlainLine). option_and_then (script_event Dce) (taken wide r)) is
+read_so wide Dte (due.ResetUnacknowledged h) said is = unacknowledged_so wide Dte h said is
+read_so wide Dce (due.ResetUnacknowledged h) said is = unacknowledged_so wide Dce h said is
+read_so wide Dte (due.Clear h) said is = ap (λ (r : Option PlainLine). option_and_then (script_event Dte) (taken wide r)) is
+read_so wide Dce (due.Clear h) said is = ap (λ (r : Option PlainLine). option_and_then (script_event Dce) (taken wide r)) is
+read_so wide Dte (due.Restart h) said is = ap (λ (r : Option PlainLine). option_and_then (script_event Dte) (taken wide r)) is
+read_so wide Dce (due.Restart h) said is = ap (λ (r : Option PlainLine). option_and_then (script_event Dce) (taken wide r)) is
+
+pub words_ask : ReadsWhatIsSpelled → (wide : Bool) (end : Role) (due : Due) → channel_for due ≤ 4095 → IsSaid wide due
     → event_in wide end (due_words end due) ≡ Some (event_for due)
 unfolding event_in
-words_ask reads wide end due low =
+words_ask reads wide end due low said =
     let line : List ℕ = due_words end due in
     ap (λ (b : Bool). let e : Option StationEvent = if b then read_event wide end line (sent_in line) else None in e)
     (le-leb (length line) most_line (words_short end due low))
-    ∙ read_so wide end due ((reads (line_for end due) line).1 (spelled end due low))
+    ∙ read_so wide end due said ((reads (line_for end due) line).1 (spelled end due low))
 
 -- ---- a user's event tells of no LinkUp
 

@@ -17,7 +17,7 @@ use Rattle.x25_joined.proofs.PeerPlays.{AreOpen, IsOpenPlay, line_open, plays_op
 use Rattle.x25_joined.proofs.PlayedFollows.{AreLowPlays, Follows, IsLowPlay, Linked, StayLow, line_follows, linked_append, low_append, new_low, next_by}
 use Rattle.x25_joined.proofs.PlayedLines.{stands_is}
 use Rattle.x25_joined.proofs.PlayedReads.{reads_one, timed_entries-append, timed_frames-append, told_entries, told_frames, words_ask, words_open}
-use Rattle.x25_joined.specs.laws.Played.{Answers, Insists, Marks, Passes, Play, Played, TimedSaying, as_text, asked_by, due_words, line_plays, lines_for}
+use Rattle.x25_joined.specs.laws.Played.{Answers, AreSaid, Insists, IsSaidPlay, Marks, Passes, Play, Played, TimedSaying, as_text, asked_by, due_words, line_plays, lines_for}
 use Rattle.x25_joined.specs.laws.Played.{lines_heard, lines_plays, playing, plays, timed_entries, timed_frames, told}
 use Rattle.x25_joined.specs.laws.PlayedClaims.{AreProgramsWithoutClock}
 
@@ -56,20 +56,20 @@ module _ (spelled : ReadsWhatIsSpelled) (c : Settings) where
             (ap (λ (s : Station). frames_in (asked_act c s (asked_by c x.play)).sayings) (sym at) ∙ sym (told_frames c x.at x.play));
       }
 
-  one_read : (u : List ℕ) → AreWhole u → (w : Timed) (play : Play) → w.station ≡ station_of c u → IsLowPlay play → IsOpenPlay play
+  one_read : (u : List ℕ) → AreWhole u → (w : Timed) (play : Play) → w.station ≡ station_of c u → IsLowPlay play → IsOpenPlay play → IsSaidPlay c play
       → Read c u (lines_for c.role play) (told c (playing w play)) (next_by c (playing w play))
-  one_read u whole w (Answers line) at low none = line_read u whole (playing w (Answers line)) at line none refl
-  one_read u whole w (Insists due asked) at low none =
-      line_read u whole (playing w (Insists due asked)) at (due_words c.role asked) (words_open c.role asked low) (words_ask spelled c.wide c.role asked low)
-  one_read u whole w Passes at low none = none_read u whole (told c (playing w Passes)) w.station (sym at) refl refl
-  one_read u whole w Marks at low none = none_read u whole (told c (playing w Marks)) w.station (sym at) refl refl
+  one_read u whole w (Answers line) at low none said = line_read u whole (playing w (Answers line)) at line none refl
+  one_read u whole w (Insists due asked) at low none said =
+      line_read u whole (playing w (Insists due asked)) at (due_words c.role asked) (words_open c.role asked low) (words_ask spelled c.wide c.role asked low said)
+  one_read u whole w Passes at low none said = none_read u whole (told c (playing w Passes)) w.station (sym at) refl refl
+  one_read u whole w Marks at low none said = none_read u whole (told c (playing w Marks)) w.station (sym at) refl refl
 
-  all_read : (ps : List Played) (u : List ℕ) (s t : Station) → AreWhole u → Linked c ps s t → s ≡ station_of c u → AreLowPlays ps → AreOpen ps
+  all_read : (ps : List Played) (u : List ℕ) (s t : Station) → AreWhole u → Linked c ps s t → s ≡ station_of c u → AreLowPlays ps → AreOpen ps → AreSaid c ps
       → Read c u (lines_heard c.role ps) (flat_map (told c) ps) t
-  all_read [] u s t whole linked at low none = none_read u whole [] t (sym at ∙ linked) refl refl
-  all_read (x ∷ ps) u s t whole linked at low none =
-      let first = one_read u whole x.at x.play (linked.0 ∙ at) low.0 none.0 in
-      let rest = all_read ps first.text (next_by c x) t first.whole linked.1 (sym first.station) low.1 none.1 in
+  all_read [] u s t whole linked at low none said = none_read u whole [] t (sym at ∙ linked) refl refl
+  all_read (x ∷ ps) u s t whole linked at low none said =
+      let first = one_read u whole x.at x.play (linked.0 ∙ at) low.0 none.0 said.0 in
+      let rest = all_read ps first.text (next_by c x) t first.whole linked.1 (sym first.station) low.1 none.1 said.1 in
       let a : List (List ℕ) = lines_for c.role x.play in
       let b : List (List ℕ) = lines_heard c.role ps in
       record {
@@ -131,14 +131,14 @@ module _ (c : Settings) (times : Times) where
       plays_open (line_plays c times line w) (lines_plays c times lines u) (line_open c times line w none.0) (all_open lines u none.1)
 
 pub without_clock_is : ReadsWhatIsSpelled → AreProgramsWithoutClock
-without_clock_is spelled c times input few =
+without_clock_is spelled c times input few said =
     let w : Timed = new_timed c in
     let lines : List (List ℕ) = lines_of input in
     let v : Timed = (timed_turns c times lines w).next in
     let f = lines_follow c times lines w (new_low c few) in
     let first = ap (λ t. t.next) (first_said c) in
     let all = all_read spelled c (plays c times input) [] w.station v.station none_whole (refl, f.linked) (sym first) (tt, f.low)
-    (tt, all_open c times lines w (lines_open input)) in
+    (tt, all_open c times lines w (lines_open input)) said in
     record {
       station = ap (station_of c) (sym all.is) ∙ all.station ∙ ap (λ (x : Timed). x.station) (sym (stands_is c times input));
       entries = ap (λ (text : List ℕ). entries_in (written c text)) (sym all.is) ∙ all.entries

@@ -111,7 +111,8 @@ pub fn programs_move()
 /// the program without one that reads, in the place of each line that says a time, the lines of its user for what is
 /// due then, in their order (`same`).
 ///
-/// Premise of `same`: at most 4,095 channels.
+/// Premises of `same`: at most 4,095 channels, and `--wide`, or T25 asks for nothing: a line with its diagnostic is
+/// read with `--wide` alone.
 pub fn timed_program_is_a_program()
     ensures text { SaidIsWritten }
     ensures same { AreProgramsWithoutClock }
@@ -122,7 +123,8 @@ pub fn timed_program_is_a_program()
 /// As `any_peer_keeps_programs`, of a program with a clock: it reads lines of its user, times, and the frames on the
 /// line to it, in any interleaving.
 ///
-/// Premises: those of `any_peer_keeps_programs`, of timer T1 where a line says a time at which it is due.
+/// Premises: those of `any_peer_keeps_programs`, of timer T1 where a line says a time at which it is due; and `--wide`,
+/// or T25 asks for nothing.
 pub fn any_peer_keeps_timed_programs()
     ensures { OfTimedProgram KeepsSessions }
 {
@@ -133,7 +135,8 @@ pub fn any_peer_keeps_timed_programs()
 
 /// As `two_programs_keep_order`, of two programs with clocks, each with times of its own: all its clauses.
 ///
-/// Premises: those of `two_programs_are_a_world`, of timer T1 where a line says a time at which it is due.
+/// Premises: those of `two_programs_are_a_world`, of timer T1 where a line says a time at which it is due; and
+/// `--wide`, or T25 asks for nothing.
 pub fn two_timed_programs_keep_order()
     ensures lawful { UntilSecondUpTimed AreLawfulTimed }
     ensures arrives { UntilSecondUpTimed ArriveTimed }

@@ -9,7 +9,8 @@ use Rattle.x25_line.proofs.DrainWeights.{more_if, times_more, seven_times, ready
 use Rattle.x25_line.proofs.DrainWeights.{asks_set_up, IsSpelled, AreSpelled, Weighs, W-sends, W-ended, W-info, W-peer, W-polls, W-rej}
 use Rattle.x25_line.proofs.{Names.{peer_is, goes_back, polls, rejects, alone, hears, take_step, heard}, StationSends.{AllWithin}}
 use Rattle.x25_link.proofs.EndLemmas.{true_false}
-use Rattle.x25_link.specs.{Hearing.{numbered, reject_of, row_of_frame, row_of}, Link.{declines, when_down, when_waiting}}
+use Rattle.x25_link.specs.declared.phase.{Closing.{Closing}, Closing.TheVariants.{Asked}, Ending.{Ending}, Ending.TheVariants.{ByUa, ByDm}}
+use Rattle.x25_link.specs.{Hearing.{numbered, reject_of, row_of_frame, row_of}, Link.{answered, declines, when_closed, when_down, when_waiting}}
 
 -- ---- how many changes may come yet
 
@@ -275,12 +276,25 @@ module _ (c : LinkSettings) (n1 back low : ℕ) (s : LinkStation) (small : c.win
   waiting_took (ua true) is = anew 1 0 0 Up [] (omega arith) tt (omega (arith, ap phase_weight is))
   waiting_took f is = silent f 0
 
+  ends_took : (ending : Ending) (closing : Closing) → T 1 0 (answered ending closing (alone s))
+  ends_took ending Asked = goes_on 1 0 {n = before} (omega arith) (record {
+    load = omega arith;
+    stands = record { acked = refl; place = low_place; given = refl; sent = omega arith; phase = refl };
+    spelled = tt;
+  })
+  ends_took ending closing = goes_on 1 0 (omega arith) begins
+
+  closed_took : (f : PlainFrame) → T (cost_of f) (asks_set_up f) (when_closed f (alone s)).side
+  closed_took (ua true) = ends_took ByUa s.closing
+  closed_took (dm true) = ends_took ByDm s.closing
+  closed_took f = declined f
+
   hears_took : (octets : List ℕ) (r : Result PlainFrame FrameError) (p : Phase) → s.phase ≡ p
       → T (read_weight back low r) (asks_in r) (hears c octets r p (alone s)).side
   hears_took octets r Up is = read_took octets r is
   hears_took octets (Ok f) Down is = down_took f is
   hears_took octets (Ok f) Waiting is = waiting_took f is
-  hears_took octets (Ok f) Closed is = declined f
+  hears_took octets (Ok f) Closed is = closed_took f
   hears_took octets (Err e) p is = goes_on 1 0 (omega arith) begins
 
   -- what octets that come make of a station, in any phase

@@ -1,11 +1,13 @@
 -- Whatever the two ends are at a quiet moment, once both have fired and all has come each is at rest or not Up.
 use Rattle.x25_line.proofs.Names.{◌≡◌, List, [], ◌∷◌, ◌⊎◌, inl, inr, length, Bool, true, false, if◌then◌else◌, ℕ, suc, ◌<◌, Some, None, refl, sym, ap, ◌∙◌}
-use Rattle.x25_line.proofs.Names.{subst, arith, ltb-false, nat_lt, PlainFrame, sabm, ReadsSpelled, Phase, Down, Waiting, Up, Retries, LinkSettings, LinkStation}
+use Rattle.x25_line.proofs.Names.{subst, arith, ltb-false, nat_lt, PlainFrame, sabm, disc, ReadsSpelled, Phase, Down, Waiting, Up, Closed, Retries, LinkSettings, LinkStation}
 use Rattle.x25_line.proofs.Names.{is_up, is_busy, wanted, with_nothing, LinkStep, other, timer_step, timer_runs, Is, Follows, IsOut, IsAtRest, says, T1}
 use Rattle.x25_line.proofs.Names.{LinkEvent, SessionEnd, Sessions, begun_by, acts, swapped, run, AreJoined, IsWhole, AreWhole, IsDelivery, HasTries, Each}
 use Rattle.std.proofs.lemmas.Bool.{ltb-true}
 use Rattle.x25_line.proofs.{DrainWeights.{below_eight}, HealingLines.{Reads}}
-use Rattle.x25_line.proofs.HealingSetUp.{RestsOrOut, AreOfSetUp, Parts, asked, asked_polling, polled, rests, Settles, settle}
+use Rattle.x25_line.proofs.HealingSetUp.{RestsOrOut, AreOfSetUp, Parts, asked, asked_polling, polled, rests, closes, closes_polled, Settles, settle}
+use Rattle.x25_line.proofs.StationAway.{ended_out}
+use Rattle.x25_link.specs.{declared.phase.Ending.TheVariants.{GivenUp}, laws.SetUp.{ended_by}}
 use Rattle.x25_line.proofs.{HealingSteps.{IsDrained, IsInOrderIfUp, stopped_rests, refused, fires_is, reads_put}, Names.{HealingLaws}}
 use Rattle.x25_line.proofs.{StationAway.{is_up_phase}, StationEvents.{timer_up}, StationRuns.{joined_swapped}, StationSteps.{not_both, out_not_up}}
 use Rattle.x25_link.specs.laws.WindowMachine.{nothing}
@@ -21,18 +23,21 @@ pub data GoesOn (s : LinkStation) : List PlainFrame → Type 0 where
   polls : is_up s.phase ≡ true → s.recovery ≡ true → s.said_busy ≡ is_busy s → GoesOn s (says (is_busy s) true (wanted s) true ∷ [])
   stays : IsAtRest s → GoesOn s []
 
--- it asks for set-up, or is out
+-- it asks for set-up, is out, or disconnects
 pub data IsOff (s : LinkStation) : List PlainFrame → Type 0 where
   asks : s.phase ≡ Waiting → IsOff s (sabm true ∷ [])
   out : IsOut s.phase → IsOff s []
+  disconnects : IsOut s.phase → IsOff s (disc true ∷ [])
 
 off_not_up : {s : LinkStation} {fs : List PlainFrame} → IsOff s fs → is_up s.phase ≡ false
 off_not_up (asks waits) = ap is_up waits
 off_not_up {s} (out gone) = out_not_up s.phase gone
+off_not_up {s} (disconnects gone) = out_not_up s.phase gone
 
 off_sets_up : {s : LinkStation} {fs : List PlainFrame} → IsOff s fs → AreOfSetUp fs
 off_sets_up (asks waits) = (tt, tt)
 off_sets_up (out gone) = tt
+off_sets_up (disconnects gone) = (tt, tt)
 
 -- it goes on where it had tries left, and is as busy
 pub record WentOn (c : LinkSettings) (e : SessionEnd) (s : LinkStation) (fs : List PlainFrame) : Type 0 where
@@ -129,12 +134,35 @@ module _ (c d : LinkSettings) (joined : AreJoined c d) (reads : ReadsSpelled) (l
           is = stays (stopped_rests laws joined.near_low h up stopped);
         }))
 
+    -- an end that is Closed
+    closed : s.phase ≡ Closed → timer_runs s.phase s ≡ true → (b : Bool) → nat_lt s.tries c.retries ≡ b → HasFired c d w (acts c T1 w)
+    closed is running b few = by b (rw (sym few) (laws.sessions.laws.set_up.timer_closes c s is))
+      where
+        After : Bool → Type 0
+        After b = Is (if b then record s { tries = suc s.tries } else ended_by GivenUp s.closing s) (if b then disc true ∷ [] else []) None false step
+
+        not_up : HasTries c.retries w.near.station → ⊥
+        not_up has = not_both (is_up s.phase) has.up (ap is_up is)
+
+        by : (b : Bool) → After b → HasFired c d w (acts c T1 w)
+        by true a =
+            fires running a.near a.out (record { in_range = tt; carries = refl; within = tt; packet = tt }, tt)
+            (inr (record { had_none = not_up; is = disconnects (subst IsOut (sym is) tt) }))
+        by false a = fires running a.near a.out tt (inr (record { had_none = not_up; is = out (ended_out GivenUp s.closing s (subst IsOut (sym is) tt)) }))
+
+    closed_fires : s.phase ≡ Closed → (b : Bool) → timer_runs s.phase s ≡ b → HasFired c d w (acts c T1 w)
+    closed_fires is true running = closed is running (nat_lt s.tries c.retries) refl
+    closed_fires is false stopped =
+        stands stopped
+        (inr (record { had_none = λ has. not_both (is_up s.phase) has.up (ap is_up is); is = out (subst IsOut (sym is) tt) }))
+
     has_fired : IsInOrderIfUp c w.near.station → HasFired c d w (acts c T1 w)
     has_fired h = by s.phase refl
       where
         by : (p : Phase) → s.phase ≡ p → HasFired c d w (acts c T1 w)
         by Up is = up_fires h (ap is_up is) (timer_runs s.phase s) refl
         by Waiting is = waiting is (nat_lt s.tries c.retries) refl
+        by Closed is = closed_fires is (timer_runs s.phase s) refl
         by p is =
             stands (ap (λ q. timer_runs q s) is)
             (inr (record { had_none = λ has. not_both (is_up s.phase) has.up (ap is_up is); is = out (subst IsOut (sym is) tt) }))
@@ -181,6 +209,8 @@ module _ (reads : ReadsSpelled) (laws : HealingLaws) where
   parts {s} (polls up recovery said) (out gone) = polled (is_busy s) (wanted s) up gone
   parts {s} (stays rest) (asks waits) = asked (laws.rest.only_then s rest).0 waits
   parts (stays rest) (out gone) = rests rest gone
+  parts {s} (polls up recovery said) (disconnects gone) = closes_polled (is_busy s) (wanted s) (below_eight (length s.taken)) up gone
+  parts {s} (stays rest) (disconnects gone) = closes (laws.rest.only_then s rest).0 gone
 
   -- from any two ends, where two that are Up and have tries left come to rest
   pub rest_or_out : (c d : LinkSettings) → AreJoined c d → (w : Sessions) → IsInOrderIfUp c w.near.station → IsInOrderIfUp d w.far.station → IsDrained w

@@ -1,11 +1,12 @@
 -- After all events an end has said all that it may, and each of its packets may be sent.
 use Rattle.x25_line.proofs.Names.{◌≡◌, ℕ, ◌+◌, ◌*◌, ◌≤◌, ◌⊎◌, inl, inr, List, [], ◌∷◌, length, Bool, true, false, if◌then◌else◌, refl, sym, ap, subst, arith}
-use Rattle.x25_line.proofs.Names.{nat_lt, frame_of, Phase, Down, Up, Retries, LinkSettings, LinkStation, Side, is_busy, with_nothing, fresh, ended, LinkStep}
+use Rattle.x25_line.proofs.Names.{nat_lt, frame_of, Phase, Down, Up, Closed, LinkSettings, LinkStation, Side, is_busy, with_nothing, fresh, ended, LinkStep}
 use Rattle.x25_line.proofs.Names.{quiet, other, alone, take_step, LinkEvent, Near, Far, Sessions, acts, swapped, run, IsStart, AreJoined, HealingLaws}
 use Rattle.std.proofs.lemmas.Bool.{and_right}
 use Rattle.x25_line.proofs.DrainSteps.{took}
 use Rattle.x25_line.proofs.{StationSends.{AllWithin, within_push}, sessions.Acts.{Keeps, act_stays}}
-use Rattle.x25_link.specs.{Hearing.{leaves}, Link.{puts, fires, asks_again, connects, disconnects}, Station.{with_near}, laws.LinkLaws.{ended_lists}}
+use Rattle.x25_link.specs.declared.phase.{Closing.{Closing}, Closing.TheVariants.{Asked}, Ending.TheVariants.{GivenUp}}
+use Rattle.x25_link.specs.{Link.{answered, puts, fires, asks_again, gives_up, connects, disconnects}, Station.{with_near}, laws.LinkLaws.{ended_lists}}
 use Rattle.x25_link.specs.laws.RestLaw.{HasSaidAll}
 
 run_stays : {c d : LinkSettings} {P Q : LinkStation → Type 0} → Keeps c P → Keeps d Q → (es : List LinkEvent) (w : Sessions) → P w.near.station
@@ -45,11 +46,19 @@ asks_within : (n1 : ℕ) (p : Phase) (t : Side) → AllWithin n1 t.near.outgoing
 asks_within n1 Up t h = side_if n1 (is_busy t.near) _ _ h h
 asks_within n1 p t h = h
 
+gives_within : (n1 : ℕ) (p : Phase) (t : Side) → AllWithin n1 t.near.outgoing.given → AllWithin n1 (gives_up p t).side.near.outgoing.given
+gives_within n1 Closed t h = ends t.near.closing
+  where
+    ends : (closing : Closing) → AllWithin n1 (answered GivenUp closing t).near.outgoing.given
+    ends Asked = h
+    ends closing = h
+gives_within n1 p t h = tt
+
 fires_within : (n1 : ℕ) (b : Bool) (s : LinkStation) → AllWithin n1 s.outgoing.given
-    → (let z : LinkStep = if b then quiet (asks_again s.phase (with_near (alone s) (record s { tries = s.tries + 1 }))) else leaves Retries (alone s) in
+    → (let z : LinkStep = if b then quiet (asks_again s.phase (with_near (alone s) (record s { tries = s.tries + 1 }))) else gives_up s.phase (alone s) in
     AllWithin n1 z.side.near.outgoing.given)
 fires_within n1 true s h = asks_within n1 s.phase (with_near (alone s) (record s { tries = s.tries + 1 })) h
-fires_within n1 false s h = tt
+fires_within n1 false s h = gives_within n1 s.phase (alone s) h
 
 module _ (laws : HealingLaws) where
   pub keeps_fit : (c : LinkSettings) (n1 : ℕ) → c.window ≤ 7 → c.longest ≡ n1 → Keeps c (IsFit c.window n1)
@@ -66,7 +75,7 @@ module _ (laws : HealingLaws) where
       within = ended_within n1 c.window (fires c (alone s)).side (fires_within n1 (nat_lt s.tries c.retries) s h.within);
     };
     connects = λ s h. record { said = laws.rest.connect c s h.said.low; within = ended_within n1 c.window (connects (alone s)).side h.within };
-    disconnects = λ s h. record { said = laws.rest.disconnect c s; within = ended_within n1 c.window (disconnects (alone s)).side tt };
+    disconnects = λ s h. record { said = laws.rest.disconnect c s; within = ended_within n1 c.window (disconnects c.disc_again (alone s)).side tt };
     abandons = λ s h. record { said = laws.rest.abandon c s; within = ended_within n1 c.window _ tt };
   }
 

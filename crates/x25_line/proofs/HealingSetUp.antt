@@ -1,14 +1,16 @@
 -- Two ends of which not both go on once they have fired: set-up, a poll or DM is all that comes, and each end comes to rest or isn't Up.
 use Rattle.x25_line.proofs.Names.{◌≡◌, ℕ, ◌<◌, List, [], ◌∷◌, ◌++◌, ◌⊎◌, inl, inr, length, Bool, true, false, if◌then◌else◌, Ok, refl, sym, ap, ◌∙◌, arith}
 use Rattle.x25_line.proofs.Names.{leb-true, le-ltb, eq-eqb, and_parts, ◌&&◌, nat_lt, Role, PlainFrame, info, rr, rnr, rej, sabm, disc, ua, dm, frmr, is_command}
-use Rattle.x25_line.proofs.Names.{poll_or_final, ReadsSpelled, Phase, Down, Waiting, Up, Closed, waits, LinkSettings, LinkStation, Side, is_up, is_busy, wanted}
+use Rattle.x25_line.proofs.Names.{poll_or_final, frame_of, subst, ReadsSpelled, Phase, Down, Waiting, Up, Closed, waits, LinkSettings, LinkStation, Side, is_up, is_busy, wanted}
 use Rattle.x25_line.proofs.Names.{with_nothing, fresh, sends, may_send, ended, LinkStep, quiet, other, is_valid, acknowledged, peer_is, polls, rejects, alone}
 use Rattle.x25_line.proofs.Names.{hears, take_step, timer_runs, waiting_after, waiting_sends, IsOut, IsAtRest, says, Deliver, LinkEvent, Entry, Meeting}
 use Rattle.x25_line.proofs.Names.{Sessions, begun_by, after_step, delivered, acts, swapped, run, AreJoined, IsWhole, AreWhole, IsDelivery, Each, HealingLaws}
 use Rattle.x25_line.proofs.{DrainWeights.{below_eight}, HealingLines.{Reads}, HealingSteps.{IsDrained, deliveries_keep, reads_put}, Lists.{each_append}}
-use Rattle.x25_line.proofs.{StationAway.{up_takes_part, is_up_phase}, StationRuns.{joined_swapped}, StationSteps.{not_both, out_not_up}}
+use Rattle.x25_link.specs.declared.phase.{Closing.{Closing}, Closing.TheVariants.{Asked}, Ending.{Ending}, Ending.TheVariants.{ByUa, ByDm}}
+use Rattle.x25_line.proofs.{StationAway.{closed_still, up_takes_part, is_up_phase}, StationRuns.{joined_swapped}, StationSteps.{not_both, out_not_up}}
 use Rattle.x25_link.proofs.EndLemmas.{none_open, not_open, pumped_stays}
-use Rattle.x25_link.specs.{Hearing.{row_of_frame}, Link.{declines, when_down, when_waiting}}
+use Rattle.x25_link.specs.{Hearing.{leaves, row_of_frame}, Link.{answered, closed_by, declines, when_closed, when_down, when_waiting}}
+use Rattle.x25_link.specs.declared.phase.Reason.TheVariants.{Disc}
 use Rattle.x25_link.specs.{Station.{ready, owes_ready, finished}, laws.AnswerLaw.{asks}}
 
 -- an end is at rest, or not Up
@@ -50,6 +52,7 @@ rests_or_out (inr off) = inr off
 
 abbrev pub IsOfSetUp : PlainFrame → Type 0
 IsOfSetUp (sabm p) = Unit {0}
+IsOfSetUp (disc p) = Unit {0}
 IsOfSetUp (ua f) = Unit {0}
 IsOfSetUp (dm f) = Unit {0}
 IsOfSetUp (frmr f why) = length why ≡ 3
@@ -68,6 +71,7 @@ set_up_whole n1 (f ∷ fs) are = (whole f are.0, set_up_whole n1 fs are.1)
   where
     whole : (f : PlainFrame) → IsOfSetUp f → IsWhole n1 [] f
     whole (sabm p) is = record { in_range = tt; carries = refl; within = tt; packet = tt }
+    whole (disc p) is = record { in_range = tt; carries = refl; within = tt; packet = tt }
     whole (ua f) is = record { in_range = tt; carries = refl; within = tt; packet = tt }
     whole (dm f) is = record { in_range = tt; carries = refl; within = tt; packet = tt }
     whole (frmr f why) is = record { in_range = tt; carries = is; within = tt; packet = tt }
@@ -130,8 +134,18 @@ calm_declines f s off = calm_if (is_command f && poll_or_final f) _ _ (λ _. cal
 
 calm_down : (f : PlainFrame) (s : LinkStation) → is_up s.phase ≡ false → IsOfSetUp f → IsCalm (when_down f (alone s)).side
 calm_down (sabm p) s off is = begun tt
-calm_down (disc p) s off is = absurd is
+calm_down (disc p) s off is = calm_sends (dm p) tt (calm_off s off)
 calm_down f s off is = calm_declines f s off
+
+-- what a DISC awaits ends
+calm_answered : (ending : Ending) (closing : Closing) (s : LinkStation) → is_up s.phase ≡ false → IsCalm (answered ending closing (alone s))
+calm_answered ending Asked s off = record { near = inr off; out = tt }
+calm_answered ending closing s off = calm_off s off
+
+calm_closed : (f : PlainFrame) (s : LinkStation) → is_up s.phase ≡ false → IsCalm (when_closed f (alone s)).side
+calm_closed (ua true) s off = calm_answered ByUa s.closing s off
+calm_closed (dm true) s off = calm_answered ByDm s.closing s off
+calm_closed f s off = calm_declines f s off
 
 calm_waiting : (f : PlainFrame) (s : LinkStation) → is_up s.phase ≡ false → IsOfSetUp f → IsCalm (when_waiting f (alone s)).side
 calm_waiting (sabm p) s off is = calm_sends (ua p) tt (calm_off s off)
@@ -139,7 +153,7 @@ calm_waiting (ua true) s off is = record { near = inl fresh_blank; out = tt }
 calm_waiting (info ns nr p x) s off is = absurd is
 calm_waiting (rnr command nr pf) s off is = absurd is
 calm_waiting (rej command nr pf) s off is = absurd is
-calm_waiting (disc p) s off is = absurd is
+calm_waiting (disc p) s off is = calm_sends (dm p) tt (calm_off s off)
 calm_waiting f s off is = calm_off s off
 
 blank_polls : (command pf : Bool) (t : Side) → IsBlank t.near → AreOfSetUp t.out → IsCalm (polls command pf t)
@@ -166,6 +180,7 @@ blank_row c octets command pf nr s h = by (is_valid nr s) refl
 
 calm_up : (c : LinkSettings) (octets : List ℕ) (f : PlainFrame) {s : LinkStation} → IsBlank s → IsOfSetUp f → IsCalm (row_of_frame c octets f (alone s)).side
 calm_up c octets (sabm p) h is = begun tt
+calm_up c octets (disc p) h is = record { near = inr refl; out = (tt, tt) }
 calm_up c octets (ua f) h is = record { near = inl h; out = tt }
 calm_up c octets (dm f) h is = record { near = inr refl; out = tt }
 calm_up c octets (frmr f why) h is = record { near = inr refl; out = tt }
@@ -181,7 +196,14 @@ calm_hears : (c : LinkSettings) (octets : List ℕ) (f : PlainFrame) (s : LinkSt
 calm_hears c octets f s h is Down phase = calm_down f s (ap is_up phase) is
 calm_hears c octets f s h is Waiting phase = calm_waiting f s (ap is_up phase) is
 calm_hears c octets f s h is Up phase = calm_up c octets f (blank_of s (ap is_up phase) h) is
-calm_hears c octets f s h is Closed phase = calm_declines f s (ap is_up phase)
+calm_hears c octets f s h is Closed phase = calm_closed f s (ap is_up phase)
+
+-- DISC takes Up away
+disc_leaves : (c : LinkSettings) (octets : List ℕ) (s : LinkStation) → s.phase ≡ Up → (p : Bool)
+    → frame_of (other c.role) c.longest octets ≡ Ok (disc p) → take_step c octets s ≡ leaves Disc (sends (ua p) (alone s))
+disc_leaves c octets s up p is =
+    let left : LinkStep = leaves Disc (sends (ua p) (alone s)) in
+    rw is (subst (λ q. closed_by c.window (hears c octets (Ok (disc p)) q (alone s)) ≡ left) (sym up) (closed_still c.window left refl))
 
 -- ---- two ends of which not both go on, and the frames between them
 
@@ -197,6 +219,12 @@ pub data Parts (s t : LinkStation) : List PlainFrame → List PlainFrame → Typ
   polled : (busy : Bool) (number : ℕ) → is_up s.phase ≡ true → IsOut t.phase → Parts s t (says busy true number true ∷ []) []
   declined : is_up s.phase ≡ true → IsOut t.phase → Parts s t [] (dm true ∷ [])
   rests : IsAtRest s → IsOut t.phase → Parts s t [] []
+  -- the far end disconnects, at which the near end leaves: a poll that went before is answered by DM, and UA follows an RNR
+  closes : is_up s.phase ≡ true → IsOut t.phase → Parts s t [] (disc true ∷ [])
+  closes_polled : (busy : Bool) (number : ℕ) → number < 8 → is_up s.phase ≡ true → IsOut t.phase
+      → Parts s t (says busy true number true ∷ []) (disc true ∷ [])
+  closes_declined : is_up s.phase ≡ true → IsOut t.phase → Parts s t [] (disc true ∷ dm true ∷ [])
+  closed : (number : ℕ) → is_up s.phase ≡ false → IsOut t.phase → Parts s t (rnr true number true ∷ ua true ∷ []) []
 
 -- nothing but set-up is on the way
 pub record Calm (s t : LinkStation) (fs gs : List PlainFrame) : Type 0 where
@@ -219,6 +247,8 @@ parted : (from to : Role) (n m : ℕ) {s t : LinkStation} {fs gs : List PlainFra
 parted from to n m {t = t} out back (rests rest gone) = (inl rest, inr (out_not_up t.phase gone))
 parted from to n m out back (asked up is) = absurd back
 parted from to n m out back (declined up gone) = absurd back
+parted from to n m out back (closes up gone) = absurd back
+parted from to n m out back (closes_declined up gone) = absurd back
 parted from to n m out back p = absurd out
 
 settled : (from to : Role) (n m : ℕ) {s t : LinkStation} {fs gs : List PlainFrame} → Reads from n [] fs → Reads to m [] gs → Settles s t fs gs → RestsOrOut s
@@ -275,6 +305,14 @@ module _ (c d : LinkSettings) (joined : AreJoined c d) (reads : ReadsSpelled) (l
         let a = laws.sessions.laws.set_up.waits c e.octets s waits (Ok (says busy true n true)) (sym back.0) in
         goes e _ [] fs s out back.1 (a.near ∙ (poll_off busy n s).0) (a.out ∙ (poll_off busy n s).1) tt is
 
+    -- an end that is Up leaves at a DISC
+    leaves_by : (e : Entry) (es : List Entry) (fs gs : List PlainFrame) → is_up s.phase ≡ true → Reads (other d.role) d.longest w.out fs
+        → Reads (other c.role) c.longest (e ∷ es) (disc true ∷ gs) → Settles (with_nothing Down s.tries) t (fs ++ ua true ∷ []) gs
+        → Settling c d (delivered c (e ∷ es) w)
+    leaves_by e es fs gs up out back is =
+        let a = disc_leaves c e.octets s (is_up_phase s.phase up) true back.0 in
+        goes e _ (ua true ∷ []) fs (with_nothing Down s.tries) out back.1 (ap (λ k. k.side.near) a) (ap (λ k. k.side.out) a) (tt, tt) is
+
     -- an end that is Up hears
     up_hears : (es : List Entry) {fs gs : List PlainFrame} → Reads (other d.role) d.longest w.out fs → Reads (other c.role) c.longest es gs → Parts s t fs gs
         → Settling c d (delivered c es w)
@@ -294,6 +332,15 @@ module _ (c d : LinkSettings) (joined : AreJoined c d) (reads : ReadsSpelled) (l
         let a = laws.answers.dm c e.octets s (is_up_phase s.phase up) true back.0 in
         goes e _ [] [] (with_nothing Down s.tries) out back.1 a.0 a.1 tt
         (inr (inr (record { near = inr refl; far = inr (out_not_up t.phase gone); there = tt; back = tt })))
+    up_hears (e ∷ es) out back (closes up gone) =
+        leaves_by e es [] [] up out back (inr (inr (record { near = inr refl; far = inr (out_not_up t.phase gone); there = (tt, tt); back = tt })))
+    up_hears (e ∷ es) out back (closes_declined up gone) =
+        leaves_by e es [] (dm true ∷ []) up out back
+        (inr (inr (record { near = inr refl; far = inr (out_not_up t.phase gone); there = (tt, tt); back = (tt, tt) })))
+    up_hears (e ∷ es) out back (closes_polled false n small up gone) =
+        leaves_by e es (rr true n true ∷ []) [] up out back
+        (inr (inr (record { near = inr refl; far = inr (out_not_up t.phase gone); there = (small, (tt, tt)); back = tt })))
+    up_hears (e ∷ es) out back (closes_polled true n small up gone) = leaves_by e es (rnr true n true ∷ []) [] up out back (inl (closed n refl gone))
     up_hears (e ∷ es) out back p = absurd back
 
     -- the other end hears
@@ -306,6 +353,13 @@ module _ (c d : LinkSettings) (joined : AreJoined c d) (reads : ReadsSpelled) (l
     off_hears (e ∷ es) out back (polled busy n up gone) =
         let a = laws.answers.out c e.octets s gone (says busy true n true) back.0 (poll_off busy n s).2 in
         goes e _ (dm true ∷ []) [] s out back.1 a.near a.out (tt, tt) (inr (inl (declined up gone)))
+    off_hears (e ∷ es) out back (closes_polled busy n small up gone) =
+        let a = laws.answers.out c e.octets s gone (says busy true n true) back.0 (poll_off busy n s).2 in
+        goes e _ (dm true ∷ []) (disc true ∷ []) s out back.1 a.near a.out (tt, tt) (inr (inl (closes_declined up gone)))
+    off_hears (e ∷ es) out back (closed n off gone) =
+        let a = laws.answers.out c e.octets s gone (rnr true n true) back.0 refl in
+        goes e _ (dm true ∷ []) [] s out back.1 a.near a.out (tt, tt)
+        (inr (inr (record { near = inr (out_not_up s.phase gone); far = inr off; there = (tt, tt); back = (tt, tt) })))
     off_hears (e ∷ es) out back p = absurd back
 
     calm_hears_more : (es : List Entry) (fs gs : List PlainFrame) → Reads (other d.role) d.longest w.out fs → Reads (other c.role) c.longest es gs

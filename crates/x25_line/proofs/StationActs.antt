@@ -1,11 +1,12 @@
 -- What follows of each act of a station that was set up once, where it is known of a few kinds of steps.
 use Rattle.x25_line.proofs.Names.{◌≡◌, ℕ, suc, ◌≤◌, List, [], ◌∷◌, inl, inr, length, Bool, true, false, if◌then◌else◌, Option, Some, None, Result, refl, sym}
-use Rattle.x25_line.proofs.Names.{ap, ◌∙◌, subst, leb-true, nat_le, nat_lt, PlainFrame, sabm, frame_of, FrameError, Phase, Down, Waiting, Up, Closed, Retries}
+use Rattle.x25_line.proofs.Names.{ap, ◌∙◌, subst, leb-true, nat_le, nat_lt, PlainFrame, sabm, disc, Local, frame_of, FrameError, Phase, Down, Waiting, Up, Closed, Retries}
 use Rattle.x25_line.proofs.Names.{LinkSettings, LinkStation, is_up, with_nothing, LinkStep, other, take_step, put_step, put_refusal, timer_step, timer_refusal}
 use Rattle.x25_line.proofs.Names.{timer_runs, connect_step, connect_refusal, disconnect_step, disconnect_refusal, abandon_step, Window, Is, TakesPart, Stays}
 use Rattle.x25_line.proofs.Names.{Follows, IsOut, StaysOut, Stations, Act, Put, Deliver, T1, Connect, Disconnect, Abandon, Probe, Lose, Damage, is_visible}
 use Rattle.x25_line.proofs.{Choices.{unless_by, if_by}, Losses.{removes, replaces}, Names.{IsSeen, sabm_of, said, Laws, LessAt, replaced}}
-use Rattle.x25_line.proofs.StationAway.{closed_takes, waits_on, waiting_parting, quiet_by, up_takes_part, connects_from, second_false}
+use Rattle.x25_link.specs.{Station.{disconnected}, declared.phase.Ending.TheVariants.{GivenUp}, laws.SetUp.{ended_by}}
+use Rattle.x25_line.proofs.StationAway.{closed_takes, ended_phase_by, ended_lists_by, waits_on, waiting_parting, quiet_by, up_takes_part, connects_from, second_false}
 use Rattle.x25_line.proofs.{StationHears.{sabm_or_not, sets_none_up}, StationLines.{AreParting}}
 use Rattle.x25_line.proofs.StationSteps.{out_not_up, AsUp, IsAway, FitsEnd, up_of, not_both, stays_out, in_vain, Parts, ends_parts, declining_parting}
 use Rattle.x25_line.specs.laws.{Stations.{after_step, unless, delivered, acts}, WholeNumbers.{place_taken}}
@@ -122,6 +123,13 @@ module _ {c : LinkSettings} (laws : Laws) {w : Stations} {e : Window} {Q : Optio
         noted = in_vain phase i.down i.up;
       }
 
+  closed_timer : IsAway s → s.phase ≡ Closed → (b : Bool) {step : LinkStep}
+      → Is (if b then record s { tries = suc s.tries } else ended_by GivenUp s.closing s) (if b then disc true ∷ [] else []) None false step → Parts s step
+  closed_timer away phase true {step} i = asks_parts (ap is_up phase) i tt (record { away = away.away; empty = away.empty })
+  closed_timer away phase false {step} i =
+      asks_parts (ap is_up phase) i tt
+      (record { away = ap is_up (ended_phase_by GivenUp s.closing s ∙ phase); empty = ended_lists_by GivenUp s.closing s ∙ away.empty })
+
   timer_by : Q None (unless (timer_refusal s) w (after_step c w w.back [] (timer_step c s)))
   timer_by = go k.fits
     where
@@ -130,6 +138,9 @@ module _ {c : LinkSettings} (laws : Laws) {w : Stations} {e : Window} {Q : Optio
           unless_by (Q None) (timer_refusal s) k.still
           (λ _. k.parts (timer_step c s) (waiting_timer away phase (nat_lt s.tries c.retries) (laws.set_up.timer c s phase)))
       by_phase Up phase away may = not_both true refl may
+      by_phase Closed phase away may =
+          unless_by (Q None) (timer_refusal s) k.still
+          (λ _. k.parts (timer_step c s) (closed_timer away phase (nat_lt s.tries c.retries) (laws.set_up.timer_closes c s phase)))
       by_phase q phase away may = rw (ap (λ q. timer_runs q s) phase) k.still
 
       go : FitsEnd c s e → Q None (unless (timer_refusal s) w (after_step c w w.back [] (timer_step c s)))
@@ -157,7 +168,10 @@ module _ {c : LinkSettings} (laws : Laws) {w : Stations} {e : Window} {Q : Optio
           }
 
       by_phase : (q : Phase) → s.phase ≡ q → is_up q ≡ false → Parts s (disconnect_step c s)
-      by_phase Waiting phase may = asks_parts (ap is_up phase) (laws.set_up.disconnects c s phase) tt (record { away = refl; empty = refl })
+      by_phase Waiting phase may =
+          asks_parts (ap is_up phase)
+          (subst (λ b. Is (disconnected c.disc_again) (disc true ∷ []) (if b then Some Local else None) false (disconnect_step c s)) (ap is_up phase)
+          (laws.set_up.disconnects c s)) tt (record { away = refl; empty = refl })
       by_phase Up phase may = not_both true refl may
       by_phase q phase may = closes (subst IsOut (sym phase) tt)
 

@@ -5,7 +5,9 @@ use Rattle.x25_line.proofs.Names.{NoInfoAllowed, TooLong, Phase, Down, Up, Close
 use Rattle.x25_line.proofs.Names.{LinkStep, quiet, other, rejects, is_valid, acknowledged, hears_info, peer_is, goes_back, polls, alone, closed_by, hears}
 use Rattle.x25_line.proofs.Names.{take_step, connect_refusal, waiting_after, waiting_sends, waiting_up, TakesPart, window_of, ending_of, IsOut, StaysOut}
 use Rattle.x25_line.proofs.{StationLines.{AreParting}, StationSteps.{out_not_up, not_both}}
-use Rattle.x25_link.specs.{Station.{pumped_once}, declared.phase.Notes.{Notes}, laws.NoteLaw.{IsQuiet}}
+use Rattle.x25_link.specs.declared.phase.{Closing.{Closing}, Closing.TheVariants.{Asked}, Ending.{Ending}, Ending.TheVariants.{ByUa, ByDm}}
+use Rattle.x25_link.specs.{Link.{answered}, laws.SetUp.{ended_by}}
+use Rattle.x25_link.specs.{Station.{lists_of, pumped_once}, declared.phase.Notes.{Notes}, laws.NoteLaw.{IsQuiet}}
 
 -- ---- a station that isn't Up sends nothing at the end of a step
 
@@ -28,8 +30,14 @@ declines_out : (b : Bool) (s : LinkStation) → IsOut s.phase → StaysOut (quie
 declines_out true s out = record { out = out; frames = tt; packet = refl; quiet = refl }
 declines_out false s out = record { out = out; frames = tt; packet = refl; quiet = refl }
 
+answered_out : (ending : Ending) (closing : Closing) (s : LinkStation) → IsOut s.phase → StaysOut (quiet (answered ending closing (alone s)))
+answered_out ending Asked s out = record { out = out; frames = tt; packet = refl; quiet = refl }
+answered_out ending closing s out = record { out = out; frames = tt; packet = refl; quiet = refl }
+
 closed_row : (c : LinkSettings) (octets : List ℕ) (s : LinkStation) → IsOut s.phase → (read : Result PlainFrame FrameError)
     → StaysOut (hears c octets read Closed (alone s))
+closed_row c octets s out (Ok (ua true)) = answered_out ByUa s.closing s out
+closed_row c octets s out (Ok (dm true)) = answered_out ByDm s.closing s out
 closed_row c octets s out (Ok frame) = declines_out (is_command frame && poll_or_final frame) s out
 closed_row c octets s out (Err e) = record { out = out; frames = tt; packet = refl; quiet = refl }
 
@@ -41,6 +49,18 @@ closed_takes c octets s is =
     subst (λ p. StaysOut (hears c octets read p (alone s))) (sym is) (closed_row c octets s (subst IsOut (sym is) tt) read) in
     let step : LinkStep = hears c octets read s.phase (alone s) in
     subst StaysOut (sym (closed_still c.window step (out_not_up step.side.near.phase out.out))) out
+
+-- an end that a DISC awaits leaves the phase
+pub ended_phase_by : (ending : Ending) (closing : Closing) (s : LinkStation) → (ended_by ending closing s).phase ≡ s.phase
+ended_phase_by ending Asked s = refl
+ended_phase_by ending closing s = refl
+
+pub ended_out : (ending : Ending) (closing : Closing) (s : LinkStation) → IsOut s.phase → IsOut (ended_by ending closing s).phase
+ended_out ending closing s out = subst IsOut (sym (ended_phase_by ending closing s)) out
+
+pub ended_lists_by : (ending : Ending) (closing : Closing) (s : LinkStation) → lists_of (ended_by ending closing s) ≡ lists_of s
+ended_lists_by ending Asked s = refl
+ended_lists_by ending closing s = refl
 
 -- ---- what comes while UA is awaited, other than that
 

@@ -3,6 +3,8 @@ use Rattle.x25_line.proofs.Names.{◌≡◌, ℕ, List, [], ◌∷◌, length, B
 use Rattle.x25_line.proofs.Names.{nat_lt, ◌||◌, LinkError, LinkSettings, LinkStation, is_up, LinkStep, put_step, put_refusal, timer_step, timer_refusal}
 use Rattle.x25_line.proofs.Names.{connect_step, connect_refusal, disconnect_step, disconnect_refusal, abandon_step, Stations, Act, Put, Deliver, T1, Connect}
 use Rattle.x25_line.proofs.{Choices.{unless_by, if_by}, Names.{Disconnect, Abandon, Probe, Lose, Damage, Near, Far, is_visible, stations_swapped, HandsOne}}
+use Rattle.x25_line.proofs.Names.{Phase, Closed, Side, alone}
+use Rattle.x25_link.specs.Link.{gives_up}
 use Rattle.x25_line.specs.laws.{StationClaims.{EachEventHandsOne}, Stations.{after_step, unless, own_act, delivered, acts}}
 
 -- a step that hands nothing up, to which nothing was handed down, and that doesn't note LinkUp
@@ -37,11 +39,19 @@ up_if : (b : Bool) (x y : LinkStep) → x.notes.up ≡ false → y.notes.up ≡ 
 up_if true x y e f = e
 up_if false x y e f = f
 
+gives_packet : (p : Phase) (t : Side) → (gives_up p t).packet ≡ None
+gives_packet Closed t = refl
+gives_packet p t = refl
+
+gives_no_up : (p : Phase) (t : Side) → (gives_up p t).notes.up ≡ false
+gives_no_up Closed t = refl
+gives_no_up p t = refl
+
 pub timer_packet : (c : LinkSettings) (s : LinkStation) → (timer_step c s).packet ≡ None
-timer_packet c s = packet_if (nat_lt s.tries c.retries) _ _ refl refl
+timer_packet c s = packet_if (nat_lt s.tries c.retries) _ (gives_up s.phase (alone s)) refl (gives_packet s.phase (alone s))
 
 pub timer_up : (c : LinkSettings) (s : LinkStation) → (timer_step c s).notes.up ≡ false
-timer_up c s = up_if (nat_lt s.tries c.retries) _ _ refl refl
+timer_up c s = up_if (nat_lt s.tries c.retries) _ (gives_up s.phase (alone s)) refl (gives_no_up s.phase (alone s))
 
 -- ---- acts that take no octets and are given no packet, in any world
 

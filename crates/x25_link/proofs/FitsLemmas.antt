@@ -2,6 +2,7 @@
 use Rattle.x25_link.proofs.Names.{◌≡◌, ℕ, ◌%◌, List, [], ◌∷◌, ◌++◌, Bool, true, false, if◌then◌else◌, refl, sym, ap, ◌∙◌, ◌+◌, ◌<◌, arith, not, length}
 use Rattle.x25_link.proofs.Names.{length-append, ◌≤◌, ◌-◌, eq-eqb, and_right, PlainFrame, info, spelling_of, Outgoing, is_open, next_packet, moved_on}
 use Rattle.x25_link.proofs.Names.{FitsOutgoing, Phase, Up, LinkSettings, LinkStation, Side, with_near, with_nothing, fresh, is_up, is_busy, wanted, may_send}
+use Rattle.x25_link.proofs.Names.{Closed, Closing, Unasked, Asked, disconnected}
 use Rattle.x25_link.proofs.Names.{pumped, owes_ready, acknowledged, peer_is, goes_back, is_taken, takes, FitsStation, FitsSide}
 use Rattle.std.{proofs.Common.{append_assoc, add-one, ◌==◌, max, ◌&&◌}, proofs.lemmas.Bool.{ne_eqb}, proofs.lemmas.List.{map-append}, specs.Prelude.{IsTrue}}
 use Rattle.x25_bits.specs.declared.{role.Role.{Role}, seq.Seq.{Seq}}
@@ -9,6 +10,47 @@ use Rattle.x25_link.proofs.EndLemmas.{true_false, pumped_settled, once_none}
 use Rattle.x25_link.specs.{Outgoing.{acknowledged_to, gone_back}, Station.{pumped_once}, code.Fits.{Made}}
 use Rattle.x25_link.specs.declared.{outgoing.Outgoing.{Outgoing as OutgoingCode}, station.LinkStation.{LinkStation as StationCode}}
 use Rattle.x25_window.specs.{Receiver.{FitsTaken}, code.Modulo.{resolved}}
+
+-- all is dropped, and the answer to a DISC may be awaited
+pub closes_fits : (c : LinkSettings) (v : StationCode) (closing : Closing) (before made : List (List ℕ)) (t : Side) (tries : ℕ)
+    → closing ≡ (if c.disc_again then Asked else Unasked) → FitsSide c v before made (with_near t (with_nothing Closed tries))
+    → FitsSide c (record v { tries = 0; closing = closing }) before made (with_near t (disconnected c.disc_again))
+closes_fits c v closing before made t tries is fits = record {
+  near = record {
+    role = fits.near.role;
+    longest = fits.near.longest;
+    retries = fits.near.retries;
+    again = fits.near.again;
+    outgoing = fits.near.outgoing;
+    taken = fits.near.taken;
+    phase = fits.near.phase;
+    tries = refl;
+    recovery = fits.near.recovery;
+    peer_busy = fits.near.peer_busy;
+    rejecting = fits.near.rejecting;
+    said_busy = fits.near.said_busy;
+    closing = is;
+  };
+  out = fits.out;
+}
+
+pub closing_fits : (c : LinkSettings) (v : StationCode) (s : LinkStation) (closing : Closing) → FitsStation c v s
+    → FitsStation c (record v { closing = closing }) (record s { closing = closing })
+closing_fits c v s closing fits = record {
+  role = fits.role;
+  longest = fits.longest;
+  retries = fits.retries;
+  again = fits.again;
+  outgoing = fits.outgoing;
+  taken = fits.taken;
+  phase = fits.phase;
+  tries = fits.tries;
+  recovery = fits.recovery;
+  peer_busy = fits.peer_busy;
+  rejecting = fits.rejecting;
+  said_busy = fits.said_busy;
+  closing = refl;
+}
 
 pub made_more : (c : LinkSettings) (role : Role) (before old made : List (List ℕ)) (frames : List PlainFrame) (frame : PlainFrame) → role ≡ c.role
     → Made c before old frames
@@ -23,6 +65,7 @@ with_outgoing c v s b o fits outgoing = record {
   role = fits.role;
   longest = fits.longest;
   retries = fits.retries;
+  again = fits.again;
   outgoing = outgoing;
   taken = fits.taken;
   phase = fits.phase;
@@ -31,6 +74,7 @@ with_outgoing c v s b o fits outgoing = record {
   peer_busy = fits.peer_busy;
   rejecting = fits.rejecting;
   said_busy = fits.said_busy;
+  closing = fits.closing;
 }
 
 pub may_send_is : (k : ℕ) (s : LinkStation) → s.recovery ≡ false → s.peer_busy ≡ false → is_up s.phase ≡ true → may_send k s ≡ is_open k s.outgoing
@@ -72,6 +116,7 @@ said c v s b fits = record {
   role = fits.role;
   longest = fits.longest;
   retries = fits.retries;
+  again = fits.again;
   outgoing = fits.outgoing;
   taken = fits.taken;
   phase = fits.phase;
@@ -80,6 +125,7 @@ said c v s b fits = record {
   peer_busy = fits.peer_busy;
   rejecting = fits.rejecting;
   said_busy = refl;
+  closing = fits.closing;
 }
 
 pub rejecting : (c : LinkSettings) (v : StationCode) (s : LinkStation) (b : Bool) → FitsStation c v s
@@ -88,6 +134,7 @@ rejecting c v s b fits = record {
   role = fits.role;
   longest = fits.longest;
   retries = fits.retries;
+  again = fits.again;
   outgoing = fits.outgoing;
   taken = fits.taken;
   phase = fits.phase;
@@ -96,6 +143,7 @@ rejecting c v s b fits = record {
   peer_busy = fits.peer_busy;
   rejecting = refl;
   said_busy = fits.said_busy;
+  closing = fits.closing;
 }
 
 pub tries_fits : (c : LinkSettings) (v : StationCode) (s : LinkStation) (m n : ℕ) → m ≡ n → FitsStation c v s
@@ -104,6 +152,7 @@ tries_fits c v s m n same fits = record {
   role = fits.role;
   longest = fits.longest;
   retries = fits.retries;
+  again = fits.again;
   outgoing = fits.outgoing;
   taken = fits.taken;
   phase = fits.phase;
@@ -112,6 +161,7 @@ tries_fits c v s m n same fits = record {
   peer_busy = fits.peer_busy;
   rejecting = fits.rejecting;
   said_busy = fits.said_busy;
+  closing = fits.closing;
 }
 
 -- ---- an N(R) that acknowledges some frames, or none
@@ -153,6 +203,7 @@ peer_fits c v before made t busy side =
         role = fits.role;
         longest = fits.longest;
         retries = fits.retries;
+        again = fits.again;
         outgoing = fits.outgoing;
         taken = fits.taken;
         phase = fits.phase;
@@ -161,6 +212,7 @@ peer_fits c v before made t busy side =
         peer_busy = refl;
         rejecting = fits.rejecting;
         said_busy = fits.said_busy;
+        closing = fits.closing;
       };
       out = side.out;
     }
@@ -178,6 +230,7 @@ phase_fits c v s phase tries fits = record {
   role = fits.role;
   longest = fits.longest;
   retries = fits.retries;
+  again = fits.again;
   outgoing = fits.outgoing;
   taken = fits.taken;
   phase = refl;
@@ -186,6 +239,7 @@ phase_fits c v s phase tries fits = record {
   peer_busy = fits.peer_busy;
   rejecting = fits.rejecting;
   said_busy = fits.said_busy;
+  closing = fits.closing;
 }
 
 pub recovery_fits : (c : LinkSettings) (v : StationCode) (s : LinkStation) (b : Bool) → FitsStation c v s
@@ -194,6 +248,7 @@ recovery_fits c v s b fits = record {
   role = fits.role;
   longest = fits.longest;
   retries = fits.retries;
+  again = fits.again;
   outgoing = fits.outgoing;
   taken = fits.taken;
   phase = fits.phase;
@@ -202,6 +257,7 @@ recovery_fits c v s b fits = record {
   peer_busy = fits.peer_busy;
   rejecting = fits.rejecting;
   said_busy = fits.said_busy;
+  closing = fits.closing;
 }
 
 -- ---- an I frame
@@ -212,6 +268,7 @@ received c v s r packets fits taken = record {
   role = fits.role;
   longest = fits.longest;
   retries = fits.retries;
+  again = fits.again;
   outgoing = fits.outgoing;
   taken = taken;
   phase = fits.phase;
@@ -220,6 +277,7 @@ received c v s r packets fits taken = record {
   peer_busy = fits.peer_busy;
   rejecting = fits.rejecting;
   said_busy = fits.said_busy;
+  closing = fits.closing;
 }
 
 pub taken_fits : (c : LinkSettings) (v : StationCode) (before made : List (List ℕ)) (t : Side) (r : Seq) (packet : List ℕ) → FitsSide c v before made t

@@ -4,7 +4,8 @@ use Rattle.x25_link.proofs.Names.{length-append, subst, sym, PlainFrame, info, r
 use Rattle.x25_link.proofs.Names.{frame_of, FrameError, Undefined, NoInfoAllowed, TooLong, Phase, Down, Waiting, Up, Closed, no_packet, moved_on, LinkSettings}
 use Rattle.x25_link.proofs.Names.{LinkStation, Side, with_nothing, fresh, is_busy, wanted, with_near, next_frame, sends, ready, send_next, may_send, pumped}
 use Rattle.x25_link.proofs.Names.{owes_ready, ended, LinkStep, quiet, other, is_valid, acknowledged, is_taken, takes, answers, passes_over, hears_info, peer_is}
-use Rattle.x25_link.proofs.Names.{goes_back, polls, numbered, rejects, reject_of, row_of_frame, row_of, alone, hears, when_down, when_waiting}
+use Rattle.x25_link.proofs.Names.{goes_back, polls, numbered, rejects, reject_of, row_of_frame, row_of, alone, hears, when_down, when_waiting, when_closed}
+use Rattle.x25_link.proofs.Names.{answered, Closing, Asked, Ending, ByUa, ByDm}
 use Rattle.x25_link.proofs.EndLemmas.{with_packet, put_once}
 use Rattle.x25_link.{proofs.OutgoingLemmas.{sent_length}, specs.code.Bounds.{TakeSendsFew, PutSendsOne}}
 
@@ -105,12 +106,21 @@ module _ (was : Type 0) where
   waiting_few (disc p) t h = first (dm p) t h
   waiting_few frame t h = silent t h
 
+  ended_few : (ending : Ending) (closing : Closing) (t : Side) → Few was 0 t → Few was 1 (answered ending closing t)
+  ended_few ending Asked t h = record { few = (silent t h).few; low = h.low }
+  ended_few ending closing t h = silent t h
+
+  closed_few : (frame : PlainFrame) (t : Side) → Few was 0 t → Few was 1 (when_closed frame t).side
+  closed_few (ua true) t h = ended_few ByUa t.near.closing t h
+  closed_few (dm true) t h = ended_few ByDm t.near.closing t h
+  closed_few frame t h = F-declines (is_command frame && poll_or_final frame) t h
+
   pub hears_few : (c : LinkSettings) (octets : List ℕ) (read : Result PlainFrame FrameError) (p : Phase) (t : Side) → Few was 0 t
       → Few was 1 (hears c octets read p t).side
   hears_few c octets (Ok frame) Down t h = down_few frame t h
   hears_few c octets (Ok frame) Waiting t h = waiting_few frame t h
   hears_few c octets read Up t h = read_few c octets read t h
-  hears_few c octets (Ok frame) Closed t h = F-declines (is_command frame && poll_or_final frame) t h
+  hears_few c octets (Ok frame) Closed t h = closed_few frame t h
   hears_few c octets (Err x) p t h = silent t h
 
 -- ---- the end of a step

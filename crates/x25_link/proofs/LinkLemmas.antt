@@ -3,6 +3,7 @@ use Rattle.x25_link.proofs.Names.{length, arith, ◌≤◌, ◌≡◌, ℕ, ◌+
 use Rattle.x25_link.proofs.Names.{◌∙◌, subst, and_right, length-drop, nat_lt, ◌&&◌, ◌||◌, PlainFrame, info, frame_of, FrameError, spelling_of, Outgoing, added}
 use Rattle.x25_link.proofs.Names.{is_open, moved_on, next_packet, FitsOutgoing, Phase, Up, LinkSettings, LinkStation, Side, is_up, is_busy, wanted, with_near}
 use Rattle.x25_link.proofs.Names.{ready, may_send, owes_ready, ended, other, row_of_frame, alone, asks_again, closed_by, fires, hears, puts, FitsStation}
+use Rattle.x25_link.proofs.Names.{Closed, Closing, Asked, GivenUp, answered, gives_up}
 use Rattle.std.{proofs.lemmas.Bool.{and_left}, specs.Prelude.{Result, Ok}}
 use Rattle.x25_bits.specs.declared.role.Role.{Role}
 use Rattle.x25_link.proofs.{EndLemmas.{true_false, put_once, ready_sends, ended_stays}, FitsLemmas.{sends_fits}, Names.{FitsSide}, OutgoingLemmas.{sent_length}}
@@ -86,16 +87,32 @@ asks_calm : (p : Phase) (t : Side) → t.near.phase ≡ p → owes_ready (asks_a
 asks_calm Up t e = calm_by _ true true (with_near t (record t.near { recovery = true })) refl
 asks_calm p t e = and_left (is_up t.near.phase) _ (ap is_up e)
 
+ends_settled : (k : ℕ) (closing : Closing) (t : Side) → t.near.phase ≡ Closed → may_send k (answered GivenUp closing t).near ≡ false
+ends_settled k Asked t e = and_left (is_up t.near.phase) _ (ap is_up e)
+ends_settled k closing t e = and_left (is_up t.near.phase) _ (ap is_up e)
+
+ends_calm : (closing : Closing) (t : Side) → t.near.phase ≡ Closed → owes_ready (answered GivenUp closing t).near ≡ false
+ends_calm Asked t e = and_left (is_up t.near.phase) _ (ap is_up e)
+ends_calm closing t e = and_left (is_up t.near.phase) _ (ap is_up e)
+
+gives_settled : (k : ℕ) (p : Phase) (t : Side) → t.near.phase ≡ p → may_send k (gives_up p t).side.near ≡ false
+gives_settled k Closed t e = ends_settled k t.near.closing t e
+gives_settled k p t e = refl
+
+gives_calm : (p : Phase) (t : Side) → t.near.phase ≡ p → owes_ready (gives_up p t).side.near ≡ false
+gives_calm Closed t e = ends_calm t.near.closing t e
+gives_calm p t e = refl
+
 fires_settled_by : (b : Bool) (c : LinkSettings) (t : Side) → nat_lt t.near.tries c.retries ≡ b → may_send c.window (fires c t).side.near ≡ false
 fires_settled_by true c t e = rw e (asks_settled c.window t.near.phase (with_near t (record t.near { tries = t.near.tries + 1 })) refl)
-fires_settled_by false c t e = rw e refl
+fires_settled_by false c t e = rw e (gives_settled c.window t.near.phase t refl)
 
 pub fires_settled : (c : LinkSettings) (t : Side) → may_send c.window (fires c t).side.near ≡ false
 fires_settled c t = fires_settled_by _ c t refl
 
 fires_calm_by : (b : Bool) (c : LinkSettings) (t : Side) → nat_lt t.near.tries c.retries ≡ b → owes_ready (fires c t).side.near ≡ false
 fires_calm_by true c t e = rw e (asks_calm t.near.phase (with_near t (record t.near { tries = t.near.tries + 1 })) refl)
-fires_calm_by false c t e = rw e refl
+fires_calm_by false c t e = rw e (gives_calm t.near.phase t refl)
 
 pub fires_calm : (c : LinkSettings) (t : Side) → owes_ready (fires c t).side.near ≡ false
 fires_calm c t = fires_calm_by _ c t refl

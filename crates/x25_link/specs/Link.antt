@@ -11,9 +11,13 @@ use Rattle.x25_link.specs.declared.error.LinkError.TheVariants as error
 use Rattle.x25_link.specs.declared.phase.Phase.{Phase}
 use Rattle.x25_link.specs.declared.phase.Phase.TheVariants.{Down, Waiting, Up, Closed}
 use Rattle.x25_link.specs.declared.phase.Reason.TheVariants.{Retries, Local, Counts}
+use Rattle.x25_link.specs.declared.phase.Closing.{Closing}
+use Rattle.x25_link.specs.declared.phase.Closing.TheVariants.{Asked, Ended}
+use Rattle.x25_link.specs.declared.phase.Ending.{Ending}
+use Rattle.x25_link.specs.declared.phase.Ending.TheVariants.{ByUa, ByDm, GivenUp}
 use Rattle.x25_link.specs.Outgoing.{waits, added}
 use Rattle.x25_link.specs.Station.{LinkSettings, LinkStation, Side, with_nothing, fresh, is_up, with_near, sends, ready}
-use Rattle.x25_link.specs.Station.{ended}
+use Rattle.x25_link.specs.Station.{ended, disconnected, is_asked}
 use Rattle.x25_link.specs.Hearing.{LinkStep, quiet, leaves, other, row_of}
 
 -- the end of a step
@@ -55,6 +59,17 @@ when_waiting (sabm p) t = quiet (sends (ua p) t)
 when_waiting (disc p) t = quiet (sends (dm p) t)
 when_waiting frame t = quiet t
 
+-- what a DISC awaits ends so
+abbrev pub answered : Ending → Closing → Side → Side
+answered ending Asked t = with_near t (record t.near { closing = Ended ending })
+answered ending closing t = t
+
+-- UA and DM with F=1 answer a DISC (section 2.4.4.3)
+abbrev pub when_closed : PlainFrame → Side → LinkStep
+when_closed (ua true) t = quiet (answered ByUa t.near.closing t)
+when_closed (dm true) t = quiet (answered ByDm t.near.closing t)
+when_closed frame t = quiet (declines frame t)
+
 -- octets that spell no frame do nothing outside of Up
 abbrev pub if_read : (PlainFrame → Side → LinkStep) → Result PlainFrame FrameError → Side → LinkStep
 if_read f (Ok frame) t = f frame t
@@ -65,7 +80,7 @@ abbrev pub hears : LinkSettings → List ℕ → Result PlainFrame FrameError �
 hears c octets read Down t = if_read when_down read t
 hears c octets read Waiting t = if_read when_waiting read t
 hears c octets read Up t = row_of c octets read t
-hears c octets read Closed t = if_read (λ frame u. quiet (declines frame u)) read t
+hears c octets read Closed t = if_read when_closed read t
 
 -- ---- new: k is 1 to 7, N1 1 to 4,099 octets, and N2 1 to 255
 
@@ -112,38 +127,45 @@ disconnect_refusal Waiting = None
 disconnect_refusal Up = None
 disconnect_refusal Closed = Some error.Closed
 
-abbrev pub disconnects : Side → LinkStep
-disconnects t = record {
-  side = sends (disc true) (with_near t (with_nothing Closed t.near.tries));
+abbrev pub disconnects : Bool → Side → LinkStep
+disconnects again t = record {
+  side = sends (disc true) (with_near t (disconnected again));
   packet = None;
   notes = record { down = if is_up t.near.phase then Some Local else None; up = false };
 }
 
 abbrev pub disconnect_step : LinkSettings → LinkStation → LinkStep
-disconnect_step c s = closed_by c.window (disconnects (alone s))
+disconnect_step c s = closed_by c.window (disconnects c.disc_again (alone s))
 
 -- ---- timer T1
 
--- T1 runs while UA is awaited, and in Up while frames are unacknowledged, in recovery, or while the peer is busy
+-- T1 runs while UA or the answer to a DISC is awaited, and in Up while frames are unacknowledged, in recovery, or while
+-- the peer is busy
 abbrev pub timer_runs : Phase → LinkStation → Bool
 timer_runs Down s = false
 timer_runs Waiting s = true
 timer_runs Up s = nat_lt s.outgoing.acked s.outgoing.sent || (s.recovery || s.peer_busy)
-timer_runs Closed s = false
+timer_runs Closed s = is_asked s.closing
 
 abbrev pub timer_refusal : LinkStation → Option LinkError
 timer_refusal s = if timer_runs s.phase s then None else Some error.NotRunning
 
--- SABM again while UA is awaited, and a poll in Up (sections 2.4.4.1 and 2.4.5.9)
+-- SABM or DISC again while its answer is awaited, and a poll in Up (sections 2.4.4.1, 2.4.4.3 and 2.4.5.9)
 abbrev pub asks_again : Phase → Side → Side
 asks_again Up t = ready true true (with_near t (record t.near { recovery = true }))
+asks_again Closed t = sends (disc true) t
 asks_again phase t = sends (sabm true) t
+
+-- the last firing
+abbrev pub gives_up : Phase → Side → LinkStep
+gives_up Closed t = quiet (answered GivenUp t.near.closing t)
+gives_up phase t = leaves Retries t
 
 abbrev pub fires : LinkSettings → Side → LinkStep
 fires c t =
     if nat_lt t.near.tries c.retries
     then quiet (asks_again t.near.phase (with_near t (record t.near { tries = t.near.tries + 1 })))
-    else leaves Retries t
+    else gives_up t.near.phase t
 
 abbrev pub timer_step : LinkSettings → LinkStation → LinkStep
 timer_step c s = closed_by c.window (fires c (alone s))

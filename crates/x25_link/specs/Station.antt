@@ -4,20 +4,28 @@ use Rattle.std.specs.Prelude.{ℕ, zero, suc, ◌%◌, nat_lt, Bool, true, false
 use Rattle.std.specs.Prelude.{◌++◌, length}
 use Rattle.x25_bits.specs.declared.role.Role.{Role}
 use Rattle.x25_frame.specs.Frame.{PlainFrame, info, rr, rnr}
+use Rattle.x25_link.specs.declared.phase.Closing.{Closing}
+use Rattle.x25_link.specs.declared.phase.Closing.TheVariants.{Unasked, Asked, Ended}
 use Rattle.x25_link.specs.declared.phase.Phase.{Phase}
 use Rattle.x25_link.specs.declared.phase.Phase.TheVariants.{Down, Waiting, Up, Closed}
 use Rattle.x25_link.specs.Outgoing.{Outgoing, no_packet, waits, is_open, next_packet, moved_on}
 
--- which end it is, k (section 2.4.8.6), N1 in octets of information (section 2.4.8.5, own unit) and N2 (section
--- 2.4.8.4)
+-- which end it is, k (section 2.4.8.6), N1 in octets of information (section 2.4.8.5, own unit), N2 (section 2.4.8.4),
+-- and whether DISC is sent again until it is answered (profile)
 pub record LinkSettings : Type 0 where
   pub role : Role
   pub window : ℕ
   pub longest : ℕ
   pub retries : ℕ
+  pub disc_again : Bool
+
+abbrev pub settings_of : Role → ℕ → ℕ → ℕ → Bool → LinkSettings
+settings_of role k n1 n2 disc_again =
+    record { role = role; window = k; longest = n1; retries = n2; disc_again = disc_again }
 
 -- The packets handed down, and those handed up, whose number is V(R). `recovery` is the timer recovery condition,
--- `rejecting` the REJ condition, and `said_busy` tells whether RNR was the last of RR and RNR that were sent.
+-- `rejecting` the REJ condition, and `said_busy` tells whether RNR was the last of RR and RNR that were sent. `closing`
+-- is what became of a DISC that is sent again.
 pub record LinkStation : Type 0 where
   pub phase : Phase
   pub tries : ℕ
@@ -27,6 +35,7 @@ pub record LinkStation : Type 0 where
   pub peer_busy : Bool
   pub rejecting : Bool
   pub said_busy : Bool
+  pub closing : Closing
 
 -- the packets handed down, how many of these are acknowledged, and the packets handed up
 pub record Lists : Type 0 where
@@ -52,6 +61,7 @@ with_nothing phase tries = record {
   peer_busy = false;
   rejecting = false;
   said_busy = false;
+  closing = Unasked;
 }
 
 -- a station whose link was just set up (section 2.4.4.1)
@@ -70,6 +80,26 @@ awaits_ua Down = false
 awaits_ua Waiting = true
 awaits_ua Up = false
 awaits_ua Closed = false
+
+-- this end disconnected the link
+abbrev pub is_closed : Phase → Bool
+is_closed Down = false
+is_closed Waiting = false
+is_closed Up = false
+is_closed Closed = true
+
+-- a station that sent DISC: where that goes again, its answer is awaited (profile)
+abbrev pub disconnected : Bool → LinkStation
+disconnected again = record (with_nothing Closed 0) { closing = if again then Asked else Unasked }
+
+abbrev pub is_asked : Closing → Bool
+is_asked Unasked = false
+is_asked Asked = true
+is_asked (Ended ending) = false
+
+-- the answer to a DISC is awaited
+abbrev pub awaits_end : Phase → Closing → Bool
+awaits_end phase closing = is_closed phase && is_asked closing
 
 -- busy (section 2.4.5.8): exactly while more than 254 packets wait (profile)
 abbrev pub is_busy : LinkStation → Bool

@@ -6,12 +6,12 @@ ghost use Rattle.x25_link.specs.Station.{is_up};
 ghost use Rattle.x25_link.specs.code.Fits.{Leads, Hears};
 ghost use Rattle.x25_link.specs.Hearing.{numbered, hears_info, polls, peer_is, goes_back, quiet, row_of};
 ghost use Rattle.x25_link.specs.Hearing.{other};
-ghost use Rattle.x25_link.specs.Link.{declines, when_down, when_waiting, hears};
+ghost use Rattle.x25_link.specs.Link.{declines, when_down, when_waiting, when_closed, hears};
 
 use crate::frames::Frames;
 use crate::frmr::{BAD_INFORMATION, INVALID_NR, LONG_INFORMATION, UNDEFINED_CONTROL};
 use crate::heard::Heard;
-use crate::phase::{Phase, Reason};
+use crate::phase::{Ending, Phase, Reason};
 use crate::station::LinkStation;
 use x25_bits::Seq;
 use x25_frame::{Frame, FrameError, decode};
@@ -170,6 +170,23 @@ impl LinkStation {
         }
     }
 
+    // A frame, in Closed.
+    #[cold]
+    fn hear_closed<'a>(&mut self, frame: &Frame, out: &mut Frames) -> Heard<'a>
+        requires { length out.old < 25 }
+        ensures step { Hears self.old self.new out.old out.new result (λ c t. when_closed (plain frame.now) t) }
+        ensures one { length out.new ≤ length out.old + 1 }
+    {
+        match frame {
+            Frame::Ua { f: true } => self.end_closing(Ending::ByUa),
+            Frame::Dm { f: true } => self.end_closing(Ending::ByDm),
+            _ => {
+                self.decline(frame, out);
+                Heard::quiet()
+            }
+        }
+    }
+
     // Octets, in a phase other than Up.
     #[cold]
     #[inline(never)]
@@ -188,10 +205,7 @@ impl LinkStation {
         match self.phase {
             Phase::Down => self.hear_down(&frame, out),
             Phase::Waiting => self.hear_waiting(&frame, out),
-            Phase::Up | Phase::Closed => {
-                self.decline(&frame, out);
-                Heard::quiet()
-            }
+            Phase::Up | Phase::Closed => self.hear_closed(&frame, out),
         }
     }
 

@@ -6,8 +6,8 @@ ghost use Rattle.x25_link.specs.laws.RestLaw.{AbandonSaysAll, NoTimerIsIdle, All
 ghost use Rattle.x25_link.specs.laws.AnswerLaw.{TimerAsks, PollIsAnswered, FinalEndsRecovery, ReadyIsHeard};
 ghost use Rattle.x25_link.specs.laws.AnswerLaw.{RejGoesBack, WantedIsTaken, OtherIsPassedOver, OutDeclines, DmLeavesUp};
 ghost use Rattle.x25_link.specs.laws.BusyLaw.{TakeSaysBusy, PutSaysBusy, TimerSaysBusy};
-ghost use Rattle.x25_link.specs.laws.SetUp.{TakeWaits, TakeSetsUp, ConnectWaits, TimerWaits, DisconnectWaits};
-ghost use Rattle.x25_link.specs.laws.SetUp.{RelinkIsTwoSteps};
+ghost use Rattle.x25_link.specs.laws.SetUp.{TakeWaits, TakeSetsUp, ConnectWaits, TimerWaits, DisconnectCloses};
+ghost use Rattle.x25_link.specs.laws.SetUp.{TakeCloses, TimerCloses, RelinkIsTwoSteps};
 ghost use Rattle.x25_link.specs.laws.WindowLaw.{TakeFollows, PutFollows, TimerFollows, DisconnectFollows};
 ghost use Rattle.x25_link.specs.laws.WindowLaw.{AbandonFollows, TakeStaysOut, DisconnectStaysOut};
 
@@ -24,13 +24,16 @@ pub fn follows_the_window()
 {}
 
 /// What a station does in set-up: at connect, at a SABM in Down and in Up, and at all that comes while UA is awaited.
-/// Relink is abandon, and then connect.
+/// Relink is abandon, and then connect. And what it does at disconnect and after it: a DISC that is sent again ends
+/// once, by UA, by DM, or as N2 more of it weren't answered.
 pub fn sets_up_by_rows()
     ensures waits { TakeWaits }
     ensures sets_up { TakeSetsUp }
     ensures connects { ConnectWaits }
     ensures timer { TimerWaits }
-    ensures disconnects { DisconnectWaits }
+    ensures disconnects { DisconnectCloses }
+    ensures closes { TakeCloses }
+    ensures timer_closes { TimerCloses }
     ensures relinks { RelinkIsTwoSteps }
 {}
 

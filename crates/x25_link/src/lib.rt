@@ -23,5 +23,5 @@ pub use law::{
     sets_up_by_rows, tells_whether_busy,
 };
 pub use link::Link;
-pub use phase::{Notes, Phase, Reason};
+pub use phase::{Closing, Ending, Notes, Phase, Reason};
 pub use x25_bits::Role;

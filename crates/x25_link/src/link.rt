@@ -1,5 +1,6 @@
 ghost use Rattle.std.specs.Prelude.{◌≡◌, ◌+◌, ◌<◌, ◌≤◌, [], length, true, None, Ok, IfOk, OnOk, OnErr, IsOk};
 ghost use Rattle.x25_link.specs.Station.{LinkSettings, LinkStation as StationState, is_up, awaits_ua, with_nothing};
+ghost use Rattle.x25_link.specs.Station.{awaits_end, settings_of};
 ghost use Rattle.x25_link.specs.Outgoing.{waits};
 ghost use Rattle.x25_link.specs.Link.{Refuses, config_refusal, take_step, put_refusal, connect_refusal};
 ghost use Rattle.x25_link.specs.Link.{connect_step, disconnect_refusal, disconnect_step, timer_refusal, timer_runs};
@@ -13,7 +14,7 @@ use crate::error::LinkError;
 use crate::frames::{Frames, MOST_FRAMES};
 use crate::heard::Heard;
 use crate::outgoing::{Outgoing, PLACES};
-use crate::phase::{Phase, Reason};
+use crate::phase::{Closing, Phase, Reason};
 use crate::station::{FRAMES, LinkStation, Parameters};
 use std::alloc::Global;
 use std::marker::Model;
@@ -44,12 +45,18 @@ impl Model for Link {
 
 impl Link {
     /// A link that is down. `k` is the window, 1 to 7; `n1` the most octets of a packet, 1 to 4,099; and a command that
-    /// isn't answered is sent `n2` times more, 1 to 255.
+    /// isn't answered is sent `n2` times more, 1 to 255: DISC only where `disc_again` is set.
     ///
     /// 14 where one is out of its range, then 70.
-    pub fn new(alloc: Global, role: Role, k: u8, n1: usize, n2: u8) -> Result<Link, LinkError>
-        ensures state { IfOk result (λ l. FitsLink (record { role = role; window = k; longest = n1; retries = n2 }) l
-            (with_nothing Down 0)) }
+    pub fn new(
+        alloc: Global,
+        role: Role,
+        k: u8,
+        n1: usize,
+        n2: u8,
+        disc_again: bool,
+    ) -> Result<Link, LinkError>
+        ensures state { IfOk result (λ l. FitsLink (settings_of role k n1 n2 disc_again) l (with_nothing Down 0)) }
         ensures no_frames { IfOk result (λ l. l.frames ≡ []) }
         ensures refused { Refuses (config_refusal k n1 n2) result }
     {
@@ -62,7 +69,7 @@ impl Link {
         Ok(Link {
             station: LinkStation {
                 role,
-                parameters: Parameters { n1, n2 },
+                parameters: Parameters { n1, n2, disc_again },
                 outgoing,
                 receiver: Receiver::new(),
                 phase: Phase::Down,
@@ -71,6 +78,7 @@ impl Link {
                 peer_busy: false,
                 rejecting: false,
                 said_busy: false,
+                closing: Closing::Unasked,
             },
             frames: Frames::new(alloc)?,
         })
@@ -103,7 +111,8 @@ impl Link {
         heard
     }
 
-    /// Disconnects this end, for good: DISC with P=1. It notes LinkDown(local) where the link was up.
+    /// Disconnects this end, for good: DISC with P=1, which is sent again where `new` was told so, until `closing` has
+    /// its end. It notes LinkDown(local) where the link was up.
     ///
     /// 13 where it is closed.
     pub fn disconnect(&mut self) -> Result<Heard<'static>, LinkError>
@@ -117,7 +126,8 @@ impl Link {
         Ok(self.station.disconnect(&mut self.frames))
     }
 
-    /// A firing of timer T1: a SABM or a poll again, or after `n2` of these LinkDown(retries).
+    /// A firing of timer T1: a SABM, a poll or a DISC again, or after `n2` of these LinkDown(retries), or the end of a
+    /// DISC.
     ///
     /// 11 where the timer doesn't run.
     pub fn t1(&mut self) -> Result<Heard<'static>, LinkError>
@@ -204,8 +214,23 @@ impl Link {
             // One test: a branch for each is often guessed wrong.
             (station.outgoing.sender.unacked() > 0) | (station.recovery | station.peer_busy)
         } else {
-            station.phase.awaits_ua()
+            station.timer_runs_apart()
         }
+    }
+
+    /// Whether the answer to a DISC is awaited.
+    pub fn is_closing(&self) -> bool
+        ensures { (c : LinkSettings) (s : StationState) → FitsLink c self.now s
+            → result ≡ awaits_end s.phase s.closing }
+    {
+        self.station.phase.is_closed() && self.station.closing.is_asked()
+    }
+
+    /// What became of the DISC of a link that sends it again.
+    pub fn closing(&self) -> Closing
+        ensures { (c : LinkSettings) (s : StationState) → FitsLink c self.now s → result ≡ s.closing }
+    {
+        self.station.closing
     }
 
     /// The most octets of a packet that is handed down.

@@ -13,7 +13,7 @@ pub enum Phase {
 
 impl Phase {
     ghost use Rattle.std.specs.Prelude.{◌≡◌};
-    ghost use Rattle.x25_link.specs.Station.{is_up, awaits_ua};
+    ghost use Rattle.x25_link.specs.Station.{is_up, awaits_ua, is_closed};
 
     /// Whether packets are transferred.
     pub fn is_up(self) -> bool
@@ -28,6 +28,47 @@ impl Phase {
     {
         matches!(self, Phase::Waiting)
     }
+
+    /// Whether this end disconnected the link.
+    pub fn is_closed(self) -> bool
+        ensures { result ≡ is_closed self }
+    {
+        matches!(self, Phase::Closed)
+    }
+}
+
+/// What became of the DISC of a link that sends it again until it is answered (profile).
+#[derive(Clone, Copy, Debug, PartialEq, Eq)]
+pub enum Closing {
+    /// None went, or it isn't sent again.
+    Unasked,
+    /// Its answer is awaited.
+    Asked,
+    /// No answer is awaited any more.
+    Ended(Ending),
+}
+
+impl Closing {
+    ghost use Rattle.std.specs.Prelude.{◌≡◌};
+    ghost use Rattle.x25_link.specs.Station.{is_asked};
+
+    /// Whether the answer to a DISC is awaited.
+    pub fn is_asked(self) -> bool
+        ensures { result ≡ is_asked self }
+    {
+        matches!(self, Closing::Asked)
+    }
+}
+
+/// How it ended that this end disconnected the link (profile).
+#[derive(Clone, Copy, Debug, PartialEq, Eq)]
+pub enum Ending {
+    /// The other end answered DISC by UA.
+    ByUa,
+    /// The other end answered DISC by DM.
+    ByDm,
+    /// DISC was sent N2 + 1 times without an answer.
+    GivenUp,
 }
 
 /// Why a link went down.

@@ -8,7 +8,7 @@ ghost use Rattle.x25_link.specs.Station.{with_nothing, with_near, fresh, may_sen
 use crate::frames::Frames;
 use crate::heard::Heard;
 use crate::outgoing::Outgoing;
-use crate::phase::{Phase, Reason};
+use crate::phase::{Closing, Phase, Reason};
 use x25_bits::Role;
 use x25_frame::Frame;
 use x25_window::Receiver;
@@ -19,11 +19,13 @@ pub const BUSY_ABOVE: usize = 254;
 /// The most frames of a window.
 pub const FRAMES: u8 = 7;
 
-/// The system parameters N1, in octets of information, and N2. ITU-T X.25 (10/96), section 2.4.8.
+/// The system parameters N1, in octets of information, and N2, of ITU-T X.25 (10/96), section 2.4.8, and whether DISC
+/// is sent again until it is answered (profile).
 #[derive(Clone, Copy)]
 pub struct Parameters {
     pub n1: usize,
     pub n2: u8,
+    pub disc_again: bool,
     ghost short: { n1 ≤ 4099 },
 }
 
@@ -41,6 +43,7 @@ pub struct LinkStation {
     pub rejecting: bool,
     /// RNR was the last of RR and RNR that were sent.
     pub said_busy: bool,
+    pub closing: Closing,
 }
 
 impl LinkStation {
@@ -126,6 +129,7 @@ impl LinkStation {
         self.peer_busy = false;
         self.rejecting = false;
         self.said_busy = false;
+        self.closing = Closing::Unasked;
     }
 
     /// The link is set up: all variables are 0.

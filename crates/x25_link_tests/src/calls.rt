@@ -18,12 +18,17 @@ pub fn link_for(
     longest: usize,
     n2: u8,
 ) -> Result<Box<Link>, LinkError> {
-    boxed(alloc, Link::new(alloc, role, k, longest, n2)?).ok_or(LinkError::NoMemory)
+    boxed(alloc, Link::new(alloc, role, k, longest, n2, false)?).ok_or(LinkError::NoMemory)
 }
 
 /// A link just made, for packets of at most 4,099 octets.
 pub fn link(alloc: Global, role: Role, k: u8, n2: u8) -> Result<Box<Link>, LinkError> {
     link_for(alloc, role, k, 4099, n2)
+}
+
+/// A link just made, which sends DISC again until it is answered.
+pub fn link_that_asks_again(alloc: Global, role: Role, n2: u8) -> Result<Box<Link>, LinkError> {
+    boxed(alloc, Link::new(alloc, role, 7, 4099, n2, true)?).ok_or(LinkError::NoMemory)
 }
 
 /// A list of no frames.

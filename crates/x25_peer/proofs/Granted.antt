@@ -1,4 +1,5 @@
 -- What is seen of a command that a station accepts, and of a firing of its timer T1.
+use Rattle.x25_link.specs.{Link.{gives_up}, declared.phase.Phase.{Phase}, declared.phase.Phase.TheVariants.{Closed}}
 use Rattle.x25_peer.proofs.Names.{◌≡◌, ◌==◌, List, Bool, true, false, if◌then◌else◌, Option, Some, None, refl, sym, ap, subst, PlainPacket, PlainGiven}
 use Rattle.x25_peer.proofs.Names.{LinkError, timer_step, LayerRequest, Settings, layer_settings, link_settings, StationEntry, Station, Step, LinkSettings}
 use Rattle.x25_peer.proofs.Names.{LinkStation, is_up}
@@ -99,8 +100,12 @@ relinks_in_up p is = absurd (cc)
 pub timer_silent : (c : LinkSettings) (s : LinkStation) → ((timer_step c s).packet ≡ None) × ((timer_step c s).notes.up ≡ false)
 timer_silent c s = by (nat_lt s.tries c.retries)
   where
+    last : (p : Phase) → let k = closed_by c.window (gives_up p (alone s)) in (k.packet ≡ None) × (k.notes.up ≡ false)
+    last Closed = (refl, refl)
+    last p = (refl, refl)
+
     by : (b : Bool) → let k = closed_by c.window
-        (if b then quiet (asks_again s.phase (with_near (alone s) (record s { tries = s.tries + 1 }))) else leaves Retries (alone s)) in (k.packet ≡ None)
+        (if b then quiet (asks_again s.phase (with_near (alone s) (record s { tries = s.tries + 1 }))) else gives_up s.phase (alone s)) in (k.packet ≡ None)
         × (k.notes.up ≡ false)
     by true = (refl, refl)
-    by false = (refl, refl)
+    by false = last s.phase

@@ -1,13 +1,14 @@
 -- A clock that begins with the first time that is said stands as one for which all that came before happened at that time.
 use Rattle.x25_pipe.proofs.Names.{◌≡◌, ◌+◌, ℕ, zero, suc, List, ◌∷◌, Bool, true, false, if◌then◌else◌, map, Option, Some, None, refl, sym, ap, ◌∙◌, arith, Settings}
 use Rattle.x25_pipe.proofs.Names.{layer_settings, PullsAll, Station, Outcome, Did, Refused, StationEvent, Times, Deadlines, heeded}
-use Rattle.std.{proofs.Common.{not}, specs.Prelude.{◌||◌}}
+use Rattle.std.{proofs.Common.{not, is_some, ◌==◌}, specs.Prelude.{◌||◌}}
+use Rattle.x25_circuit.specs.Awaits.{is_any}
 use Rattle.x25_circuit.specs.declared.awaits.{Awaits.{Awaits}, Awaits.TheVariants.{Nothing, Acceptance, ResetConfirmation, ClearConfirmation}}
 use Rattle.x25_circuit.specs.declared.awaits.Awaits.TheVariants.{InterruptConfirmation}
-use Rattle.x25_clock.specs.Clock.{Seen, begun, channels_from, deadline, nothing_on, running, t1_after, wait_after}
+use Rattle.x25_clock.specs.Clock.{Seen, begun, channels_from, deadline, is_same, nothing_on, number_of, running, t1_after, time_of, wait_after}
 use Rattle.x25_clock.specs.declared.wait.Wait.{Wait}
 use Rattle.x25_clock.specs.laws.{ClockLaw.{Watched, heeds as heeds_event, hears}, WaitLaw.{Happens, all_done, done}}
-use Rattle.x25_layer.specs.code.FitsLayer.{awaited_at}
+use Rattle.x25_layer.specs.code.FitsLayer.{awaited_at, unacknowledged_at}
 use Rattle.x25_pipe.specs.laws.ClockedLaw.{with_pull}
 use Rattle.x25_station.specs.{Command.{Requests}, Station.Told.{is_at_rest}, Timer.{is_acknowledged, runs, tells_link, timer_of}}
 use Rattle.x25_station.specs.declared.timer.{Timer.{Timer}, Timer.TheVariants.{Off, Begins}}
@@ -41,29 +42,48 @@ module _ (times : Times) (now : ℕ) where
   running_begun true true false None = refl
   running_begun true true false (Some moment) = refl
 
-  channel_kept : (h : ℕ) (a : Awaits) → (wait_after times now a (nothing_on h)).channel ≡ h
-  channel_kept h Nothing = refl
-  channel_kept h a = refl
+  running_itself : (until : Option ℕ) → running true false until until ≡ until
+  running_itself None = refl
+  running_itself (Some moment) = refl
 
-  awaited_begun : (h : ℕ) (a b : Awaits) → wait_after times now b (wait_after times now a (nothing_on h)) ≡ wait_after times now b (nothing_on h)
-  awaited_begun h Nothing b = refl
-  awaited_begun h Acceptance Acceptance = refl
-  awaited_begun h ResetConfirmation ResetConfirmation = refl
-  awaited_begun h ClearConfirmation ClearConfirmation = refl
-  awaited_begun h InterruptConfirmation InterruptConfirmation = refl
-  awaited_begun h a b = refl
+  -- the deadline of an answer, and that of a data packet
+  answer_begun : (a b : Awaits)
+      → running (is_any b) (not (number_of a == number_of b)) (running (is_any a) (not (0 == number_of a)) None (deadline now (time_of times a)))
+      (deadline now (time_of times b)) ≡ running (is_any b) (not (0 == number_of b)) None (deadline now (time_of times b))
+  answer_begun Nothing b = refl
+  answer_begun Acceptance Acceptance = running_itself (deadline now times.t21)
+  answer_begun ResetConfirmation ResetConfirmation = running_itself (deadline now times.t22)
+  answer_begun ClearConfirmation ClearConfirmation = running_itself (deadline now times.t23)
+  answer_begun InterruptConfirmation InterruptConfirmation = running_itself (deadline now times.t26)
+  answer_begun a b = refl
 
-  waits_begun : (f g : ℕ → Awaits) (first n : ℕ)
-      → map (λ w. wait_after times now (g w.channel) w) (map (λ w. wait_after times now (f w.channel) w) (channels_from first n))
-      ≡ map (λ w. wait_after times now (g w.channel) w) (channels_from first n)
-  waits_begun f g first zero = refl
-  waits_begun f g first (suc n) =
-      let w : Wait = wait_after times now (f first) (nothing_on first) in
-      let head : wait_after times now (g w.channel) w ≡ wait_after times now (g first) (nothing_on first) =
-      ap (λ (h : ℕ). wait_after times now (g h) w) (channel_kept first (f first)) ∙ awaited_begun first (f first) (g first) in
-      let rest : List Wait = map (λ w. wait_after times now (g w.channel) w) (map (λ w. wait_after times now (f w.channel) w) (channels_from (first + 1) n)) in
-      ap (λ (x : Wait). x ∷ rest) head
-      ∙ ap (λ (ws : List Wait). wait_after times now (g first) (nothing_on first) ∷ ws) (waits_begun f g (first + 1) n)
+  first_begun : (a b until : Option ℕ) → running (is_some b) (not (is_same a b)) (running (is_some a) (not (is_same None a)) None until) until
+      ≡ running (is_some b) (not (is_same None b)) None until
+  first_begun a None until = refl
+  first_begun None (Some n) until = refl
+  first_begun (Some m) (Some n) until = by (m == n)
+    where
+      by : (b : Bool) → running true (not b) until until ≡ until
+      by true = running_itself until
+      by false = refl
+
+  wait_begun : (h : ℕ) (a b : Awaits) (o p : Option ℕ) → wait_after times now b p (wait_after times now a o (nothing_on h)) ≡ wait_after times now b p (nothing_on h)
+  wait_begun h a b o p =
+      let both : Option ℕ → Option ℕ → Wait = λ until rotates.
+      record { channel = h; awaits = b; until = until; unacknowledged = p; rotates = rotates } in
+      ap (λ (x : Option ℕ). both x (running (is_some p) (not (is_same o p)) (running (is_some o) (not (is_same None o)) None (deadline now times.t25))
+      (deadline now times.t25))) (answer_begun a b)
+      ∙ ap (both (running (is_any b) (not (0 == number_of b)) None (deadline now (time_of times b)))) (first_begun o p (deadline now times.t25))
+
+  waits_begun : (f g : ℕ → Awaits) (k l : ℕ → Option ℕ) (first n : ℕ)
+      → map (λ w. wait_after times now (g w.channel) (l w.channel) w) (map (λ w. wait_after times now (f w.channel) (k w.channel) w) (channels_from first n))
+      ≡ map (λ w. wait_after times now (g w.channel) (l w.channel) w) (channels_from first n)
+  waits_begun f g k l first zero = refl
+  waits_begun f g k l first (suc n) =
+      let rest : List Wait = map (λ w. wait_after times now (g w.channel) (l w.channel) w)
+      (map (λ w. wait_after times now (f w.channel) (k w.channel) w) (channels_from (first + 1) n)) in
+      ap (λ (x : Wait). x ∷ rest) (wait_begun first (f first) (g first) (k first) (l first))
+      ∙ ap (λ (ws : List Wait). wait_after times now (g first) (l first) (nothing_on first) ∷ ws) (waits_begun f g k l (first + 1) n)
 
 -- ---- what happens to a station is heeded as by a clock that begins behind it
 
@@ -77,6 +97,7 @@ module _ (c : Settings) (times : Times) (now : ℕ) where
         noted = noted;
         heard = heard;
         awaited = λ h. awaited_at (layer_settings c) next.layer h;
+        unacknowledged = λ h. unacknowledged_at (layer_settings c) next.layer h;
       } in heeded times now x (begun times now c.channels.count c s)) ≡ begun times now c.channels.count c next
   deadlines_begun s next t noted heard t1 =
       let only : Option ℕ → Option ℕ → Option ℕ → List Wait → Deadlines = λ t1 idle restart ws. record { t1 = t1; idle = idle; restart = restart; waits = ws } in
@@ -84,12 +105,14 @@ module _ (c : Settings) (times : Times) (now : ℕ) where
       let e : Deadlines = begun times now c.channels.count c next in
       let idle : Option ℕ = running (is_at_rest next) heard d.idle (deadline now times.t3) in
       let restart : Option ℕ = running next.layer.restarting noted d.restart (deadline now times.t20) in
-      let waits : List Wait = map (λ w. wait_after times now (awaited_at (layer_settings c) next.layer w.channel) w) d.waits in
+      let waits : List Wait = map (λ w. wait_after times now (awaited_at (layer_settings c) next.layer w.channel)
+      (unacknowledged_at (layer_settings c) next.layer w.channel) w) d.waits in
       ap (λ (o : Option ℕ). only o idle restart waits) t1
       ∙ ap (λ (o : Option ℕ). only e.t1 o restart waits) (running_begun times now (is_at_rest s) (is_at_rest next) heard (deadline now times.t3))
       ∙ ap (λ (o : Option ℕ). only e.t1 e.idle o waits) (running_begun times now s.layer.restarting next.layer.restarting noted (deadline now times.t20))
       ∙ ap (λ (ws : List Wait). only e.t1 e.idle e.restart ws)
-      (waits_begun times now (λ h. awaited_at (layer_settings c) s.layer h) (λ h. awaited_at (layer_settings c) next.layer h) 1 c.channels.count)
+      (waits_begun times now (λ h. awaited_at (layer_settings c) s.layer h) (λ h. awaited_at (layer_settings c) next.layer h)
+      (λ h. unacknowledged_at (layer_settings c) s.layer h) (λ h. unacknowledged_at (layer_settings c) next.layer h) 1 c.channels.count)
 
   outcome_begun : (event : StationEvent) (s : Station) (o : Outcome)
       → heeds_event c times now event o (begun_at c times now s) ≡ begun_at c times now (timer.after s o)

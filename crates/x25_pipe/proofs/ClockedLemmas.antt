@@ -2,10 +2,10 @@
 use Rattle.x25_pipe.proofs.Names.{◌≡◌, ◌≤◌, ◌+◌, ℕ, List, ◌++◌, refl, sym, ap, ◌∙◌, arith, PullsAll, Settings, layer_settings}
 use Rattle.x25_pipe.proofs.Names.{StationEntry, Station, Outcome, Did, Refused, StationEvent, Due, Times, Deadlines, Seen, heeded, after_due, Act}
 use Rattle.std.proofs.Common.{append-nil}
-use Rattle.x25_clock.specs.laws.{ClockLaw.{Watched, comes, heeds as heeds_event, seen_of}, PullLaw.{PullIsHeeded, seen_pulled}}
+use Rattle.x25_clock.specs.laws.{ClockLaw.{AreTrue, Watched, comes, heeds as heeds_event, seen_of}, PullLaw.{PullIsHeeded, seen_pulled}}
 use Rattle.x25_clock.specs.{Clock.{is_heard}, Due.{asked_of, event_for}, laws.WaitLaw.{Happens, IsAsked, all_done}}
 use Rattle.x25_frame.specs.Frame.{PlainFrame}
-use Rattle.x25_layer.specs.code.FitsLayer.{awaited_at}
+use Rattle.x25_layer.specs.code.FitsLayer.{awaited_at, unacknowledged_at}
 use Rattle.x25_pipe.{proofs.Names.{act_of, event_act, pulled_behind}, specs.Timed.{seen_at}}
 use Rattle.x25_pipe.specs.laws.ClockedLaw.{watched_in, with_pull, done_with_pull, EventIsDone, DueIsDone}
 use Rattle.x25_station.specs.{Pulling.{pulled_of}, Station.Told.{is_at_rest}, Step.{Step, requests}, Timer.{tells_link, timer_pulled}}
@@ -23,6 +23,7 @@ at_both c s event step next out entries = record {
   noted = tells_link entries;
   heard = is_heard (comes event) out entries;
   awaited = λ h. awaited_at (layer_settings c) next.layer h;
+  unacknowledged = λ h. unacknowledged_at (layer_settings c) next.layer h;
 }
 
 seen_same : (c : Settings) (s : Station) (event : StationEvent) (step : Step) (o : Outcome) → GoesOn c step.near (pulled_of step.near o)
@@ -56,7 +57,7 @@ module _ (goes : PullsGoOn) (c : Settings) (times : Times) (event : StationEvent
 
 -- one who obeys does so at that moment, and none later
 module _ (goes : PullsGoOn) (stays : StaysSettled) (heeded_so : PullIsHeeded) (c : Settings) (times : Times) (w : Watched) (small : c.window ≤ 7)
-    (settled : IsSettled c w.station) where
+    (settled : IsSettled c w.station) (before : ℕ) (past : before ≤ w.now) (so : AreTrue c times (record w { now = before })) where
   abbrev s : Station
   s = w.station
 
@@ -75,7 +76,7 @@ module _ (goes : PullsGoOn) (stays : StaysSettled) (heeded_so : PullIsHeeded) (c
           did goes c times event s w.deadlines w.now step h
           ∙ ap (λ (n : ℕ). at_found goes c times event s w.deadlines n (pulled_of step.near (requests c step.near PullsAll)).near (seen_pulled c s event step))
           back
-          ∙ heeded_so c times (Happens 0 event) step w h is
+          ∙ heeded_so c times (Happens 0 event) step w before past so h is
           ∙ ap (λ (o : Outcome). all_done c times (with_pull (Happens 0 event) o) w) (sym is)
       by (Refused e) is h =
           ap (λ (n : ℕ). at_found goes c times event s w.deadlines n s (seen_of c s event (Refused e))) back
@@ -98,7 +99,7 @@ module _ (goes : PullsGoOn) (stays : StaysSettled) (heeded_so : PullIsHeeded) (c
           did goes c times event s (after_due times w.now w.deadlines) w.now step h
           ∙ ap (λ (n : ℕ). at_found goes c times event s (after_due times n w.deadlines) n (pulled_of step.near (requests c step.near PullsAll)).near
           (seen_pulled c s event step)) back
-          ∙ heeded_so c times (IsAsked 0 due) step w h is
+          ∙ heeded_so c times (IsAsked 0 due) step w before past so h is
           ∙ ap (λ (o : Outcome). all_done c times (with_pull (IsAsked 0 due) o) w) (sym is)
       by (Refused e) is h =
           ap (λ (n : ℕ). at_found goes c times event s (after_due times n w.deadlines) n s (seen_of c s event (Refused e))) back
@@ -107,8 +108,10 @@ module _ (goes : PullsGoOn) (stays : StaysSettled) (heeded_so : PullIsHeeded) (c
 
 pub event_is_done : PullsGoOn → StaysSettled → PullIsHeeded → EventIsDone
 unfolding event_act
-event_is_done goes stays heeded_so c times event w small settled = happens goes stays heeded_so c times (watched_in w) small settled event
+event_is_done goes stays heeded_so c times event w before small settled past so =
+    happens goes stays heeded_so c times (watched_in w) small settled before past so event
 
 pub due_is_done : PullsGoOn → StaysSettled → PullIsHeeded → DueIsDone
 unfolding event_act
-due_is_done goes stays heeded_so c times due w small settled = asked goes stays heeded_so c times (watched_in w) small settled due
+due_is_done goes stays heeded_so c times due w before small settled past so =
+    asked goes stays heeded_so c times (watched_in w) small settled before past so due

@@ -2,9 +2,11 @@
 use Rattle.x25_pipe.proofs.Names.{◌≡◌, ℕ, zero, suc, ◌+◌, ◌<◌, ◌≤◌, ◌==◌, List, [], ◌∷◌, length, map, Bool, true, false, if◌then◌else◌, nat_lt, Option, Some}
 use Rattle.x25_pipe.proofs.Names.{None, refl, sym, ap, subst, ◌∙◌, arith, lt-leb, Settings, Due, Times, asked_of, event_for, Deadlines, Seen, heeded, due_of, after_due}
 use Rattle.x25_pipe.proofs.Names.{Act, asked_act, event_act, event_in, nothing_act, Timed, TimedTurn, new_timed, insist_turn, told_due, due_first}
-use Rattle.std.proofs.{Common.{◌^◌, not}, lemmas.Bool.{true≢false, eq-eqb, ltb-true}, lemmas.Option.{none-some, same_Some}}
+use Rattle.std.proofs.{Common.{◌^◌, is_some, not}, lemmas.Bool.{true≢false, eq-eqb, ltb-true}, lemmas.Option.{none-some, same_Some}}
 use Rattle.x25_circuit.specs.declared.awaits.{Awaits.{Awaits}, Awaits.TheVariants.{Nothing, Acceptance, ResetConfirmation, ClearConfirmation}}
 use Rattle.x25_circuit.specs.declared.awaits.Awaits.TheVariants.{InterruptConfirmation}
+use Rattle.x25_circuit.specs.Awaits.{is_any}
+use Rattle.x25_clock.specs.Clock.{is_same, rotated, since, unless_unmoved, unmoved_of}
 use Rattle.x25_clock.specs.Clock.{most_due, nothing_awaited, channels_from, deadline, is_past, number_of, time_of, t1_after, running, wait_after, overdue_of}
 use Rattle.x25_clock.specs.{Clock.{asked_for, begun as begun_at, due_on, seen_first, unless_on, renewed, renewed_on}, declared.wait.Wait.{Wait}}
 use Rattle.x25_pipe.{proofs.Names.{Station, due_turns, answer_turn, moment_of, time_said, timed_turn, timed_turns}, specs.Timed.{seen_at, act_turn, pass_turn}}
@@ -21,9 +23,13 @@ counted false = 0
 abbrev past : ℕ → Option ℕ → ℕ
 past now until = counted (is_past now until)
 
+-- of a channel
+abbrev past_on : ℕ → Wait → ℕ
+past_on now w = past now w.until + past now w.rotates
+
 abbrev all_past : ℕ → List Wait → ℕ
 all_past now [] = 0
-all_past now (w ∷ ws) = past now w.until + all_past now ws
+all_past now (w ∷ ws) = past_on now w + all_past now ws
 
 abbrev count : ℕ → Deadlines → ℕ
 count now d = past now d.t1 + (past now d.idle + (past now d.restart + all_past now d.waits))
@@ -68,45 +74,78 @@ module _ (times : Times) (now : ℕ) where
   running_lower true false None time = begun now time 0
   running_lower true false (Some moment) time = omega arith
 
-  wait_lower : (a : Awaits) (w : Wait) → past now (wait_after times now a w).until ≤ past now w.until
-  wait_lower a w = by (number_of w.awaits == number_of a)
-    where
-      by : (b : Bool) → (let x : Wait = if b then w else record { channel = w.channel; awaits = a; until = deadline now (time_of times a) } in
-          past now x.until) ≤ past now w.until
-      by true = omega arith
-      by false = begun now (time_of times a) (past now w.until)
+  wait_lower : (a : Awaits) (o : Option ℕ) (w : Wait) → past_on now (wait_after times now a o w) ≤ past_on now w
+  wait_lower a o w =
+      let answer = running_lower (is_any a) (not (number_of w.awaits == number_of a)) w.until (time_of times a) in
+      let rotates = running_lower (is_some o) (not (is_same w.unacknowledged o)) w.rotates times.t25 in
+      omega (arith, answer, rotates)
 
-  waits_lower : (f : ℕ → Awaits) (ws : List Wait) → all_past now (map (λ w. wait_after times now (f w.channel) w) ws) ≤ all_past now ws
-  waits_lower f [] = omega arith
-  waits_lower f (w ∷ ws) = let first = wait_lower (f w.channel) w in let rest = waits_lower f ws in omega (arith, first, rest)
+  waits_lower : (f : ℕ → Awaits) (g : ℕ → Option ℕ) (ws : List Wait)
+      → all_past now (map (λ w. wait_after times now (f w.channel) (g w.channel) w) ws) ≤ all_past now ws
+  waits_lower f g [] = omega arith
+  waits_lower f g (w ∷ ws) = let first = wait_lower (f w.channel) (g w.channel) w in let rest = waits_lower f g ws in omega (arith, first, rest)
 
   heeded_lower : (x : Seen) (d : Deadlines) → count now (heeded times now x d) ≤ count now d
   heeded_lower x d =
       let t1 = t1_lower x.timer d.t1 in
       let idle = running_lower x.at_rest x.heard d.idle times.t3 in
       let restart = running_lower x.restarting x.noted d.restart times.t20 in
-      let waits = waits_lower x.awaited d.waits in
+      let waits = waits_lower x.awaited x.unacknowledged d.waits in
       omega (arith, t1, idle, restart, waits)
 
   -- ---- what is told as due is past no more
 
-  renewed_lower : (h : ℕ) (w : Wait) → past now (renewed times now h w).until ≤ past now w.until
+  since_none : (so : Bool) (time : ℕ) → past now (since so now time) ≡ 0
+  since_none true time = fresh now time
+  since_none false time = refl
+
+  abbrev renewed_to : Wait → Wait
+  renewed_to w = record {
+    channel = w.channel;
+    awaits = w.awaits;
+    until = deadline now (time_of times w.awaits);
+    unacknowledged = w.unacknowledged;
+    rotates = w.rotates;
+  }
+
+  abbrev rotated_to : Wait → Wait
+  rotated_to w = record {
+    channel = w.channel;
+    awaits = w.awaits;
+    until = w.until;
+    unacknowledged = w.unacknowledged;
+    rotates = since (is_some w.unacknowledged) now times.t25;
+  }
+
+  renewed_lower : (h : ℕ) (w : Wait) → past_on now (renewed times now h w) ≤ past_on now w
   renewed_lower h w = by (not (w.channel == h))
     where
-      by : (b : Bool) → (let x : Wait = if b then w else record { channel = w.channel; awaits = w.awaits; until = deadline now (time_of times w.awaits) } in
-          past now x.until) ≤ past now w.until
+      by : (b : Bool) → past_on now (if b then w else renewed_to w) ≤ past_on now w
       by true = omega arith
-      by false = begun now (time_of times w.awaits) (past now w.until)
+      by false = let none = fresh now (time_of times w.awaits) in omega (arith, none)
 
-  renewed_none : (w : Wait) → past now (renewed times now w.channel w).until ≡ 0
-  renewed_none w =
-      ap (λ (b : Bool). let x : Wait = if not b then w else record { channel = w.channel; awaits = w.awaits; until = deadline now (time_of times w.awaits) } in
-      past now x.until) (eq-eqb w.channel w.channel refl)
-      ∙ fresh now (time_of times w.awaits)
+  rotated_lower : (h : ℕ) (w : Wait) → past_on now (rotated times now h w) ≤ past_on now w
+  rotated_lower h w = by (not (w.channel == h))
+    where
+      by : (b : Bool) → past_on now (if b then w else rotated_to w) ≤ past_on now w
+      by true = omega arith
+      by false = let none = since_none (is_some w.unacknowledged) times.t25 in omega (arith, none)
 
-  all_lower : (h : ℕ) (ws : List Wait) → all_past now (map (renewed times now h) ws) ≤ all_past now ws
-  all_lower h [] = omega arith
-  all_lower h (w ∷ ws) = let first = renewed_lower h w in let rest = all_lower h ws in omega (arith, first, rest)
+  renewed_own : (w : Wait) → past_on now (renewed times now w.channel w) ≡ past now w.rotates
+  renewed_own w =
+      let none = fresh now (time_of times w.awaits) in
+      let own : past_on now (renewed_to w) ≡ past now w.rotates = omega (arith, none) in
+      ap (λ (b : Bool). past_on now (if not b then w else renewed_to w)) (eq-eqb w.channel w.channel refl) ∙ own
+
+  rotated_own : (w : Wait) → past_on now (rotated times now w.channel w) ≡ past now w.until
+  rotated_own w =
+      let none = since_none (is_some w.unacknowledged) times.t25 in
+      let own : past_on now (rotated_to w) ≡ past now w.until = omega (arith, none) in
+      ap (λ (b : Bool). past_on now (if not b then w else rotated_to w)) (eq-eqb w.channel w.channel refl) ∙ own
+
+  all_lower : (f : Wait → Wait) → ((w : Wait) → past_on now (f w) ≤ past_on now w) → (ws : List Wait) → all_past now (map f ws) ≤ all_past now ws
+  all_lower f lower [] = omega arith
+  all_lower f lower (w ∷ ws) = let first = lower w in let rest = all_lower f lower ws in omega (arith, first, rest)
 
   one_less : (x : Wait) (ws : List Wait) → overdue_of now ws ≡ Some x → all_past now (map (renewed times now x.channel) ws) + 1 ≤ all_past now ws
   one_less x [] is = absurd (none-some x is)
@@ -114,44 +153,70 @@ module _ (times : Times) (now : ℕ) where
     where
       by : (b : Bool) → is_past now w.until ≡ b → (if b then Some w else overdue_of now ws) ≡ Some x
           → (overdue_of now ws ≡ Some x → all_past now (map (renewed times now x.channel) ws) + 1 ≤ all_past now ws)
-          → past now (renewed times now x.channel w).until + all_past now (map (renewed times now x.channel) ws) + 1 ≤ past now w.until + all_past now ws
+          → past_on now (renewed times now x.channel w) + all_past now (map (renewed times now x.channel) ws) + 1 ≤ past_on now w + all_past now ws
       by true late same less =
           let own : w ≡ x = same_Some w x same in
-          let none : past now (renewed times now x.channel w).until ≡ 0 =
-          ap (λ (y : Wait). past now (renewed times now y.channel w).until) (sym own) ∙ renewed_none w in
+          let none : past_on now (renewed times now x.channel w) ≡ past now w.rotates =
+          ap (λ (y : Wait). past_on now (renewed times now y.channel w)) (sym own) ∙ renewed_own w in
           let was : past now w.until ≡ 1 = ap counted late in
-          let rest = all_lower x.channel ws in
+          let rest = all_lower (renewed times now x.channel) (renewed_lower x.channel) ws in
           omega (arith, none, was, rest)
       by false late same less =
           let first = renewed_lower x.channel w in
           let rest = less same in
           omega (arith, first, rest)
 
+  one_rotated : (k : ℕ) (ws : List Wait) → unmoved_of now ws ≡ Some k → all_past now (map (rotated times now k) ws) + 1 ≤ all_past now ws
+  one_rotated k [] is = absurd (none-some k is)
+  one_rotated k (w ∷ ws) is = by (is_past now w.rotates) refl is (one_rotated k ws)
+    where
+      by : (b : Bool) → is_past now w.rotates ≡ b → (if b then Some w.channel else unmoved_of now ws) ≡ Some k
+          → (unmoved_of now ws ≡ Some k → all_past now (map (rotated times now k) ws) + 1 ≤ all_past now ws)
+          → past_on now (rotated times now k w) + all_past now (map (rotated times now k) ws) + 1 ≤ past_on now w + all_past now ws
+      by true late same less =
+          let own : w.channel ≡ k = same_Some w.channel k same in
+          let none : past_on now (rotated times now k w) ≡ past now w.until =
+          ap (λ (i : ℕ). past_on now (rotated times now i w)) (sym own) ∙ rotated_own w in
+          let was : past now w.rotates ≡ 1 = ap counted late in
+          let rest = all_lower (rotated times now k) (rotated_lower k) ws in
+          omega (arith, none, was, rest)
+      by false late same less =
+          let first = rotated_lower k w in
+          let rest = less same in
+          omega (arith, first, rest)
+
   due_less : (d : Deadlines) (what : Due) → due_of now d ≡ Some what → count now (after_due times now d) + 1 ≤ count now d
   due_less d what is = by_t1 (is_past now d.t1) refl is
     where
-      on_idle : (b : Bool) → is_past now d.idle ≡ b → (if b then Some due.Probe else None) ≡ Some what → count now (renewed_on times now None b d) + 1
+      on_idle : (b : Bool) → is_past now d.idle ≡ b → (if b then Some due.Probe else None) ≡ Some what → count now (renewed_on times now None None b d) + 1
           ≤ count now d
       on_idle true late same = let was : past now d.idle ≡ 1 = ap counted late in let none = fresh now times.t3 in omega (arith, was, none)
       on_idle false late same = absurd (none-some what same)
 
-      on_channel : (o : Option Wait) → overdue_of now d.waits ≡ o → unless_on o (if is_past now d.idle then Some due.Probe else None) ≡ Some what
-          → count now (renewed_on times now o (is_past now d.idle) d) + 1 ≤ count now d
-      on_channel None found same = on_idle (is_past now d.idle) refl same
+      on_packet : (u : Option ℕ) → unmoved_of now d.waits ≡ u → unless_unmoved u (if is_past now d.idle then Some due.Probe else None) ≡ Some what
+          → count now (renewed_on times now None u (is_past now d.idle) d) + 1 ≤ count now d
+      on_packet None found same = on_idle (is_past now d.idle) refl same
+      on_packet (Some k) found same = let less = one_rotated k d.waits found in omega (arith, less)
+
+      on_channel : (o : Option Wait) → overdue_of now d.waits ≡ o
+          → unless_on o (unless_unmoved (unmoved_of now d.waits) (if is_past now d.idle then Some due.Probe else None)) ≡ Some what
+          → count now (renewed_on times now o (unmoved_of now d.waits) (is_past now d.idle) d) + 1 ≤ count now d
+      on_channel None found same = on_packet (unmoved_of now d.waits) refl same
       on_channel (Some x) found same = let less = one_less x d.waits found in omega (arith, less)
 
       by_restart : (b : Bool) → is_past now d.restart ≡ b
-          → (if b then Some due.Relink else unless_on (overdue_of now d.waits) (if is_past now d.idle then Some due.Probe else None)) ≡ Some what
-          → count now (if b then record d { restart = deadline now times.t20 } else renewed_on times now (overdue_of now d.waits) (is_past now d.idle) d) + 1
+          → (if b then Some due.Relink
+          else unless_on (overdue_of now d.waits) (unless_unmoved (unmoved_of now d.waits) (if is_past now d.idle then Some due.Probe else None))) ≡ Some what
+          → count now (if b then record d { restart = deadline now times.t20 } else renewed_on times now (overdue_of now d.waits) (unmoved_of now d.waits) (is_past now d.idle) d) + 1
           ≤ count now d
       by_restart true late same = let was : past now d.restart ≡ 1 = ap counted late in let none = fresh now times.t20 in omega (arith, was, none)
       by_restart false late same = on_channel (overdue_of now d.waits) refl same
 
       by_t1 : (b : Bool) → is_past now d.t1 ≡ b
           → (if b then Some due.T1 else if is_past now d.restart then Some due.Relink
-          else unless_on (overdue_of now d.waits) (if is_past now d.idle then Some due.Probe else None)) ≡ Some what
+          else unless_on (overdue_of now d.waits) (unless_unmoved (unmoved_of now d.waits) (if is_past now d.idle then Some due.Probe else None))) ≡ Some what
           → count now (if b then record d { t1 = deadline now times.t1 } else if is_past now d.restart then record d { restart = deadline now times.t20 }
-          else renewed_on times now (overdue_of now d.waits) (is_past now d.idle) d) + 1 ≤ count now d
+          else renewed_on times now (overdue_of now d.waits) (unmoved_of now d.waits) (is_past now d.idle) d) + 1 ≤ count now d
       by_t1 true late same = let was : past now d.t1 ≡ 1 = ap counted late in let none = fresh now times.t1 in omega (arith, was, none)
       by_t1 false late same = by_restart (is_past now d.restart) refl same
 
@@ -169,15 +234,21 @@ none_overdue now [] none = refl
 none_overdue now (w ∷ ws) none =
     ap (λ (b : Bool). if b then Some w else overdue_of now ws) (not_past now w.until (omega (arith, none))) ∙ none_overdue now ws (omega (arith, none))
 
+none_unmoved : (now : ℕ) (ws : List Wait) → all_past now ws ≡ 0 → unmoved_of now ws ≡ None
+none_unmoved now [] none = refl
+none_unmoved now (w ∷ ws) none =
+    ap (λ (b : Bool). if b then Some w.channel else unmoved_of now ws) (not_past now w.rotates (omega (arith, none))) ∙ none_unmoved now ws (omega (arith, none))
+
 none_due : (now : ℕ) (d : Deadlines) → count now d ≡ 0 → due_of now d ≡ None
 none_due now d none =
-    let channels : Option Due → Option Due = λ o. unless_on (overdue_of now d.waits) o in
+    let channels : Option Due → Option Due = λ o. unless_on (overdue_of now d.waits) (unless_unmoved (unmoved_of now d.waits) o) in
     ap (λ (b : Bool). if b then Some due.T1 else if is_past now d.restart then Some due.Relink
     else channels (if is_past now d.idle then Some due.Probe else None)) (not_past now d.t1 (omega (arith, none)))
     ∙ ap (λ (b : Bool). if b then Some due.Relink else channels (if is_past now d.idle then Some due.Probe else None))
     (not_past now d.restart (omega (arith, none)))
     ∙ ap (λ (b : Bool). channels (if b then Some due.Probe else None)) (not_past now d.idle (omega (arith, none)))
-    ∙ ap (λ (o : Option Wait). unless_on o None) (none_overdue now d.waits (omega (arith, none)))
+    ∙ ap (λ (o : Option Wait). unless_on o (unless_unmoved (unmoved_of now d.waits) None)) (none_overdue now d.waits (omega (arith, none)))
+    ∙ ap (λ (u : Option ℕ). unless_unmoved u None) (none_unmoved now d.waits (omega (arith, none)))
 
 -- ---- nothing awaited has no deadline
 
@@ -186,32 +257,31 @@ Unawaited [] = Unit {0}
 Unawaited (w ∷ ws) = (w.awaits ≡ Nothing → w.until ≡ None) × Unawaited ws
 
 module _ (times : Times) (now : ℕ) where
-  begins_none : (a : Awaits) → a ≡ Nothing → deadline now (time_of times a) ≡ None
-  begins_none a is = ap (λ (b : Awaits). deadline now (time_of times b)) is
+  wait_none : (a : Awaits) (o : Option ℕ) (w : Wait) → (let x : Wait = wait_after times now a o w in x.awaits ≡ Nothing → x.until ≡ None)
+  wait_none a o w is = ap (λ (b : Awaits). running (is_any b) (not (number_of w.awaits == number_of b)) w.until (deadline now (time_of times b))) is
 
-  wait_none : (a : Awaits) (w : Wait) → (w.awaits ≡ Nothing → w.until ≡ None) → (let x : Wait = wait_after times now a w in x.awaits ≡ Nothing → x.until ≡ None)
-  wait_none a w h = by (number_of w.awaits == number_of a)
-    where
-      by : (b : Bool) → (let x : Wait = if b then w else record { channel = w.channel; awaits = a; until = deadline now (time_of times a) } in x.awaits
-          ≡ Nothing → x.until ≡ None)
-      by true = h
-      by false = begins_none a
-
-  heeded_none : (f : ℕ → Awaits) (ws : List Wait) → Unawaited ws → Unawaited (map (λ w. wait_after times now (f w.channel) w) ws)
-  heeded_none f [] h = tt
-  heeded_none f (w ∷ ws) h = (wait_none (f w.channel) w h.0, heeded_none f ws h.1)
+  heeded_none : (f : ℕ → Awaits) (g : ℕ → Option ℕ) (ws : List Wait) → Unawaited (map (λ w. wait_after times now (f w.channel) (g w.channel) w) ws)
+  heeded_none f g [] = tt
+  heeded_none f g (w ∷ ws) = (wait_none (f w.channel) (g w.channel) w, heeded_none f g ws)
 
   renewed_still : (k : ℕ) (w : Wait) → (w.awaits ≡ Nothing → w.until ≡ None) → (let x : Wait = renewed times now k w in x.awaits ≡ Nothing → x.until ≡ None)
   renewed_still k w h = by (not (w.channel == k))
     where
-      by : (b : Bool) → (let x : Wait = if b then w else record { channel = w.channel; awaits = w.awaits; until = deadline now (time_of times w.awaits) } in
-          x.awaits ≡ Nothing → x.until ≡ None)
+      by : (b : Bool) → (let x : Wait = if b then w else renewed_to times now w in x.awaits ≡ Nothing → x.until ≡ None)
       by true = h
-      by false = begins_none w.awaits
+      by false = λ is. ap (λ (b : Awaits). deadline now (time_of times b)) is
 
-  all_still : (k : ℕ) (ws : List Wait) → Unawaited ws → Unawaited (map (renewed times now k) ws)
-  all_still k [] h = tt
-  all_still k (w ∷ ws) h = (renewed_still k w h.0, all_still k ws h.1)
+  rotated_still : (k : ℕ) (w : Wait) → (w.awaits ≡ Nothing → w.until ≡ None) → (let x : Wait = rotated times now k w in x.awaits ≡ Nothing → x.until ≡ None)
+  rotated_still k w h = by (not (w.channel == k))
+    where
+      by : (b : Bool) → (let x : Wait = if b then w else rotated_to times now w in x.awaits ≡ Nothing → x.until ≡ None)
+      by true = h
+      by false = h
+
+  all_still : (f : Wait → Wait) → ((w : Wait) → (w.awaits ≡ Nothing → w.until ≡ None) → (let x : Wait = f w in x.awaits ≡ Nothing → x.until ≡ None))
+      → (ws : List Wait) → Unawaited ws → Unawaited (map f ws)
+  all_still f still [] h = tt
+  all_still f still (w ∷ ws) h = (still w h.0, all_still f still ws h.1)
 
 -- ---- what holds of the deadlines of a clock, whatever is seen
 
@@ -220,21 +290,22 @@ IsClock d = Unawaited d.waits
 
 module _ (times : Times) (now : ℕ) where
   clock_heeds : (x : Seen) (d : Deadlines) → IsClock d → IsClock (heeded times now x d)
-  clock_heeds x d h = heeded_none times now x.awaited d.waits h
+  clock_heeds x d h = heeded_none times now x.awaited x.unacknowledged d.waits
 
   clock_tells : (d : Deadlines) → IsClock d → IsClock (after_due times now d)
   clock_tells d h = by (is_past now d.t1) (is_past now d.restart)
     where
-      on : (o : Option Wait) (idle : Bool) → IsClock (renewed_on times now o idle d)
-      on None true = h
-      on None false = h
-      on (Some x) idle = all_still times now x.channel d.waits h
+      on : (o : Option Wait) (u : Option ℕ) (idle : Bool) → IsClock (renewed_on times now o u idle d)
+      on None None true = h
+      on None None false = h
+      on None (Some k) idle = all_still times now (rotated times now k) (rotated_still times now k) d.waits h
+      on (Some x) u idle = all_still times now (renewed times now x.channel) (renewed_still times now x.channel) d.waits h
 
       by : (t1 restart : Bool) → IsClock (if t1 then record d { t1 = deadline now times.t1 } else if restart then record d { restart = deadline now times.t20 }
-          else renewed_on times now (overdue_of now d.waits) (is_past now d.idle) d)
+          else renewed_on times now (overdue_of now d.waits) (unmoved_of now d.waits) (is_past now d.idle) d)
       by true restart = h
       by false true = h
-      by false false = on (overdue_of now d.waits) (is_past now d.idle)
+      by false false = on (overdue_of now d.waits) (unmoved_of now d.waits) (is_past now d.idle)
 
   -- where nothing is due nothing is told as due
   overdue_none : (ws : List Wait) (x : Wait) → Unawaited ws → overdue_of now ws ≡ Some x → due_on x ≡ None → ⊥
@@ -255,32 +326,44 @@ module _ (times : Times) (now : ℕ) where
   told_none : (d : Deadlines) → IsClock d → due_of now d ≡ None → due_of now (after_due times now d) ≡ None
   told_none d h none = by_t1 (is_past now d.t1) refl none
     where
-      on_idle : (b : Bool) → (if b then Some due.Probe else None) ≡ None → due_of now (renewed_on times now None b d) ≡ None
+      on_idle : (b : Bool) → (if b then Some due.Probe else None) ≡ None → due_of now (renewed_on times now None None b d) ≡ None
       on_idle true same = absurd (none-some due.Probe (sym same))
       on_idle false same = none
 
-      on_channel : (o : Option Wait) → overdue_of now d.waits ≡ o → unless_on o (if is_past now d.idle then Some due.Probe else None) ≡ None
-          → due_of now (renewed_on times now o (is_past now d.idle) d) ≡ None
-      on_channel None found same = on_idle (is_past now d.idle) same
+      on_packet : (u : Option ℕ) → unless_unmoved u (if is_past now d.idle then Some due.Probe else None) ≡ None
+          → due_of now (renewed_on times now None u (is_past now d.idle) d) ≡ None
+      on_packet None same = on_idle (is_past now d.idle) same
+      on_packet (Some k) same = absurd (none-some (due.ResetUnacknowledged k) (sym same))
+
+      on_channel : (o : Option Wait) → overdue_of now d.waits ≡ o
+          → unless_on o (unless_unmoved (unmoved_of now d.waits) (if is_past now d.idle then Some due.Probe else None)) ≡ None
+          → due_of now (renewed_on times now o (unmoved_of now d.waits) (is_past now d.idle) d) ≡ None
+      on_channel None found same = on_packet (unmoved_of now d.waits) same
       on_channel (Some x) found same = absurd (overdue_none d.waits x h found same)
 
-      by_restart : (b : Bool) → (if b then Some due.Relink else unless_on (overdue_of now d.waits) (if is_past now d.idle then Some due.Probe else None)) ≡ None
-          → due_of now (if b then record d { restart = deadline now times.t20 } else renewed_on times now (overdue_of now d.waits) (is_past now d.idle) d)
-          ≡ None
+      by_restart : (b : Bool)
+          → (if b then Some due.Relink
+          else unless_on (overdue_of now d.waits) (unless_unmoved (unmoved_of now d.waits) (if is_past now d.idle then Some due.Probe else None))) ≡ None
+          → due_of now (if b then record d { restart = deadline now times.t20 }
+          else renewed_on times now (overdue_of now d.waits) (unmoved_of now d.waits) (is_past now d.idle) d) ≡ None
       by_restart true same = absurd (none-some due.Relink (sym same))
       by_restart false same = on_channel (overdue_of now d.waits) refl same
 
       by_t1 : (b : Bool) → is_past now d.t1 ≡ b
           → (if b then Some due.T1 else if is_past now d.restart then Some due.Relink
-          else unless_on (overdue_of now d.waits) (if is_past now d.idle then Some due.Probe else None)) ≡ None
+          else unless_on (overdue_of now d.waits) (unless_unmoved (unmoved_of now d.waits) (if is_past now d.idle then Some due.Probe else None))) ≡ None
           → due_of now (if b then record d { t1 = deadline now times.t1 } else if is_past now d.restart then record d { restart = deadline now times.t20 }
-          else renewed_on times now (overdue_of now d.waits) (is_past now d.idle) d) ≡ None
+          else renewed_on times now (overdue_of now d.waits) (unmoved_of now d.waits) (is_past now d.idle) d) ≡ None
       by_t1 true late same = absurd (none-some due.T1 (sym same))
       by_t1 false late same = by_restart (is_past now d.restart) same
 
-  most : (ws : List Wait) → all_past now ws ≤ length ws
+  most : (ws : List Wait) → all_past now ws ≤ length ws + length ws
   most [] = omega arith
-  most (w ∷ ws) = let first = one_most (is_past now w.until) in let rest = most ws in omega (arith, first, rest)
+  most (w ∷ ws) =
+      let answer = one_most (is_past now w.until) in
+      let rotates = one_most (is_past now w.rotates) in
+      let rest = most ws in
+      omega (arith, answer, rotates, rest)
 
   few_past : (d : Deadlines) → count now d ≤ most_due d
   few_past d =

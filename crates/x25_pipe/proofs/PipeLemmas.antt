@@ -1,7 +1,7 @@
 -- A whole input.
-use Rattle.x25_pipe.proofs.Names.{◌≡◌, ℕ, false, List, [], Option, refl, sym, subst, lines_of, AppendsPrefix, Settings, FitsStation, sayings_text, has_refusal}
-use Rattle.x25_io.proofs.{TakerLemmas.{between}, ToldLemmas.{none_told}}
-use Rattle.x25_io.specs.{HeldLine.{HoldsLine}, code.LinesLead.{LinesLead}}
+use Rattle.x25_pipe.proofs.Names.{◌≡◌, ℕ, Bool, false, List, [], Option, ap, refl, sym, subst, ◌∙◌, lines_of, AppendsPrefix, Settings, FitsStation, sayings_text, has_refusal}
+use Rattle.x25_io.proofs.{LooseLemmas.{lines_asked}, TakerLemmas.{between}, ToldLemmas.{none_told}}
+use Rattle.x25_io.specs.{HeldLine.{HoldsLine}, Loose.{asked_lines, asked_text}, code.LinesLead.{LinesLead}}
 use Rattle.x25_io.specs.declared.held_line.HeldLine.{HeldLine}
 use Rattle.x25_pipe.proofs.{Names.{turns, Stands, Pipe}, SayingLemmas.{parts_text, parts_refused}, StandLemmas.{StandsAt, BeginsAt, begins_before}}
 use Rattle.x25_pipe.specs.{Pipe.{standing_turn, piped, text_of}, code.Stream.{Answers}}
@@ -32,9 +32,15 @@ module _ (c : Settings) (old now : Option (List ℕ)) (p : Pipe) (input : List �
     any = parts_refused false (standing_turn c new_station).sayings (turns c (lines_of input) new_station).sayings;
   }
 
-  pub input_begins : (q : Pipe) (held first : HeldLine) → held ≡ first → q ≡ p → HoldsLine [] first
-      → StandsAt c old now p [] false (standing_turn c new_station)
-      → LinesLead (λ lines. Answers c q old now lines input) held input
-  input_begins q held first is_held is_pipe empty h =
-      between (λ (lines : List (List ℕ)). Answers c q old now lines input) held input (subst (HoldsLine []) (sym is_held) empty)
-      (leads_input q (subst (λ u. StandsAt c old now u [] false (standing_turn c new_station)) (sym is_pipe) h))
+-- with `loose` what its lines ask is to come
+pub input_begins : (c : Settings) (old now : Option (List ℕ)) (p q : Pipe) (loose is_loose : Bool) (input : List ℕ) (held first : HeldLine)
+    → held ≡ first → is_loose ≡ loose → q ≡ p → HoldsLine [] first → StandsAt c old now p [] false (standing_turn c new_station)
+    → LinesLead (λ lines. (is_loose ≡ loose) × Answers c q old now (asked_lines loose lines) (asked_text loose input)) held input
+input_begins c old now p q loose is_loose input held first is_held is_so is_pipe empty h =
+    let text = asked_text loose input in
+    between (λ (lines : List (List ℕ)). (is_loose ≡ loose) × Answers c q old now (asked_lines loose lines) text) held input
+    (subst (HoldsLine []) (sym is_held) empty) (
+      is_so,
+      subst (λ (lines : List (List ℕ)). Answers c q old now lines text) (lines_asked loose input)
+          (leads_input c old now p text q (subst (λ u. StandsAt c old now u [] false (standing_turn c new_station)) (sym is_pipe) h)),
+    )

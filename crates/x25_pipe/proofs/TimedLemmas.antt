@@ -4,8 +4,8 @@ use Rattle.x25_pipe.proofs.Names.{arith, ◌||◌, append-nil, or-false, Due, Ti
 use Rattle.x25_pipe.proofs.Names.{prefix_more, Settings, FitsStation, Timed, TimedTurn, answer_turn, due_first, due_turns, insist_turn, new_timed, time_said}
 use Rattle.std.{proofs.Math.Bool.{or_assoc}, proofs.lemmas.Result.{MatchResult-weaker}, specs.Io.KnownBytes.{Appends}}
 use Rattle.x25_clock.specs.Clock.{nothing_awaited, plain}
-use Rattle.x25_io.proofs.{TakerLemmas.{between}, ToldLemmas.{told_prefix}}
-use Rattle.x25_io.specs.{HeldLine.{HoldsLine}, code.LinesLead.{LinesLead}}
+use Rattle.x25_io.proofs.{LooseLemmas.{lines_asked}, TakerLemmas.{between}, ToldLemmas.{told_prefix}}
+use Rattle.x25_io.specs.{HeldLine.{HoldsLine}, Loose.{asked_lines, asked_text}, code.LinesLead.{LinesLead}}
 use Rattle.x25_io.specs.declared.{fault.Fault.{Fault}, held_line.HeldLine.{HeldLine}}
 use Rattle.x25_pipe.proofs.{Names.{moment_of, timed_turn, timed_turns, told_due}, PipeLemmas.{stands_first}}
 use Rattle.x25_pipe.specs.{Timed.{and_then, begins, mark_turn, pass_turn, timed, timed_text, writes}, code.TimedStands.{StandsTimed, StandsTimedAt, StoodTimed}}
@@ -215,9 +215,15 @@ module _ (c : Settings) (times : Times) (old now : Option (List ℕ)) (p : Timed
     any = refl;
   }
 
-  pub input_begins : (q : TimedPipe) (held first : HeldLine) → held ≡ first → q ≡ p → HoldsLine [] first
-      → StandsTimedAt c times old now p [] false (mark_turn c (new_timed c))
-      → LinesLead (λ lines. AnswersTimed c times q old now lines input) held input
-  input_begins q held first is_held is_pipe empty h =
-      between (λ (lines : List (List ℕ)). AnswersTimed c times q old now lines input) held input (subst (HoldsLine []) (sym is_held) empty)
-      (leads_input q (subst (λ u. StandsTimedAt c times old now u [] false (mark_turn c (new_timed c))) (sym is_pipe) h))
+-- with `loose` what its lines ask is to come
+pub input_begins : (c : Settings) (times : Times) (old now : Option (List ℕ)) (p q : TimedPipe) (loose is_loose : Bool) (input : List ℕ) (held first : HeldLine)
+    → held ≡ first → is_loose ≡ loose → q ≡ p → HoldsLine [] first → StandsTimedAt c times old now p [] false (mark_turn c (new_timed c))
+    → LinesLead (λ lines. (is_loose ≡ loose) × AnswersTimed c times q old now (asked_lines loose lines) (asked_text loose input)) held input
+input_begins c times old now p q loose is_loose input held first is_held is_so is_pipe empty h =
+    let text = asked_text loose input in
+    between (λ (lines : List (List ℕ)). (is_loose ≡ loose) × AnswersTimed c times q old now (asked_lines loose lines) text) held input
+    (subst (HoldsLine []) (sym is_held) empty) (
+      is_so,
+      subst (λ (lines : List (List ℕ)). AnswersTimed c times q old now lines text) (lines_asked loose input)
+          (leads_input c times old now p text q (subst (λ u. StandsTimedAt c times old now u [] false (mark_turn c (new_timed c))) (sym is_pipe) h)),
+    )

@@ -6,6 +6,7 @@ use Rattle.x25_pipe.proofs.Names.{pulled_behind, Timed, TimedTurn, answer_turn, 
 use Rattle.std.{proofs.Common.{◌-◌}, proofs.lemmas.Bool.{ltb-false, true≢false}, specs.Prelude.{IsSome, is_some}}
 use Rattle.x25_circuit.specs.Calling.{SaysReady}
 use Rattle.x25_clock.specs.{Clock.{most_due}, Due.{asked_of, event_for}, laws.ClockLaw.{Moment, Happens, IsDue, Watched, heeds as heeds_event, watched_by, watched_from}}
+use Rattle.x25_clock.specs.laws.ClockLaw.{AreTrue, DeadlinesAreTrue, TrueStays}
 use Rattle.x25_layer.specs.{Calls.{Asks as asks_on, outcome_in}, laws.Rounds.{Refuses, went}}
 use Rattle.x25_link.specs.{Link.{alone}, Outgoing.{waits}, Station.{is_up}}
 use Rattle.x25_pipe.proofs.{BegunLemmas.{begun_at, both_begun, itself}, Names.{moment_of, timed_turns, told_due}}
@@ -82,7 +83,13 @@ nothing_leads c times w =
 
 -- ---- the turns
 
-module _ (done : EventIsDone) (stays : StaysSettled) (c : Settings) (times : Times) (small : c.window ≤ 7) where
+module _ (done : EventIsDone) (stays : StaysSettled) (so : DeadlinesAreTrue) (so_stays : TrueStays) (c : Settings) (times : Times) (small : c.window ≤ 7) where
+  leads_true : (w v : Watched) → Leads c times w v → AreTrue c times w → AreTrue c times v
+  leads_true w v leads true_now = subst (AreTrue c times) leads.is (so_stays c times leads.moments w true_now)
+
+  reached_true : (v : Watched) → Leads c times (watched_in (new_timed c)) v → AreTrue c times v
+  reached_true v leads = leads_true (watched_in (new_timed c)) v leads (so c times [])
+
   -- what is reached, from a station that is settled to one that is; a time that was said stays so
   record Reaches (w v : Timed) : Type 0 where
     leads : Leads c times (watched_in w) (watched_in v)
@@ -101,9 +108,10 @@ module _ (done : EventIsDone) (stays : StaysSettled) (c : Settings) (times : Tim
   unfolding event_act
   event_settled s event h = act_settled s event (timer.outcome c s event) (stays c s event small h) h
 
-  event_reaches : (w : Timed) (event : StationEvent) → IsSettled c w.station → Reaches w (act_turn c times w (event_act c w.station event)).next
-  event_reaches w event h = record {
-    leads = subst (Leads c times (watched_in w)) (sym (done c times event w small h))
+  event_reaches : (w : Timed) (event : StationEvent) → IsSettled c w.station → AreTrue c times (watched_in w)
+      → Reaches w (act_turn c times w (event_act c w.station event)).next
+  event_reaches w event h true_now = record {
+    leads = subst (Leads c times (watched_in w)) (sym (done c times event w (moment_of w.now) small h (omega arith) true_now))
         (deeds_lead c times event (timer.outcome c w.station event) (watched_in w));
     settled = event_settled w.station event h;
     said = λ said. said;
@@ -127,20 +135,22 @@ module _ (done : EventIsDone) (stays : StaysSettled) (c : Settings) (times : Tim
       }
 
   -- what is asked behind what was told as due
-  first_reaches : (n : ℕ) (w : Timed) (o : Option Due) → ((u : Timed) → IsSettled c u.station → Reaches u (due_turns c times n u).next) → IsSettled c w.station
-      → Reaches (told_due times w) (due_first c times (due_turns c times n) w o).next
-  first_reaches n w None rest h = record { leads = here c times (watched_in (told_due times w)); settled = h; said = λ s. s }
-  first_reaches n w (Some what) rest h =
+  first_reaches : (n : ℕ) (w : Timed) (o : Option Due)
+      → ((u : Timed) → IsSettled c u.station → AreTrue c times (watched_in u) → Reaches u (due_turns c times n u).next) → IsSettled c w.station
+      → AreTrue c times (watched_in (told_due times w)) → Reaches (told_due times w) (due_first c times (due_turns c times n) w o).next
+  first_reaches n w None rest h true_now = record { leads = here c times (watched_in (told_due times w)); settled = h; said = λ s. s }
+  first_reaches n w (Some what) rest h true_now =
       let v : Timed = told_due times w in
       let u : Timed = (insist_turn c times what v).next in
-      let asked : Reaches v u = event_reaches v (event_for (asked_of c v.station what)) h in
-      on v u (due_turns c times n u).next asked.leads asked.said (rest u asked.settled)
+      let asked : Reaches v u = event_reaches v (event_for (asked_of c v.station what)) h true_now in
+      on v u (due_turns c times n u).next asked.leads asked.said (rest u asked.settled (leads_true (watched_in v) (watched_in u) asked.leads true_now))
 
-  all_reach : (n : ℕ) (w : Timed) → IsSettled c w.station → Reaches w (due_turns c times n w).next
+  all_reach : (n : ℕ) (w : Timed) → IsSettled c w.station → AreTrue c times (watched_in w) → Reaches w (due_turns c times n w).next
   unfolding due_turns
-  all_reach zero w h = record { leads = here c times (watched_in w); settled = h; said = λ s. s }
-  all_reach (suc n) w h = on w (told_due times w) (due_turns c times (suc n) w).next (told_leads w) (λ s. s)
-      (first_reaches n w (due_of (moment_of w.now) w.deadlines) (all_reach n) h)
+  all_reach zero w h true_now = record { leads = here c times (watched_in w); settled = h; said = λ s. s }
+  all_reach (suc n) w h true_now = on w (told_due times w) (due_turns c times (suc n) w).next (told_leads w) (λ s. s)
+      (first_reaches n w (due_of (moment_of w.now) w.deadlines) (all_reach n) h
+      (leads_true (watched_in w) (watched_in (told_due times w)) (told_leads w) true_now))
 
   -- the time passes to one that is said
   passes : (w : Timed) (now : ℕ) → moment_of w.now ≤ now → Leads c times (watched_in w) (watched_in (told_due times (record w { now = Some now })))
@@ -152,16 +162,17 @@ module _ (done : EventIsDone) (stays : StaysSettled) (c : Settings) (times : Tim
         is = ap (λ (n : ℕ). let v : Watched = record { station = w.station; deadlines = after_due times n w.deadlines; now = n } in v) there;
       }
 
-  time_reaches : (w : Timed) (now : ℕ) → moment_of w.now ≤ now → IsSettled c w.station
+  time_reaches : (w : Timed) (now : ℕ) → moment_of w.now ≤ now → IsSettled c w.station → AreTrue c times (watched_in w)
       → Reaches w (due_turns c times (most_due w.deadlines) (record w { now = Some now })).next
   unfolding due_turns
-  time_reaches w now low h =
+  time_reaches w now low h true_now =
       let v : Timed = record w { now = Some now } in
-      let rest : ℕ = 2 + length w.deadlines.waits in
+      let rest : ℕ = 2 + (length w.deadlines.waits + length w.deadlines.waits) in
       let more : suc rest ≡ most_due w.deadlines = omega arith in
       subst (λ (n : ℕ). Reaches w (due_turns c times n v).next) more
       (on w (told_due times v) (due_turns c times (suc rest) v).next (passes w now low) (λ s. refl)
-      (first_reaches rest v (due_of now w.deadlines) (all_reach rest) h))
+      (first_reaches rest v (due_of now w.deadlines) (all_reach rest) h
+      (leads_true (watched_in w) (watched_in (told_due times v)) (passes w now low) true_now)))
 
   -- ---- from a station that never was up; before a time is said, also by a clock that begins then
 
@@ -178,7 +189,7 @@ module _ (done : EventIsDone) (stays : StaysSettled) (c : Settings) (times : Tim
       let x : Watched = begun_at c times now w.station in
       let y : Watched = wait.all_done c times (with_pull (wait.Happens 0 event) o) x in
       let is : watched_in (act_turn c times (begins c times now w) (event_act c w.station event)).next ≡ y =
-      done c times event (begins c times now w) small h in
+      done c times event (begins c times now w) now small h (omega arith) (reached_true x before) in
       let near : y.station ≡ (event_act c w.station event).next = sym (ap (λ (z : Watched). z.station) is) in
       let begun : y ≡ begun_at c times now (event_act c w.station event).next =
       itself c times now y (both_begun c times now event o x (record { near = w.station; is = refl })) ∙ ap (begun_at c times now) near in
@@ -194,7 +205,7 @@ module _ (done : EventIsDone) (stays : StaysSettled) (c : Settings) (times : Tim
   }
   asked_reached w (Some event) r =
       let v : Timed = (act_turn c times w (event_act c w.station event)).next in
-      let rest : Reaches w v = event_reaches w event r.settled in
+      let rest : Reaches w v = event_reaches w event r.settled (reached_true (watched_in w) r.leads) in
       record {
         leads = leads_on c times (watched_in (new_timed c)) (watched_in w) (watched_in v) r.leads rest.leads;
         settled = rest.settled;
@@ -216,7 +227,7 @@ module _ (done : EventIsDone) (stays : StaysSettled) (c : Settings) (times : Tim
       by false less =
           let low : moment_of w.now ≤ now = subst (λ (o : Option ℕ). moment_of o ≤ now) (sym is) (ltb-false now last less) in
           let v : Timed = (due_turns c times (most_due w.deadlines) (record w { now = Some now })).next in
-          let rest : Reaches w v = time_reaches w now low r.settled in
+          let rest : Reaches w v = time_reaches w now low r.settled (reached_true (watched_in w) r.leads) in
           record {
             leads = leads_on c times (watched_in (new_timed c)) (watched_in w) (watched_in v) r.leads rest.leads;
             settled = rest.settled;
@@ -247,6 +258,7 @@ module _ (done : EventIsDone) (stays : StaysSettled) (c : Settings) (times : Tim
         };
   }
 
-pub pipe_is_watched : EventIsDone → NewIsSettled → StaysSettled → PipeIsWatched
-pipe_is_watched done new stays c times lines small =
-    let all = (lines_reach done stays c times small lines (new_timed c) (new_reached done stays c times small (new c))).leads in (all.moments, all.is)
+pub pipe_is_watched : EventIsDone → NewIsSettled → StaysSettled → DeadlinesAreTrue → TrueStays → PipeIsWatched
+pipe_is_watched done new stays so so_stays c times lines small =
+    let all = (lines_reach done stays so so_stays c times small lines (new_timed c) (new_reached done stays so so_stays c times small (new c))).leads in
+    (all.moments, all.is)

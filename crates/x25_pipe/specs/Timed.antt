@@ -17,7 +17,7 @@ use Rattle.x25_clock.specs.Clock.{nothing_awaited}
 use Rattle.x25_clock.specs.Due.{asked_of, event_for}
 use Rattle.x25_io.specs.HeldLine.{most_line}
 use Rattle.x25_io.specs.Lines.{lines_of}
-use Rattle.x25_layer.specs.code.FitsLayer.{awaited_at}
+use Rattle.x25_layer.specs.code.FitsLayer.{awaited_at, unacknowledged_at}
 use Rattle.x25_station.specs.Config.{Settings, layer_settings}
 use Rattle.x25_station.specs.Station.{Station, new_station}
 use Rattle.x25_station.specs.Station.Told.{awaits_answers, is_at_rest, is_idle}
@@ -66,6 +66,7 @@ seen_at c a = record {
   noted = tells_link a.entries;
   heard = a.is_heard;
   awaited = λ h. awaited_at (layer_settings c) a.next.layer h;
+  unacknowledged = λ h. unacknowledged_at (layer_settings c) a.next.layer h;
 }
 
 abbrev pub heeds : Settings → Times → Timed → Act → Timed
@@ -89,6 +90,7 @@ abbrev pub timer_text : Role → Awaits → Due → List ℕ
 timer_text end awaits due.T1 = codes "T1"
 timer_text end awaits due.Probe = codes "T3"
 timer_text end awaits (due.Reset h) = codes "T26"
+timer_text end awaits (due.ResetUnacknowledged h) = codes "T25"
 timer_text Dte awaits due.Relink = codes "T20"
 timer_text Dce awaits due.Relink = codes "T10"
 timer_text Dte ResetConfirmation (due.Clear h) = codes "T22"
@@ -103,6 +105,7 @@ channel_in due.T1 = []
 channel_in due.Probe = []
 channel_in due.Relink = []
 channel_in (due.Reset h) = channel_text h
+channel_in (due.ResetUnacknowledged h) = channel_text h
 channel_in (due.Clear h) = channel_text h
 channel_in (due.Restart h) = channel_text h
 
@@ -112,6 +115,7 @@ channel_for due.T1 = 0
 channel_for due.Probe = 0
 channel_for due.Relink = 0
 channel_for (due.Reset h) = h
+channel_for (due.ResetUnacknowledged h) = h
 channel_for (due.Clear h) = h
 channel_for (due.Restart h) = h
 

@@ -8,6 +8,7 @@
 mod answerer;
 mod law;
 mod pipe;
+mod reporting;
 mod running;
 mod telling;
 mod timed;
@@ -15,6 +16,9 @@ mod timed_answerer;
 
 pub use law::{answers_as_worked, clock_is_obeyed};
 pub use running::{station, timed_station};
+pub use telling::{channel_of, tell_timeout};
+pub use timed::time_said_in;
 pub use x25_clock::Times;
+pub use x25_console::{Reporter, Silent};
 pub use x25_io::{Device, Failed, Fault, Sink, Source};
 pub use x25_station::{Cfg, Role};

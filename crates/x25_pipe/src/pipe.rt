@@ -14,6 +14,15 @@ use x25_script::{Command, HexDigits, ScriptTaker, read_line};
 use x25_station::{Cfg, Role, Station, StationError, Step};
 use x25_text::MOST_OCTETS;
 
+/// What was refused.
+#[derive(Clone, Copy, Debug, PartialEq, Eq)]
+pub(crate) enum Refusal {
+    /// The line asks for nothing.
+    Line,
+    /// What it asks for.
+    Event(StationError),
+}
+
 /// The station at an end, what it answered last, whether octets came then, the octets of a frame and of a command, and
 /// what waits to be written.
 #[derive(Drop)]
@@ -26,6 +35,9 @@ pub(crate) struct Pipe {
     user: Vec<u8>,
     pub(crate) output: Output,
     is_refused: bool,
+    // How often something was refused, as far as that is counted, and what last.
+    refusals: u64,
+    last: Refusal,
 }
 
 fn is_same(end: Role, found: Role) -> bool
@@ -88,6 +100,8 @@ impl Pipe {
             user: Vec::new(alloc),
             output,
             is_refused: false,
+            refusals: 0,
+            last: Refusal::Line,
         })
     }
 
@@ -180,6 +194,8 @@ impl Pipe {
             return Err(Fault::NoMemory);
         }
         self.is_refused = true;
+        self.refusals = self.refusals.saturating_add(1);
+        self.last = Refusal::Event(error);
         self.station.reuse(&mut self.step);
         tell_refusal(error.number(), &mut self.output, writer)
     }
@@ -191,6 +207,8 @@ impl Pipe {
         ensures faults { MarksFaults W.Sink writer.old writer.new result }
     {
         self.is_refused = true;
+        self.refusals = self.refusals.saturating_add(1);
+        self.last = Refusal::Line;
         self.has_come = false;
         self.station.reuse(&mut self.step);
         tell_nothing(&mut self.output, writer)
@@ -314,6 +332,11 @@ impl Pipe {
         ensures { result ≡ self.now.is_refused }
     {
         self.is_refused
+    }
+
+    /// How often something was refused, as far as that is counted, and what last.
+    pub(crate) fn refusals(&self) -> (u64, Refusal) {
+        (self.refusals, self.last)
     }
 }
 

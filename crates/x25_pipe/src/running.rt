@@ -5,11 +5,14 @@ ghost use Rattle.x25_pipe.specs.code.Stream.{program};
 ghost use Rattle.x25_pipe.specs.code.TimedStream.{timed_program};
 ghost use Rattle.x25_station.specs.Config.{config_refusal, settings_from};
 
+use crate::answerer::Answerer;
 use crate::pipe::Pipe;
 use crate::timed::TimedPipe;
+use crate::timed_answerer::TimedAnswerer;
 use std::alloc::Global;
 use x25_clock::Times;
-use x25_io::{Fault, HeldLine, LineByLine, Piece, Sink, Source, take_text};
+use x25_console::Reporter;
+use x25_io::{Fault, HeldLine, LineByLine, Loosely, Piece, Sink, Source, take_text};
 use x25_station::{Cfg, Role};
 
 /// Writes the first mark, has the station at an end do what each line that the reader gives asks for, and answers each
@@ -19,17 +22,24 @@ use x25_station::{Cfg, Role};
 /// A line is a line of a trace of what the other end sent, or a line of a script of this end's user or timer. Any
 /// other, or one of more than 131,200 characters, becomes `? 60`; an event that is refused `! ` and its number. A mark
 /// is `. `, what T1 does (`off`, `on` where it is left as it is, `start` where it begins anew), and `idle` or `busy`;
-/// each is written before the next line is taken. A reader is called at most 2^64 - 1 times; the clauses on the text
-/// speak of inputs of fewer octets than that. Profile.
-pub fn station<R: Source, W: Sink>(
+/// each is written before the next line is taken. What is refused is reported, before its answer is written.
+///
+/// With `loose` comments, which begin with `#`, and empty lines are passed over, without a mark, and what may stand
+/// beside what a line asks: a time and its tab before it, a carriage return at its end.
+///
+/// A reader is called at most 2^64 - 1 times; the clauses on the text speak of inputs of fewer octets than that.
+/// Profile.
+pub fn station<P: Reporter, R: Source, W: Sink>(
     alloc: Global,
     end: Role,
     cfg: Cfg,
+    loose: bool,
+    reporter: P,
     reader: &mut R,
     writer: &mut W,
 ) -> Result<u8, Fault>
     requires range { config_refusal cfg ≡ None }
-    ensures { Runs R.Source W.Sink (program (settings_from end cfg)) reader.old reader.new
+    ensures { Runs R.Source W.Sink (program (settings_from end cfg) loose) reader.old reader.new
         writer.old writer.new result }
 {
     let piece = Piece::new(alloc)?;
@@ -40,7 +50,9 @@ pub fn station<R: Source, W: Sink>(
         drop(pipe);
         return Err(fault);
     }
-    let lines = LineByLine::new(held, pipe);
+    let answerer = Answerer::new(pipe, reporter);
+    let read = Loosely::new(loose, answerer);
+    let lines = LineByLine::new(held, read);
     take_text(lines, piece, reader, writer)
 }
 
@@ -50,16 +62,18 @@ pub fn station<R: Source, W: Sink>(
 /// said again; a line with an earlier one, or with a number of 2^64 or more, becomes `? 60`. A mark has the next moment
 /// at which something is due in the place of what T1 does, `-` for none; before the first time it is counted from 0.
 /// Profile.
-pub fn timed_station<R: Source, W: Sink>(
+pub fn timed_station<P: Reporter, R: Source, W: Sink>(
     alloc: Global,
     end: Role,
     cfg: Cfg,
     times: Times,
+    loose: bool,
+    reporter: P,
     reader: &mut R,
     writer: &mut W,
 ) -> Result<u8, Fault>
     requires range { config_refusal cfg ≡ None }
-    ensures { Runs R.Source W.Sink (timed_program (settings_from end cfg) times) reader.old reader.new
+    ensures { Runs R.Source W.Sink (timed_program (settings_from end cfg) times loose) reader.old reader.new
         writer.old writer.new result }
 {
     let piece = Piece::new(alloc)?;
@@ -69,6 +83,8 @@ pub fn timed_station<R: Source, W: Sink>(
         drop(pipe);
         return Err(fault);
     }
-    let lines = LineByLine::new(held, pipe);
+    let answerer = TimedAnswerer::new(pipe, reporter);
+    let read = Loosely::new(loose, answerer);
+    let lines = LineByLine::new(held, read);
     take_text(lines, piece, reader, writer)
 }

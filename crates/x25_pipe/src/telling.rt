@@ -129,6 +129,7 @@ fn timer_name(end: Role, awaits: Awaits, due: Due) -> &'static [u8]
         (_, Due::T1, _) => b"T1",
         (_, Due::Probe, _) => b"T3",
         (_, Due::Reset { .. }, _) => b"T26",
+        (_, Due::ResetUnacknowledged { .. }, _) => b"T25",
         (Role::Dte, Due::Relink, _) => b"T20",
         (Role::Dce, Due::Relink, _) => b"T10",
         (Role::Dte, Due::Clear { .. }, Awaits::ResetConfirmation) => b"T22",
@@ -141,12 +142,15 @@ fn timer_name(end: Role, awaits: Awaits, due: Due) -> &'static [u8]
 }
 
 /// The channel of what is due, 0 where it is of none.
-pub(crate) fn channel_of(due: Due) -> u16
+pub fn channel_of(due: Due) -> u16
     ensures { result ≡ channel_for due }
 {
     match due {
         Due::T1 | Due::Probe | Due::Relink => 0,
-        Due::Reset { channel } | Due::Clear { channel } | Due::Restart { channel } => channel,
+        Due::Reset { channel }
+        | Due::ResetUnacknowledged { channel }
+        | Due::Clear { channel }
+        | Due::Restart { channel } => channel,
     }
 }
 
@@ -164,9 +168,10 @@ fn push_channel(due: Due, text: &mut Text) -> Result<(), AllocError>
 {
     match due {
         Due::T1 | Due::Probe | Due::Relink => Ok(()),
-        Due::Reset { channel } | Due::Clear { channel } | Due::Restart { channel } => {
-            text.try_push_number(b" ch=", u64::from(channel))
-        }
+        Due::Reset { channel }
+        | Due::ResetUnacknowledged { channel }
+        | Due::Clear { channel }
+        | Due::Restart { channel } => text.try_push_number(b" ch=", u64::from(channel)),
     }
 }
 
@@ -182,7 +187,7 @@ fn push_timeout(end: Role, awaits: Awaits, due: Due, text: &mut Text) -> Result<
 }
 
 /// Tells that a timer has passed. 62: a call of the writer failed, and the writer is marked; 70: no memory.
-pub(crate) fn tell_timeout<W: Sink>(
+pub fn tell_timeout<W: Sink>(
     end: Role,
     awaits: Awaits,
     due: Due,

@@ -59,7 +59,7 @@ fn time_of(line: &[u8]) -> Option<u64>
 }
 
 /// The time that a line says, which is none where it is longer than any that is held.
-fn time_said_in(line: Option<&[u8]>) -> Option<u64>
+pub fn time_said_in(line: Option<&[u8]>) -> Option<u64>
     ensures { (text : List ℕ)
         → MatchOption line.entry (most_line < length text) (λ held. (held.now ≡ text) × (length text ≤ most_line))
         → result ≡ time_said text }

@@ -1,4 +1,5 @@
 -- A step of the link that hands nothing up, and notes nothing but that it went down.
+use Rattle.x25_station.proofs.Names.{gives_up, Phase, Closed}
 use Rattle.x25_station.proofs.Names.{◌≡◌, ℕ, ◌+◌, List, [], ◌++◌, map, Option, Some, None, Ok, Bool, true, false, if◌then◌else◌, nat_lt, refl, sym, ap, subst}
 use Rattle.x25_station.proofs.Names.{◌∙◌, Layer, FitsLayer, LinkStep, quiet, leaves, alone, asks_again, timer_step, disconnect_step, relink_step, connect_step}
 use Rattle.x25_station.proofs.Names.{LinkSettings, LinkStation, Side, with_near, ShownLink, FitsLink, LinkError, Reason, Retries, Settings, link_settings}
@@ -28,10 +29,14 @@ follows_down c l k none not_up =
 pub timer_stays : (c : LinkSettings) (s : LinkStation) → (timer_step c s).notes.up ≡ false
 timer_stays c s = test (nat_lt s.tries c.retries)
   where
+    last : (p : Phase) → (gives_up p (alone s)).notes.up ≡ false
+    last Closed = refl
+    last p = refl
+
     test : (b : Bool) → (let k : LinkStep = if b then quiet (asks_again s.phase (with_near (alone s) (record s { tries = s.tries + 1 })))
-        else leaves Retries (alone s) in k.notes.up) ≡ false
+        else gives_up s.phase (alone s) in k.notes.up) ≡ false
     test true = refl
-    test false = refl
+    test false = last s.phase
 
 pub timer_down : (c : Settings) (l : Station) (s : LinkStation)
     → (let k : LinkStep = timer_step (link_settings c) s in follows c l k ≡ downs l k.side k.notes.down)

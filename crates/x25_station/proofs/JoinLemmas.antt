@@ -1,4 +1,5 @@
 -- Each step of a station is a step of its link joined with moves of its layer.
+use Rattle.x25_station.proofs.Names.{Ending, end_between, ends, entries_ended, led_by}
 use Rattle.x25_station.specs.laws.JoinLaw.{station_with}
 use Rattle.x25_station.proofs.Names.{Station}
 use Rattle.x25_station.proofs.Names.{◌≡◌, ℕ, ◌<◌, ◌≤◌, List, [], ◌∷◌, ◌++◌, Option, Some, None, Result, Ok, Bool, true, false, ◌==◌, if◌then◌else◌}
@@ -167,11 +168,31 @@ heard_joined runs tells c w link turn k octets packet back up front some quiet u
         × IsRun lc w (HandsUp ∷ pulls_of pulled) (moves lc w HandsUp) (hears view lc c.wide w.near.layer octets).step back
     r = runs view lc c.wide w packet back octets up front read
 
+-- and how a DISC ended is told before it
+end_joined : {c : Settings} {w v : TwoLayers} {t : Side} {behind : List PlainPacket} {step : Step} (e : Option Ending) → IsJoined c w v t behind step
+    → IsJoined c w v t behind (led_by (entries_ended e) step)
+end_joined None h = h
+end_joined (Some ending) h = record {
+  packets = h.packets;
+  link = record { accepted = h.link.accepted; link = h.link.link; out = h.link.out };
+  layer = record {
+    layer = h.layer.layer;
+    given = h.layer.given;
+    out = h.layer.out;
+    entries = h.layer.entries;
+    told = h.layer.told;
+    up = h.layer.up;
+    far = h.layer.far;
+  };
+  back = h.back;
+}
+
 pub receive_joined : HearsRun → PutTells → TakeTells → TakeHandsUp → ReceiveIsJoined
 receive_joined runs tells takes hands c link w turn octets packet_octets packet back up front none some reads =
     subst (λ (b : Bool). Goal (if b then abandon_step (link_settings c) link else k)) (sym none)
-    (heard_joined runs tells c w link turn k packet_octets packet back up front some quiet up_after
-    (omega (arith, (hands (link_settings c) octets link).few_after packet_octets some)) reads)
+    (let h = heard_joined runs tells c w link turn k packet_octets packet back up front some quiet up_after
+    (omega (arith, (hands (link_settings c) octets link).few_after packet_octets some)) reads in
+    (h.0, h.1, end_joined (end_between link k.side.near) h.2))
   where
     k : LinkStep
     k = take_step (link_settings c) octets link
@@ -184,7 +205,7 @@ receive_joined runs tells takes hands c link w turn octets packet_octets packet 
 
     Goal : LinkStep → Type 0
     Goal x = (pulled : List ℕ) × AreChannels c.channels pulled
-        × IsJoined c w (moves_all (layer_settings c) w (HandsUp ∷ pulls_of pulled)) k.side back (follows c (station_with link w.near.layer turn) x)
+        × IsJoined c w (moves_all (layer_settings c) w (HandsUp ∷ pulls_of pulled)) k.side back (ends c (station_with link w.near.layer turn) x)
 
 -- ---- LinkUp
 

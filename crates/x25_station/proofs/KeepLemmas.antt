@@ -1,4 +1,5 @@
 -- Every step of a station leaves at most 256 packets waiting, and the layer at rest where the link isn't up.
+use Rattle.x25_station.proofs.Names.{ends, gives_up, Phase, Closed}
 use Rattle.x25_station.proofs.Names.{◌≡◌, ℕ, zero, suc, ◌+◌, ◌<◌, ◌≤◌, List, [], ◌∷◌, ◌++◌, length, Option, Some, None, Bool, true, false, not, nat_lt, ◌==◌}
 use Rattle.x25_station.proofs.Names.{if◌then◌else◌, option_to_list, refl, sym, ap, subst, ◌∙◌, arith, length-append, max, le_trans, eq-eqb, LayerOutcome}
 use Rattle.x25_station.proofs.Names.{Accepted, Declined, layer_outcome, LayerSettings, Layer, goes_up, LinkView, Putting, begin, rounds, Refuses, went}
@@ -177,10 +178,14 @@ take_keeps laws c octets s few =
 pub timer_none : (c : LinkSettings) (s : LinkStation) → (timer_step c s).packet ≡ None
 timer_none c s = test (nat_lt s.tries c.retries)
   where
+    last : (p : Phase) → (gives_up p (alone s)).packet ≡ None
+    last Closed = refl
+    last p = refl
+
     test : (b : Bool) → (let k : LinkStep = if b then quiet (asks_again s.phase (with_near (alone s) (record s { tries = s.tries + 1 })))
-        else leaves Retries (alone s) in k.packet) ≡ None
+        else gives_up s.phase (alone s) in k.packet) ≡ None
     test true = refl
-    test false = refl
+    test false = last s.phase
 
 timer_keeps : LinkLaws → (c : LinkSettings) (s : LinkStation) → waits s.outgoing ≤ 256 → LinkKeeps s (timer_step c s)
 timer_keeps laws c s few = hands_nothing s (timer_step c s) (timer_none c s) (laws.timer c s) (λ quiet. le_trans ((laws.timer_continues c s).waits quiet) few)
@@ -192,7 +197,7 @@ connect_keeps laws c s down few = hands_nothing s (connect_step c s) refl (laws.
 disconnect_keeps : LinkLaws → (c : LinkSettings) (s : LinkStation) → LinkKeeps s (disconnect_step c s)
 disconnect_keeps laws c s =
     hands_nothing s (disconnect_step c s) refl (laws.disconnect c s)
-    (λ quiet. le_trans (ended_lower c.window (link_disconnects (alone s)).side) (omega arith))
+    (λ quiet. le_trans (ended_lower c.window (link_disconnects c.disc_again (alone s)).side) (omega arith))
 
 abandon_keeps : LinkLaws → (c : LinkSettings) (s : LinkStation) → LinkKeeps s (abandon_step c s)
 abandon_keeps laws c s = hands_nothing s (abandon_step c s) refl (laws.abandon c s)
@@ -220,7 +225,7 @@ connect_kept laws c s kept = unless_kept (connect_refusal s.link.phase) (follows
     (connect_keeps laws (link_settings c) s.link (is_down s.link.phase none) kept.few))
 
 pub timer_kept : LinkLaws → TimerKeeps
-timer_kept laws c s kept = unless_kept (timer_refusal s.link) (follows c s (timer_step (link_settings c) s.link))
+timer_kept laws c s kept = unless_kept (timer_refusal s.link) (ends c s (timer_step (link_settings c) s.link))
     (λ none. follows_kept laws.put c s (timer_step (link_settings c) s.link) kept (timer_keeps laws (link_settings c) s.link kept.few))
 
 pub receive_kept : LinkLaws → ReceiveKeeps

@@ -21,6 +21,7 @@ pub mod ShownLemmas
 pub mod SaidLemmas
 pub mod AskedEntryLemmas
 pub mod BriefLemmas
+pub mod EndsLemmas
 pub mod EnteredLemmas
 pub mod TellLemmas
 pub mod ShortLemmas
@@ -51,3 +52,5 @@ pub mod SettledLemmas
 pub mod DoesLemmas
 pub mod PullLemmas
 pub mod ClockLemmas
+pub mod ClosingLawLemmas
+pub mod PulledLemmas

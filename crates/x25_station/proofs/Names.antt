@@ -58,7 +58,10 @@ pub use Rattle.x25_station.specs.Entry.{entries_noted, was_confirmed, entries_up
 pub use Rattle.x25_station.specs.Entry.{station_told, connect_asked, disconnect_asked, at_fault, entries_behind, restart_confirmed, was_restarted, came_beside}
 pub use Rattle.x25_station.specs.Step.{Step, Outcome, Did, did, entries_of_outcome, Refused, follows, requests, requests_of, layer_answer, unless, layer_at}
 pub use Rattle.x25_station.specs.Step.{gave, led_by, abandons, confirmed_by, where_asked, with_puts, asks, entries_heard, entries_of_answer, entries_of_packet}
-pub use Rattle.x25_station.specs.Step.{layer_down, receives, with_given, commands, fires, gives}
+pub use Rattle.x25_link.specs.{Link.{answered, gives_up}, Station.{awaits_end, disconnected}, declared.phase.Closing.{Closing}, declared.phase.Ending.{Ending}}
+pub use Rattle.x25_link.specs.declared.phase.{Closing.TheVariants.{Asked}, Ending.TheVariants.{GivenUp}}
+pub use Rattle.x25_station.specs.Entry.{end_if, end_between, entries_ended}
+pub use Rattle.x25_station.specs.Step.{ends, layer_down, receives, with_given, commands, fires, gives}
 pub use Rattle.x25_station.specs.code.FitsStation.{Enters, FitsStation, Does, IsEmpty, LeavesParts, RefusesOnly, Leaves}
 pub use Rattle.x25_station.specs.code.LinkCalls.{calls_link, link_refusal, step_of_call}
 pub use Rattle.x25_station.specs.code.OverLink.{after_all, LayerGives, LinkGives, all_with, seen_at, seen_with, DrivesAsked, GoesWith}

@@ -42,14 +42,14 @@ after_more x (p ∷ put) packet = after_more (after_put_to x (spelling_of p)) pu
 
 -- ---- a round, channel by channel
 
-one_none : (link : LinkView) (c : LayerSettings) (h : ℕ) (t : Putting) → (layer_pulled c t.layer h).packet ≡ None → pull_one link c h t ≡ t
+pub one_none : (link : LinkView) (c : LayerSettings) (h : ℕ) (t : Putting) → (layer_pulled c t.layer h).packet ≡ None → pull_one link c h t ≡ t
 one_none link c h t none = room (nat_lt (link.waits t.put) 8)
   where
     room : (b : Bool) → (if b then with_pulled h t (layer_pulled c t.layer h) (layer_pulled c t.layer h).packet else t) ≡ t
     room true = ap (λ (o : Option PlainPacket). with_pulled h t (layer_pulled c t.layer h) o) none
     room false = refl
 
-one_shut : (link : LinkView) (c : LayerSettings) (h : ℕ) (t : Putting) → nat_lt (link.waits t.put) 8 ≡ false → pull_one link c h t ≡ t
+pub one_shut : (link : LinkView) (c : LayerSettings) (h : ℕ) (t : Putting) → nat_lt (link.waits t.put) 8 ≡ false → pull_one link c h t ≡ t
 one_shut link c h t shut = ap (λ (b : Bool). if b then with_pulled h t (layer_pulled c t.layer h) (layer_pulled c t.layer h).packet else t) shut
 
 -- behind these channels nothing more comes of a round

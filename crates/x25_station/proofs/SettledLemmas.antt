@@ -1,4 +1,5 @@
 -- A station whose link is up asks, or its link is at rest.
+use Rattle.x25_station.proofs.Names.{ends, disconnected}
 use Rattle.x25_station.proofs.Names.{◌≡◌, ℕ, ◌+◌, ◌≤◌, ◌==◌, List, [], ◌∷◌, ◌++◌, length, Bool, true, false, not, ◌||◌, ◌&&◌, if◌then◌else◌, nat_lt, Option}
 use Rattle.x25_station.proofs.Names.{Some, None, refl, sym, ap, subst, ◌∙◌, arith, true≢false, eqb-true, and_parts, disc, frame_of, PlainGiven, write, PullsAll}
 use Rattle.x25_station.proofs.Names.{outcome_in, layer_outcome, Layer, is_channel, is_ready, LayerError, LinkView, Answered, Went, Refuses, Putting, begin}
@@ -122,7 +123,7 @@ module _ (laws : LinkSettles) (c : LinkSettings) (small : c.window ≤ 7) where
   disconnect_settled s = record {
     said = laws.disconnect_says c s;
     sound = sound_out c.window Closed (disconnect_step c s).side.near refl
-        (ended_lasts c.window (sends (disc true) (with_near (alone s) (with_nothing Closed s.tries)))).phase;
+        (ended_lasts c.window (sends (disc true) (with_near (alone s) (disconnected c.disc_again)))).phase;
   }
 
   relink_settled : (s : LinkStation) → Settled c.window (relink_step c s).side.near
@@ -167,7 +168,7 @@ stays_settled laws c s (timer.Comes octets) small h = test (abandons c s)
     test false = follows_settled laws c s small (take_step lc octets s.link) (take_settled laws lc small octets s.link link)
 stays_settled laws c s timer.Fires small h =
     let lc : LinkSettings = link_settings c in
-    unless_settled laws c s small (timer_refusal s.link) (follows c s (timer_step lc s.link))
+    unless_settled laws c s small (timer_refusal s.link) (ends c s (timer_step lc s.link))
     (follows_settled laws c s small (timer_step lc s.link) (timer_settled laws lc small s.link (record { said = h.said; sound = h.sound })))
 stays_settled laws c s (timer.Asks (Requests request)) small h =
     let said = said_by c.say_sizes s.layer request in

@@ -1,5 +1,7 @@
 -- No step of a station makes an answer awaited anew, and the end of a wait is told; where none is given clear and
 -- restart lead on.
+use Rattle.x25_station.proofs.Names.{Ending, end_between, ends, entries_ended}
+use Rattle.x25_station.specs.Entry.{disconnected}
 use Rattle.x25_station.proofs.Names.{◌≡◌, ℕ, ◌<◌, ◌≤◌, ◌==◌, ◌⊎◌, inl, inr, List, [], ◌∷◌, ◌++◌, Bool, true, false, ◌||◌, if◌then◌else◌, Option, Some, None}
 use Rattle.x25_station.proofs.Names.{refl, sym, ap, subst, ◌∙◌, arith, or-true, true≢false, eqb-true, eq-eqb, list_any, awaited_by, Clears, clear_in, does}
 use Rattle.x25_station.proofs.Names.{CircuitSettings, Circuit, default_params, Awaits, State, Resetting, Clearing, PlainGiven, Resets, reset_in, Request, Done, outcome, reset}
@@ -15,13 +17,15 @@ use Rattle.x25_station.proofs.Names.{entries_beside, entries_behind, link_up, li
 use Rattle.x25_station.proofs.Names.{with_puts, layer_at, layer_answer, confirmed_by, entries_of_answer, follows, led_by, unless, abandons, entries_heard}
 use Rattle.x25_station.proofs.Names.{entries_of_outcome, did, requests, with_given, gave, requests_of, where_asked, gives, tells_link, is_of_link}
 use Rattle.std.proofs.lemmas.List.Folds.{list_any-append}
-use Rattle.x25_circuit.specs.{Circuit.{entered}, declared.awaits.Awaits.TheVariants.{Nothing, ResetConfirmation, ClearConfirmation}}
+use Rattle.x25_circuit.specs.{Circuit.{entered, unacknowledged}, declared.awaits.Awaits.TheVariants.{Nothing, ResetConfirmation, ClearConfirmation}}
 use Rattle.x25_layer.specs.code.FitsLayer.{awaited_at}
 use Rattle.x25_station.proofs.AwaitLemmas.{Kind, in_call, in_collision, in_reset, in_clear, in_interrupt, state_of, awaits_of, IsKind, kind_of}
 use Rattle.x25_station.proofs.AwaitLemmas.{awaits_on, EndsOn, LayerMoves, OutcomeMoves, answer_moves}
 use Rattle.x25_station.proofs.{AwaitLemmas.{asked_moves, SameAwaited, rounds_same, moves_on}, KeepLemmas.{LinkLaws}, MayLemmas.{where_holds}}
 use Rattle.x25_station.proofs.{Names.{is_answered_on, is_left_on, rank_in, rank_of}, PutLemmas.{all_up}, UnheardLemmas.{all_given_last}}
-use Rattle.x25_station.specs.laws.{EndLaw.{IsTold, EndIsTold}, WayOutLaw.{rank, ResetLeadsOn, ClearLeadsOn, RestartLeadsOn, AwaitsStill, IsNearer, LeadsOn, NothingLeadsBack}}
+use Rattle.x25_station.specs.laws.{EndLaw.{IsTold, EndIsTold}, WayOutLaw.{rank, ResetLeadsOn, RotationLeadsOn, ClearLeadsOn, RestartLeadsOn, AwaitsStill}}
+use Rattle.x25_station.specs.laws.WayOutLaw.{IsNearer, LeadsOn, NothingLeadsBack}
+use Rattle.x25_station.proofs.Names.{Open, is_open_in, nat_lt, length, none-some, ◌%◌, ◌&&◌}
 use Rattle.x25_layer.specs.declared.error.LayerError.TheVariants as layer_error
 use Rattle.x25_station.specs.laws.TimerLaw as timer
 
@@ -125,6 +129,14 @@ module _ (c : Settings) (s : Station) (h : ℕ) where
             leads (with_puts c k.side (layer_at view lc c.wide s.layer None None false) []).near [] up (t.stays (noted None false is_d is_u) ∙ up)
             (inl (refl, refl))
 
+    -- which may end what a DISC awaits
+    end_leads : (k : LinkStep) → Tells s.link k → Goes (Did (ends c s k))
+    end_leads k t = by (end_between s.link k.side.near)
+      where
+        by : (e : Option Ending) → Goes (Did (led_by (entries_ended e) (follows c s k)))
+        by None = follow_leads k t
+        by (Some ending) = follow_leads k t
+
     -- a request of the layer
     request_leads : (request : LayerRequest) → Goes (requests c s request)
     request_leads request =
@@ -176,14 +188,14 @@ module _ (c : Settings) (s : Station) (h : ℕ) where
 
 goes_on : LinkLaws → (c : Settings) (s : Station) (h : ℕ) (event : timer.StationEvent) → 2 ≤ rank c s h → Goes c s h (timer.outcome c s event)
 goes_on laws c s h timer.Fires high =
-    unless_leads c s h laws.put high (timer_refusal s.link) (follows c s (timer_step (link_settings c) s.link))
-    (follow_leads c s h laws.put high (timer_step (link_settings c) s.link) (laws.timer (link_settings c) s.link))
+    unless_leads c s h laws.put high (timer_refusal s.link) (ends c s (timer_step (link_settings c) s.link))
+    (end_leads c s h laws.put high (timer_step (link_settings c) s.link) (laws.timer (link_settings c) s.link))
 goes_on laws c s h (timer.Comes octets) high = test (abandons c s)
   where
     test : (b : Bool) → (let k : LinkStep = if b then abandon_step (link_settings c) s.link else take_step (link_settings c) octets s.link in
-        Goes c s h (Did (follows c s k)))
-    test true = follow_leads c s h laws.put high (abandon_step (link_settings c) s.link) (laws.abandon (link_settings c) s.link)
-    test false = follow_leads c s h laws.put high (take_step (link_settings c) octets s.link) (laws.take (link_settings c) octets s.link)
+        Goes c s h (Did (ends c s k)))
+    test true = end_leads c s h laws.put high (abandon_step (link_settings c) s.link) (laws.abandon (link_settings c) s.link)
+    test false = end_leads c s h laws.put high (take_step (link_settings c) octets s.link) (laws.take (link_settings c) octets s.link)
 goes_on laws c s h (timer.Asks (Requests request)) high = request_leads c s h laws.put high (said_by c.say_sizes s.layer request)
 goes_on laws c s h (timer.Asks (RequestsWith given request)) high = given_leads c s h laws.put high given (said_by c.say_sizes s.layer request)
 goes_on laws c s h (timer.Asks Connects) high = not_asked c s h laws.put high (connect_asked ∷ [])
@@ -227,6 +239,7 @@ link_answers h awaits (entry ∷ entries) is = by entry is (λ later. link_answe
     by connect_asked told rest = rest told
     by disconnect_asked told rest = rest told
     by relink_asked told rest = rest told
+    by (disconnected ending) told rest = rest told
     by (was_restarted cause diagnostic) told rest = refl
     by restart_confirmed told rest = refl
     by (at_fault diagnostic) told rest = rest told
@@ -308,6 +321,15 @@ pub record IsRanked (n : ℕ) (p : Phase) (r b : Bool) (x : Circuit) : Type 0 wh
   pub kind : IsKind x
   pub rank : rank_in (awaits_of kind.kind) ≡ n
 
+-- it may be asked of the channel
+pub record MayBeAsked (p : Phase) (r b : Bool) : Type 0 where
+  pub phase : is_up p ≡ true
+  pub ready : r ≡ false
+  pub configured : b ≡ true
+
+asked_of : {n : ℕ} {p : Phase} {r b : Bool} {x : Circuit} → IsRanked n p r b x → MayBeAsked p r b
+asked_of old = record { phase = old.phase; ready = old.ready; configured = old.configured }
+
 ranked : (n : ℕ) → 3 ≤ n → (p : Phase) (r b : Bool) (x : Circuit) → rank_of p r (awaits_on b (awaited_by x)) ≡ n → IsRanked n p r b x
 ranked n high Down r b x is = low_two 0 n (omega arith) high is
 ranked n high Waiting r b x is = low_two 1 n (omega arith) high is
@@ -344,13 +366,13 @@ module _ (tells : PutTells) (c : Settings) (s : Station) (h : ℕ) (low : waits 
       then outcome_on s.layer.restarts s.layer.circuits h (outcome (layer_settings c).circuit at_channel request)
       else Declined layer_error.NoSuchChannel
 
-  leads_to : (n : ℕ) (request : Request) (gone : Circuit) (packet : PlainPacket) (a : Awaits)
-      → IsRanked n s.link.phase s.layer.restarting (is_channel c.channels h) at_channel
+  leads_to : (request : Request) (gone : Circuit) (packet : PlainPacket) (a : Awaits)
+      → MayBeAsked s.link.phase s.layer.restarting (is_channel c.channels h)
       → may_ask c.wide (Asks h request) ≡ true
       → outcome_in (layer_settings c) false false s.layer.restarts s.layer.circuits (Asks h request) ≡ on_channel request
       → outcome (layer_settings c).circuit at_channel request ≡ Done gone (Some packet) → awaited_by gone ≡ a
       → (step : Step) × (requests c s (Asks h request) ≡ Did step) × (rank c step.near h ≡ rank_in a)
-  leads_to n request gone packet a old may on_it done awaits =
+  leads_to request gone packet a old may on_it done awaits =
       let lc : LayerSettings = layer_settings c in
       let l : Layer = s.layer in
       let asks : LayerRequest = Asks h request in
@@ -372,7 +394,7 @@ clear_leads_on tells c s h is low =
     let x : Circuit = s.layer.circuits h in
     let old : IsRanked 4 s.link.phase s.layer.restarting (is_channel c.channels h) x =
     ranked 4 (omega arith) s.link.phase s.layer.restarting (is_channel c.channels h) x is in
-    leads_to tells c s h low 4 (Clears 0 0) (entered x Clearing default_params false) (clear 1 0 0) ClearConfirmation old refl refl
+    leads_to tells c s h low (Clears 0 0) (entered x Clearing default_params false) (clear 1 0 0) ClearConfirmation (asked_of old) refl refl
     (ap (λ (y : State). clear_in (layer_settings c).circuit x y 0 0) old.kind.is ∙ clears_it (layer_settings c).circuit x old.kind.kind old.rank) refl
 
 pub reset_leads_on : PutTells → ResetLeadsOn
@@ -380,8 +402,46 @@ reset_leads_on tells c s h is low =
     let x : Circuit = s.layer.circuits h in
     let old : IsRanked 5 s.link.phase s.layer.restarting (is_channel c.channels h) x =
     ranked 5 (omega arith) s.link.phase s.layer.restarting (is_channel c.channels h) x is in
-    leads_to tells c s h low 5 (Resets 0 0) (entered x Resetting x.params x.calls) (reset 1 0 0) ResetConfirmation old refl refl
+    leads_to tells c s h low (Resets 0 0) (entered x Resetting x.params x.calls) (reset 1 0 0) ResetConfirmation (asked_of old) refl refl
     (ap (λ (y : State). reset_in (layer_settings c).circuit x y 0 0) old.kind.is ∙ resets_it (layer_settings c).circuit x old.kind.kind old.rank) refl
+
+-- a channel with a data packet that isn't acknowledged
+record IsOut (r b : Bool) (x : Circuit) : Type 0 where
+  ready : r ≡ false
+  configured : b ≡ true
+  opened : x.state ≡ Open
+
+is_out : (r b : Bool) (x : Circuit) (n : ℕ) → (if r then None else if b then unacknowledged x else None) ≡ Some n → IsOut r b x
+is_out true b x n is = absurd (none-some n is)
+is_out false false x n is = absurd (none-some n is)
+is_out false true x n is = record { ready = refl; configured = refl; opened = at x.state refl is }
+  where
+    at : (s : State) → x.state ≡ s
+        → (if (is_open_in s && x.talk.peer_ready) && nat_lt x.talk.acked (length x.talk.sent) then Some (x.talk.acked % 8) else None) ≡ Some n → x.state ≡ Open
+    at Open same is = same
+    at s same is = absurd (none-some n is)
+
+-- none is where a reset is awaited
+none_out : (r b : Bool) (x : Circuit) (k : Kind) → x.state ≡ state_of k → rank_in (awaits_of k) ≡ 4
+    → (if r then None else if b then unacknowledged x else None) ≡ None
+none_out true b x k is four = refl
+none_out false false x k is four = refl
+none_out false true x in_interrupt is four = unlike 5 4 refl four
+none_out false true x k is four = ap (λ (s : State). if (is_open_in s && x.talk.peer_ready) && nat_lt x.talk.acked (length x.talk.sent)
+    then Some (x.talk.acked % 8) else None) is
+
+pub rotation_leads_on : PutTells → RotationLeadsOn
+rotation_leads_on tells c s h n up is low =
+    let x : Circuit = s.layer.circuits h in
+    let old : IsOut s.layer.restarting (is_channel c.channels h) x = is_out s.layer.restarting (is_channel c.channels h) x n is in
+    let found = leads_to tells c s h low (Resets 0 146) (entered x Resetting x.params x.calls) (reset 1 0 146) ResetConfirmation
+    (record { phase = up; ready = old.ready; configured = old.configured }) refl refl
+    (ap (λ (y : State). reset_in (layer_settings c).circuit x y 0 146) old.opened) refl in
+    let near : Station = found.0.near in
+    let y : Circuit = near.layer.circuits h in
+    let reset : IsRanked 4 near.link.phase near.layer.restarting (is_channel c.channels h) y =
+    ranked 4 (omega arith) near.link.phase near.layer.restarting (is_channel c.channels h) y found.2 in
+    (found.0, found.1, none_out near.layer.restarting (is_channel c.channels h) y reset.kind.kind reset.kind.is reset.rank)
 
 pub restart_leads_on : PutTells → RestartLeadsOn
 restart_leads_on tells c s up ready low =

@@ -1,4 +1,6 @@
 -- A deadline that is held by what T1 becomes stands exactly while T1 runs, and T1 begins anew where it is due to.
+use Rattle.x25_station.proofs.Names.{Closed, Closing, Asked, GivenUp, answered, ends, gives_up}
+use Rattle.x25_station.specs.Entry.{disconnected}
 use Rattle.x25_station.proofs.Names.{◌≡◌, ◌+◌, ◌≤◌, inl, inr, Bool, true, false, not, ◌||◌, if◌then◌else◌, List, [], ◌∷◌, Option, Some, None, refl, sym, ap}
 use Rattle.x25_station.proofs.Names.{◌∙◌, arith, or-true, true≢false, le-ltb, lt-ltb, PlainGiven, Layer, Answered, Went, Refuses, calls, LinkStep, quiet}
 use Rattle.x25_station.proofs.Names.{leaves, alone, connect_refusal, disconnect_refusal, asks_again, timer_refusal, timer_step, probe_refusal, relink_refusal}
@@ -47,14 +49,14 @@ taken false step is = absurd (true≢false (sym is))
 pub firing_is_taken : law.FiringIsTaken
 firing_is_taken c events is =
     let w = law.watched c events in
-    taken (runs w.station) (follows c w.station (timer_step (link_settings c) w.station.link)) (sym (deadline_is_true c events) ∙ is)
+    taken (runs w.station) (ends c w.station (timer_step (link_settings c) w.station.link)) (sym (deadline_is_true c events) ∙ is)
 
 refused : (b : Bool) (step : Step) → b ≡ false → unless (if b then None else Some link_error.NotRunning) step ≡ Refused (error.Link link_error.NotRunning)
 refused true step is = absurd (true≢false is)
 refused false step is = refl
 
 pub off_is_refused : law.OffIsRefused
-off_is_refused c s is = refused (runs s) (follows c s (timer_step (link_settings c) s.link)) is
+off_is_refused c s is = refused (runs s) (ends c s (timer_step (link_settings c) s.link)) is
 
 pulled_heeded : (first : Timer) (ran behind stands : Bool) → heeds first stands ≡ ran → heeds (pulled_timer first ran behind) stands ≡ behind
 pulled_heeded first ran false stands is = refl
@@ -107,9 +109,17 @@ fired_few c t = by (nat_lt t.near.tries c.retries)
     asked Up = let same = (ready_lasts true true (with_near up (record up.near { recovery = true }))).acked in omega (arith, same)
     asked phase = omega arith
 
-    by : (b : Bool) → (if b then quiet (asks_again t.near.phase up) else leaves Retries t).side.near.outgoing.acked ≤ t.near.outgoing.acked
+    ended : (closing : Closing) → (answered GivenUp closing t).near.outgoing.acked ≤ t.near.outgoing.acked
+    ended Asked = omega arith
+    ended closing = omega arith
+
+    last : (phase : Phase) → (gives_up phase t).side.near.outgoing.acked ≤ t.near.outgoing.acked
+    last Closed = ended t.near.closing
+    last phase = omega arith
+
+    by : (b : Bool) → (if b then quiet (asks_again t.near.phase up) else gives_up t.near.phase t).side.near.outgoing.acked ≤ t.near.outgoing.acked
     by true = asked t.near.phase
-    by false = omega arith
+    by false = last t.near.phase
 
 pub fired_none : (c : Settings) (s : Station) → HearsNone s (fires c s)
 fired_none c s = unless_none s (timer_refusal s.link)
@@ -125,7 +135,7 @@ asked_none c s (RequestsWith given request) =
     let said = said_by c.say_sizes s.layer request in
     gave_none c s given (giving.is_taken c given said) _ (calls (view_given (link_settings c) given s.turn s.link) (layer_settings c) s.layer said)
 asked_none c s Connects = unless_none s (connect_refusal s.link.phase) _ (followed c s (link.connects (alone s.link)) (omega arith))
-asked_none c s Disconnects = unless_none s (disconnect_refusal s.link.phase) _ (followed c s (link.disconnects (alone s.link)) (omega arith))
+asked_none c s Disconnects = unless_none s (disconnect_refusal s.link.phase) _ (followed c s (link.disconnects c.wide (alone s.link)) (omega arith))
 asked_none c s Probes = unless_none s (probe_refusal s.link.phase)
     _ (followed c s (link.fires (link_settings c) (alone s.link)) (fired_few (link_settings c) (alone s.link)))
 asked_none c s Relinks = unless_none s (relink_refusal s.link.phase) _ (followed c s (link.relinks (alone s.link)) (omega arith))
@@ -141,6 +151,7 @@ told_link (connect_asked ∷ entries) told = told_link entries told
 told_link (disconnect_asked ∷ entries) told = told_link entries told
 told_link (relink_asked ∷ entries) told = told_link entries told
 told_link (link_down reason ∷ entries) told = refl
+told_link (disconnected ending ∷ entries) told = told_link entries told
 told_link (was_restarted cause diagnostic ∷ entries) told = told_link entries told
 told_link (restart_confirmed ∷ entries) told = told_link entries told
 told_link (at_fault diagnostic ∷ entries) told = told_link entries told

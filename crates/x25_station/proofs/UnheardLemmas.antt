@@ -1,4 +1,6 @@
 -- What a station asks while nothing is heard: T1 goes on, and each firing and each poll takes a try.
+use Rattle.x25_station.proofs.Names.{Ending, disconnected, end_between, ends, entries_ended, gives_up}
+use Rattle.x25_link.specs.Station.{is_asked}
 use Rattle.x25_station.proofs.Names.{◌≡◌, ℕ, zero, suc, ◌+◌, ◌<◌, ◌≤◌, List, [], ◌∷◌, ◌++◌, Bool, true, false, ◌||◌, ◌&&◌, if◌then◌else◌, nat_lt, length}
 use Rattle.x25_station.proofs.Names.{Option, Some, None, Result, Ok, Err, refl, sym, ap, subst, ◌∙◌, arith, max, or-true, true≢false, ltb-true, lt-ltb}
 use Rattle.x25_station.proofs.Names.{PlainFrame, disc, frame_of, PlainGiven, write, is_full, Answered, Went, Refuses, calls, LinkStep, quiet, leaves, other}
@@ -25,11 +27,12 @@ pub record Lasts (s t : LinkStation) : Type 0 where
   pub acked : t.outgoing.acked ≡ s.outgoing.acked
   recovery : t.recovery ≡ s.recovery
   peer_busy : t.peer_busy ≡ s.peer_busy
+  closing : t.closing ≡ s.closing
   sent : s.outgoing.sent ≤ t.outgoing.sent
   pub given : length s.outgoing.given ≤ length t.outgoing.given
 
 lasts : (s : LinkStation) → Lasts s s
-lasts s = record { phase = refl; tries = refl; acked = refl; recovery = refl; peer_busy = refl; sent = omega arith; given = omega arith }
+lasts s = record { phase = refl; tries = refl; acked = refl; recovery = refl; peer_busy = refl; closing = refl; sent = omega arith; given = omega arith }
 
 lasts_on : (s t u : LinkStation) → Lasts s t → Lasts t u → Lasts s u
 lasts_on s t u p q =
@@ -42,8 +45,8 @@ lasts_on s t u p q =
       tries = q.tries ∙ p.tries;
       acked = q.acked ∙ p.acked;
       recovery = q.recovery ∙ p.recovery;
-      peer_busy = q.peer_busy
-          ∙ p.peer_busy;
+      peer_busy = q.peer_busy ∙ p.peer_busy;
+      closing = q.closing ∙ p.closing;
       sent = omega (arith, first, second);
       given = omega (arith, here, there);
     }
@@ -53,7 +56,7 @@ if_lasts s true u v p q = p
 if_lasts s false u v p q = q
 
 said_lasts : (s : LinkStation) (busy : Bool) → Lasts s (record s { said_busy = busy })
-said_lasts s busy = record { phase = refl; tries = refl; acked = refl; recovery = refl; peer_busy = refl; sent = omega arith; given = omega arith }
+said_lasts s busy = record { phase = refl; tries = refl; acked = refl; recovery = refl; peer_busy = refl; closing = refl; sent = omega arith; given = omega arith }
 
 pub ready_lasts : (command pf : Bool) (t : Side) → Lasts t.near (ready command pf t).near
 ready_lasts command pf t = if_lasts t.near (is_busy t.near) _ _ (said_lasts t.near true) (said_lasts t.near false)
@@ -68,6 +71,7 @@ send_lasts t = record {
   acked = refl;
   recovery = refl;
   peer_busy = refl;
+  closing = refl;
   sent = max_first t.near.outgoing.sent (t.near.outgoing.place + 1);
   given = omega arith;
 }
@@ -88,7 +92,7 @@ ended_lasts k t =
 added_lasts : (packet : List ℕ) (s : LinkStation) → Lasts s (record s { outgoing = added packet s.outgoing })
 added_lasts packet s =
     let one : length (s.outgoing.given ++ packet ∷ []) ≡ length s.outgoing.given + 1 = length-append s.outgoing.given (packet ∷ []) in
-    record { phase = refl; tries = refl; acked = refl; recovery = refl; peer_busy = refl; sent = omega arith; given = omega (arith, one) }
+    record { phase = refl; tries = refl; acked = refl; recovery = refl; peer_busy = refl; closing = refl; sent = omega arith; given = omega (arith, one) }
 
 pub put_lasts : (c : LinkSettings) (packet : List ℕ) (s : LinkStation) → Lasts s (put_step c packet s).side.near
 put_lasts c packet s =
@@ -111,7 +115,7 @@ all_given_last c g (p ∷ packets) t =
 runs_last : (p : Phase) (s t : LinkStation) → Lasts s t → timer_runs p s ≡ true → timer_runs p t ≡ true
 runs_last Down s t same is = is
 runs_last Waiting s t same is = is
-runs_last Closed s t same is = is
+runs_last Closed s t same is = ap is_asked same.closing ∙ is
 runs_last Up s t same is = by (nat_lt s.outgoing.acked s.outgoing.sent) refl is
   where
     by : (b : Bool) → nat_lt s.outgoing.acked s.outgoing.sent ≡ b → (b || (s.recovery || s.peer_busy)) ≡ true
@@ -161,6 +165,14 @@ asked_takes c s next u same one acked on low =
 abbrev TakesQuietly : Settings → Station → ℕ → Step → Type 0
 TakesQuietly c s n step = tells_link step.entries ≡ false → step.near.link.phase ≡ s.link.phase → TakesTries c s step.near n
 
+-- a step that may end what a DISC awaits
+end_asks : (c : Settings) (s : Station) (n : ℕ) (k : LinkStep) → TakesQuietly c s n (follows c s k) → TakesQuietly c s n (ends c s k)
+end_asks c s n k h = by (end_between s.link k.side.near)
+  where
+    by : (e : Option Ending) → TakesQuietly c s n (led_by (entries_ended e) (follows c s k))
+    by None = h
+    by (Some ending) = h
+
 fired : (c : Settings) (s : Station) → MayAsk s.link.phase → TakesQuietly c s 1 (follows c s (timer_step (link_settings c) s.link))
 fired c s may = subst (TakesQuietly c s 1) (sym (timer_down c s s.link)) (by (nat_lt s.link.tries c.retries) refl)
   where
@@ -181,11 +193,16 @@ fired c s may = subst (TakesQuietly c s 1) (sym (timer_down c s s.link)) (by (na
         (lasts_on u t.near (ended c.window t).near (ready_lasts true true (with_near (alone s.link) u)) (ended_lasts c.window t)) refl refl
         (runs_in Up u is (or-true (nat_lt u.outgoing.acked u.outgoing.sent))) low
 
+    gives : (p : Phase) → MayAsk p → (let k : LinkStep = closed_by c.window (gives_up p (alone s.link)) in TakesQuietly c s 1 (downs s k.side k.notes.down))
+    gives Closed may = absurd may
+    gives p may = λ quiet same. absurd (true≢false quiet)
+
     by : (b : Bool) → nat_lt s.link.tries c.retries ≡ b
-        → (let k : LinkStep = closed_by c.window (if b then quiet (asks_again s.link.phase (with_near (alone s.link) more)) else leaves Retries (alone s.link))
+        → (let k : LinkStep =
+        closed_by c.window (if b then quiet (asks_again s.link.phase (with_near (alone s.link) more)) else gives_up s.link.phase (alone s.link))
         in TakesQuietly c s 1 (downs s k.side k.notes.down))
     by true low = λ quiet same. asks s.link.phase refl may (ltb-true _ _ low)
-    by false low = λ quiet same. absurd (true≢false quiet)
+    by false low = gives s.link.phase may
 
 -- ---- while UA is awaited
 
@@ -217,8 +234,8 @@ heard : TakeWaits → (c : Settings) (s : Station) (octets : List ℕ) → s.lin
 heard waits c s octets is =
     let no : abandons c s ≡ false = ap (λ (p : Phase). is_up p && is_full (layer_settings c) s.layer) is in
     subst (λ (b : Bool). let k : LinkStep = if b then abandon_step (link_settings c) s.link else take_step (link_settings c) octets s.link in
-    TakesQuietly c s 0 (follows c s k)) (sym no)
-    (heard_waiting waits c s octets is)
+    TakesQuietly c s 0 (ends c s k)) (sym no)
+    (end_asks c s 0 (take_step (link_settings c) octets s.link) (heard_waiting waits c s octets is))
 
 -- ---- the events
 
@@ -247,7 +264,7 @@ connect_asks c s Closed step may = absurd may
 disconnect_asks : (c : Settings) (s : Station) → MayAsk s.link.phase
     → TakesQuietly c s 0 (led_by (disconnect_asked ∷ []) (follows c s (disconnect_step (link_settings c) s.link)))
 disconnect_asks c s may quiet same =
-    let t : Side = sends (disc true) (with_near (alone s.link) (with_nothing Closed s.link.tries)) in
+    let t : Side = sends (disc true) (with_near (alone s.link) (disconnected c.wide)) in
     let closed : s.link.phase ≡ Closed = sym same ∙ ap (λ (x : Step). x.near.link.phase) (disconnect_down c s s.link) ∙ (ended_lasts c.window t).phase in
     absurd (subst MayAsk closed may)
 
@@ -256,8 +273,8 @@ relink_asks c s quiet same = absurd (true≢false (sym (ap (λ (x : Step). tells
 
 pub unheard_asks_on : TakeWaits → UnheardAsksOn
 unheard_asks_on waits c s (timer.Comes octets) may is = heard waits c s octets is
-unheard_asks_on waits c s timer.Fires may is = unless_asks c s 1 (timer_refusal s.link) (follows c s (timer_step (link_settings c) s.link))
-    (fired c s may)
+unheard_asks_on waits c s timer.Fires may is = unless_asks c s 1 (timer_refusal s.link) (ends c s (timer_step (link_settings c) s.link))
+    (end_asks c s 1 (timer_step (link_settings c) s.link) (fired c s may))
 unheard_asks_on waits c s (timer.Asks (Requests request)) may is =
     let said = said_by c.say_sizes s.layer request in
     let view = view_of (link_settings c) s.turn s.link in

@@ -1,4 +1,5 @@
 -- What leads on where the other end doesn't answer.
+use Rattle.x25_station.proofs.Names.{awaits_end, end_if, entries_ended}
 use Rattle.x25_station.proofs.Names.{◌≡◌, zero, suc, [], ◌∷◌, Bool, true, false, if◌then◌else◌, nat_lt, Option, Some, None, refl, sym, ap, ◌∙◌, arith}
 use Rattle.x25_station.proofs.Names.{true≢false, lt-ltb, le-ltb, LinkStep, timer_runs, timer_step, relink_refusal, relink_step, LinkStation, Side, is_up}
 use Rattle.x25_station.proofs.Names.{with_nothing, LinkError, Phase, Down, Waiting, Up, Retries, RelinkIsTwoSteps, Settings, link_settings, relink_asked}
@@ -41,7 +42,9 @@ module _ (timer : TimerWaits) (c : Settings) (s : Station) (waits : s.link.phase
   fired_step = follows c s k
 
   accepted : fires c s ≡ Did fired_step
-  accepted = ap (λ (p : Phase). let r : Bool = timer_runs p s.link in unless (if r then None else Some error.NotRunning) fired_step) waits
+  accepted = ap (λ (p : Phase). let r : Bool = timer_runs p s.link in
+      unless (if r then None else Some error.NotRunning)
+      (led_by (entries_ended (end_if (awaits_end p s.link.closing) k.side.near.closing)) fired_step)) waits
 
   near_is : fired_step.near.link ≡ (if nat_lt s.link.tries c.retries then record s.link { tries = suc s.link.tries } else with_nothing Down s.link.tries)
   near_is = ap (λ (x : Step). x.near.link) (timer_down c s s.link) ∙ (timer (link_settings c) s.link waits).near

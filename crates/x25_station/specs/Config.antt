@@ -13,7 +13,7 @@ use Rattle.x25_station.specs.declared.error.StationError.TheVariants as error
 
 -- which end it is, k and N2 of the link (sections 2.4.8.6 and 2.4.8.4), how many channels are configured, whether the
 -- user data of a CALL may be long, whether calls and acceptances say all packet sizes and windows, and whether packets
--- are read in all their forms
+-- are read in all their forms and DISC is sent again until it is answered
 pub record Settings : Type 0 where
   pub role : Role
   pub window : ℕ
@@ -44,7 +44,13 @@ abbrev pub longest_packet : ℕ
 longest_packet = 4099
 
 abbrev pub link_settings : Settings → LinkSettings
-link_settings c = record { role = c.role; window = c.window; longest = longest_packet; retries = c.retries }
+link_settings c = record {
+  role = c.role;
+  window = c.window;
+  longest = longest_packet;
+  retries = c.retries;
+  disc_again = c.wide;
+}
 
 abbrev pub layer_settings : Settings → LayerSettings
 layer_settings c = settings_of c.role c.long_data c.channels

@@ -3,8 +3,12 @@
 use Rattle.std.specs.Prelude.{ℕ, zero, suc, Bool, true, false, if◌then◌else◌, List, [], ◌∷◌, ◌++◌, Option, Some, None}
 use Rattle.x25_station.specs.Beside.{PlainBeside, nothing, fields, diagnosed}
 use Rattle.x25_circuit.specs.Notice.{PlainNotice, incoming, connected, cleared, clear_done}
+use Rattle.x25_link.specs.declared.phase.Closing.{Closing}
+use Rattle.x25_link.specs.declared.phase.Closing.TheVariants.{Ended}
+use Rattle.x25_link.specs.declared.phase.Ending.{Ending}
 use Rattle.x25_link.specs.declared.phase.Reason.{Reason}
 use Rattle.x25_link.specs.declared.phase.Notes.{Notes}
+use Rattle.x25_link.specs.Station.{LinkStation, awaits_end}
 use Rattle.x25_handshakes.specs.laws.Names.{Name}
 use Rattle.x25_layer.specs.Layer.{LayerSettings, Layer, LayerNotice, on_channel, restarted, restart_done, layer_fault}
 use Rattle.x25_layer.specs.Calls.{LayerRequest, Asks, Dials, Restarts, PullsAll}
@@ -20,6 +24,8 @@ pub data StationEntry : Type 0 where
   relink_asked : StationEntry
   link_up : StationEntry
   link_down : (reason : Reason) → StationEntry
+  -- a DISC that was awaited ended so
+  disconnected : (ending : Ending) → StationEntry
   was_restarted : (cause : ℕ) → (diagnostic : ℕ) → StationEntry
   restart_confirmed : StationEntry
   -- an error of procedure on channel 0
@@ -43,6 +49,20 @@ entries_up true = link_up ∷ []
 
 abbrev pub entries_noted : Notes → List StationEntry
 entries_noted notes = entries_down notes.down ++ entries_up notes.up
+
+-- ---- how it ended that this end disconnected the link: once, at the step behind which no answer to DISC is awaited
+
+abbrev pub end_if : Bool → Closing → Option Ending
+end_if true (Ended ending) = Some ending
+end_if awaited closing = None
+
+-- by the link before a step and behind it
+abbrev pub end_between : LinkStation → LinkStation → Option Ending
+end_between s next = end_if (awaits_end s.phase s.closing) next.closing
+
+abbrev pub entries_ended : Option Ending → List StationEntry
+entries_ended None = []
+entries_ended (Some ending) = disconnected ending ∷ []
 
 -- ---- what the layer tells, under the name that stands then
 

@@ -24,6 +24,7 @@ use Rattle.x25_station.specs.declared.error.StationError.TheVariants as error
 use Rattle.x25_station.specs.Config.{Settings, link_settings, layer_settings}
 use Rattle.x25_station.specs.Command.{Command, Requests, RequestsWith, Connects, Disconnects, Probes, Relinks, may_ask}
 use Rattle.x25_station.specs.Command.{said_by}
+use Rattle.x25_station.specs.Entry.{end_between, entries_ended}
 use Rattle.x25_station.specs.Entry.{StationEntry, connect_asked, disconnect_asked, relink_asked, entries_noted}
 use Rattle.x25_station.specs.Entry.{station_told, station_asked, bringing, entries_beside, entries_behind}
 use Rattle.x25_station.specs.Confirming.{confirmed, named_by}
@@ -107,12 +108,16 @@ unless (Some e) step = Refused (error.Link e)
 abbrev pub connects : Settings → Station → Outcome
 connects c s = unless (connect_refusal s.link.phase) (follows c s (connect_step (link_settings c) s.link))
 
-abbrev pub fires : Settings → Station → Outcome
-fires c s = unless (timer_refusal s.link) (follows c s (timer_step (link_settings c) s.link))
-
 -- the entry of an accepted command comes first
 abbrev pub led_by : List StationEntry → Step → Step
 led_by entries step = record { near = step.near; out = step.out; entries = entries ++ step.entries }
+
+-- a step of the link that may end what a DISC awaits
+abbrev pub ends : Settings → Station → LinkStep → Step
+ends c s k = led_by (entries_ended (end_between s.link k.side.near)) (follows c s k)
+
+abbrev pub fires : Settings → Station → Outcome
+fires c s = unless (timer_refusal s.link) (ends c s (timer_step (link_settings c) s.link))
 
 -- connect as a command, which has an entry
 abbrev pub connects_asked : Settings → Station → Outcome
@@ -143,7 +148,7 @@ link_receives c s octets = if abandons c s then abandon_step (link_settings c) s
     else take_step (link_settings c) octets s.link
 
 abbrev pub receives : Settings → Station → List ℕ → Step
-receives c s octets = follows c s (link_receives c s octets)
+receives c s octets = ends c s (link_receives c s octets)
 
 -- ---- commands
 

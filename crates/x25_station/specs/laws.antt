@@ -8,6 +8,8 @@ pub mod TimerLaw
 pub mod WayOutLaw
 pub mod EndLaw
 pub mod UnheardLaw
+pub mod ClosingLaw
 pub mod SettledLaw
+pub mod PullLaw
 pub mod GivenLaw
 pub mod ConfirmLaw

@@ -1,5 +1,5 @@
 use x25_layer::{Params, Stretch};
-use x25_link::Reason;
+use x25_link::{Ending, Reason};
 use x25_packet::Marks;
 
 /// An entry of the transcript of a station (profile): what its user asked, what the link noted, or what the packet
@@ -33,6 +33,8 @@ pub enum Entry {
     LinkUp,
     /// The link went down.
     LinkDown(Reason),
+    /// It ended that this end disconnected the link, where DISC is sent again until it is answered (`Cfg::wide`).
+    Disconnected(Ending),
     /// The other end restarted the packet layer.
     WasRestarted {
         cause: u8,

@@ -1,5 +1,6 @@
 //! A station is its link and its packet layer joined, and what it holds: laws, each the contract of a function that
 //! does nothing.
+ghost use Rattle.x25_station.specs.laws.ClosingLaw.{DisconnectIsAwaited, HearingCloses, FiringCloses, FiringIsAccepted};
 ghost use Rattle.x25_station.specs.laws.JoinLaw.{RequestIsJoined, ReceiveIsJoined, QuietIsJoined, DownIsJoined};
 ghost use Rattle.x25_station.specs.laws.JoinLaw.{UpIsJoined};
 ghost use Rattle.x25_station.specs.laws.KeepLaw.{ConnectKeeps, TimerKeeps, RequestKeeps, CommandKeeps, GivenKeeps};
@@ -10,17 +11,18 @@ ghost use Rattle.x25_station.specs.laws.ReadLaw.{PutsAreReadable, PutsBesidePeer
 ghost use Rattle.x25_station.specs.laws.HoldLaw.{FewWait, FewStand, FewMessages, FewJoined, FewHeld};
 ghost use Rattle.x25_station.specs.laws.OctetLaw.{FewOctets, FewOctetsInAll};
 ghost use Rattle.x25_station.specs.laws.TimerLaw.{BeginsWhereDue, BeginsBehindPull, DeadlineIsTrue, FiringIsTaken};
+ghost use Rattle.x25_station.specs.laws.PullLaw.{StepsPull};
 ghost use Rattle.x25_station.specs.laws.TimerLaw.{OffIsRefused, PullIsHeeded};
 ghost use Rattle.x25_station.specs.laws.SettledLaw.{NewIsSettled, PullsGoOn, SettledAsks, StaysSettled};
 ghost use Rattle.x25_station.specs.laws.UnheardLaw.{UnheardAsksOn};
 ghost use Rattle.x25_station.specs.laws.WayOutLaw.{ClearLeadsOn, FiringLeadsOn, NothingLeadsBack, RelinkLeadsOn};
-ghost use Rattle.x25_station.specs.laws.WayOutLaw.{ResetLeadsOn, RestartLeadsOn};
+ghost use Rattle.x25_station.specs.laws.WayOutLaw.{ResetLeadsOn, RestartLeadsOn, RotationLeadsOn};
 ghost use Rattle.x25_station.specs.laws.EndLaw.{EndIsTold};
 ghost use Rattle.x25_station.specs.laws.ConfirmLaw.{ConfirmedIsAcknowledged, ToldIsConfirmed};
 
 use x25_circuit::values_are_agreed;
 use x25_given::what_is_written_is_read;
-use x25_layer::calls_are_runs;
+use x25_layer::{calls_are_runs, messages_wait_for_users};
 use x25_link::{comes_to_rest, follows_the_window, holds_few, notes_what_changes, sets_up_by_rows};
 use x25_packet::{reading_is_the_grammar, taking_keeps_octets};
 
@@ -125,16 +127,18 @@ pub fn deadlines_are_true()
     ensures due_pulled { BeginsBehindPull }
 {}
 
-/// Where the other end doesn't answer, five steps lead on, whatever it does. A channel whose interrupt isn't confirmed
-/// may be reset, a call or a reset that isn't answered may be cleared, and where clearing isn't confirmed all may be
-/// restarted, while fewer than 256 packets wait in the link. A link that is up may be set up anew by `Relink`, whatever
-/// is awaited and whatever waits: LinkDown is told, and UA is awaited, with all tries left. Where UA is awaited, N2
-/// firings of T1 and one more at most lead to Down, and LinkDown is told. And no step leads back, whatever comes and
-/// whatever is asked: until LinkUp or LinkDown is told, what a channel awaits is what it did, or fewer of these steps
-/// are left. Where it isn't what it did, the step tells that: the answer, on that channel or of a restart, LinkUp or
-/// LinkDown; or that the channel is reset or cleared or all are restarted, and then an answer to that is awaited.
+/// Where the other end doesn't answer, five steps lead on, whatever it does. A channel whose interrupt isn't confirmed,
+/// or of which a data packet isn't acknowledged while the other end is ready to receive, may be reset, a call or a
+/// reset that isn't answered may be cleared, and where clearing isn't confirmed all may be restarted, while fewer than
+/// 256 packets wait in the link. A link that is up may be set up anew by `Relink`, whatever is awaited and whatever
+/// waits: LinkDown is told, and UA is awaited, with all tries left. Where UA is awaited, N2 firings of T1 and one more
+/// at most lead to Down, and LinkDown is told. And no step leads back, whatever comes and whatever is asked: until
+/// LinkUp or LinkDown is told, what a channel awaits is what it did, or fewer of these steps are left. Where it isn't
+/// what it did, the step tells that: the answer, on that channel or of a restart, LinkUp or LinkDown; or that the
+/// channel is reset or cleared or all are restarted, and then an answer to that is awaited.
 pub fn ways_out_lead_on()
     ensures reset { ResetLeadsOn }
+    ensures rotation { RotationLeadsOn }
     ensures clear { ClearLeadsOn }
     ensures restart { RestartLeadsOn }
     ensures relink { RelinkLeadsOn }
@@ -155,6 +159,18 @@ pub fn silence_is_asked()
     sets_up_by_rows();
 }
 
+/// Where DISC is sent again (`Cfg::wide`), its answer is awaited after each accepted disconnect, whatever the link was,
+/// with all N2 tries left. Whatever comes leaves that so, and so does each firing of T1, which is accepted and takes a
+/// try; or it ends. The end is told once, alone, and says whether UA or DM came or no try was left.
+pub fn disconnects_are_told()
+    ensures begins { DisconnectIsAwaited }
+    ensures hears { HearingCloses }
+    ensures fires { FiringCloses }
+    ensures accepted { FiringIsAccepted }
+{
+    sets_up_by_rows();
+}
+
 /// A station whose link is up asks, or its link is at rest: from a new station on, whatever comes and whatever is
 /// asked, nothing is left that its link may send, and the window is sound. So where the link is up T1 runs, or it is at
 /// rest. What is pulled behind a step tells nothing and acknowledges nothing, leaves all that is awaited, and brings no
@@ -169,4 +185,12 @@ pub fn stations_ask_or_rest()
     follows_the_window();
     notes_what_changes();
     sets_up_by_rows();
+}
+
+/// What a step lets go goes with it: a pull behind a step gives something only where the packet layer is as it was
+/// before that step, as where the link alone acts.
+pub fn steps_leave_none()
+    ensures { StepsPull }
+{
+    messages_wait_for_users();
 }

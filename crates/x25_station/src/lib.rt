@@ -30,9 +30,9 @@ pub use entries::Entries;
 pub use entry::{Asked, Entry, Told};
 pub use error::StationError;
 pub use law::{
-    confirmed_is_acknowledged, deadlines_are_true, puts_are_readable,
+    confirmed_is_acknowledged, deadlines_are_true, disconnects_are_told, puts_are_readable,
     puts_beside_peers_are_readable, silence_is_asked, stations_ask_or_rest, stations_hold_few,
-    steps_are_joined, steps_keep_bounds, ways_out_lead_on, what_is_given_is_told,
+    steps_are_joined, steps_keep_bounds, steps_leave_none, ways_out_lead_on, what_is_given_is_told,
 };
 pub use lent::Lent;
 pub use station::Station;

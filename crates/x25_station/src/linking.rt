@@ -3,10 +3,10 @@ ghost use Rattle.std.specs.Prelude.{◌≡◌, ◌+◌, ◌<◌, ◌≤◌, ◌+
 ghost use Rattle.x25_link.specs.code.FitsLink.{Does as LinkDoes};
 ghost use Rattle.x25_layer.specs.Layer.{Layer as LayerState, LayerSettings};
 ghost use Rattle.x25_layer.specs.code.FitsLayer.{FitsLayer};
-ghost use Rattle.x25_station.specs.Entry.{entries_down};
+ghost use Rattle.x25_station.specs.Entry.{end_if, entries_down, entries_ended};
 ghost use Rattle.x25_station.specs.code.Clock.{TellsTimer};
 ghost use Rattle.x25_station.specs.code.FitsStation.{FitsStation, Does, IsEmpty, RefusesOnly};
-ghost use Rattle.x25_station.specs.code.LinkCalls.{entries_asked, calls_link, link_refusal, step_of_call};
+ghost use Rattle.x25_station.specs.code.LinkCalls.{entries_called, calls_link, link_refusal, step_of_call};
 ghost use Rattle.x25_station.specs.Config.{Settings};
 ghost use Rattle.x25_station.specs.Station.{Station as State};
 ghost use Rattle.x25_station.specs.Step.{fires, layer_down};
@@ -18,7 +18,7 @@ use crate::law::steps_keep_bounds;
 use crate::station::Station;
 use crate::step::Step;
 use x25_layer::Layer;
-use x25_link::{Heard, Link, LinkError, Reason};
+use x25_link::{Closing, Heard, Link, LinkError, Reason};
 
 /// A call that the link alone answers.
 #[derive(Clone, Copy)]
@@ -48,16 +48,27 @@ fn answer_of(link: &mut Link, call: LinkCall) -> Result<Heard<'static>, LinkErro
     }
 }
 
-// Enters a command that has an entry.
-fn enter_call(call: LinkCall, entries: &mut Entries)
+// Enters a command that has an entry, and at a firing the end of what a DISC awaits.
+fn enter_call(call: LinkCall, awaited: bool, closing: Closing, entries: &mut Entries)
     requires { entries.old.items ≡ [] }
-    ensures { entries.new.items ≡ entries_asked call }
+    ensures { entries.new.items ≡ entries_called call (end_if awaited closing) }
 {
     match call {
         LinkCall::Connect => entries.push(Entry::ConnectAsked),
         LinkCall::Disconnect => entries.push(Entry::DisconnectAsked),
-        LinkCall::Fire | LinkCall::Probe => {}
+        LinkCall::Fire => enter_end(awaited, closing, entries),
+        LinkCall::Probe => {}
         LinkCall::Relink => entries.push(Entry::RelinkAsked),
+    }
+}
+
+/// Enters the end of what a DISC awaits, by whether it was awaited before a step of the link.
+pub(crate) fn enter_end(awaited: bool, closing: Closing, entries: &mut Entries)
+    requires { entries.old.items ≡ [] }
+    ensures { entries.new.items ≡ entries_ended (end_if awaited closing) }
+{
+    if let (true, Closing::Ended(ending)) = (awaited, closing) {
+        entries.push(Entry::Disconnected(ending));
     }
 }
 
@@ -85,9 +96,10 @@ impl Station {
             → RefusesOnly result (calls_link call c s) }
     {
         steps_keep_bounds();
+        let awaited = self.link.is_closing();
         match answer_of(&mut self.link, call) {
             Ok(heard) => {
-                enter_call(call, &mut out.entries);
+                enter_call(call, awaited, self.link.closing(), &mut out.entries);
                 self.link.swap_frames(&mut out.frames);
                 note_down(&mut self.layer, heard.notes.down, &mut out.entries);
                 Ok(())

@@ -1,7 +1,7 @@
 //! Octets that come: the step of the link, and what the packet layer does at it.
 ghost use Rattle.std.specs.Prelude.{◌≡◌, ◌<◌, ◌≤◌, ◌++◌, [], length, true, false, option_copied, Ok, IfSome, is_some};
 ghost use Rattle.std.specs.List.{sum_by};
-ghost use Rattle.x25_link.specs.Station.{Side};
+ghost use Rattle.x25_link.specs.Station.{Side, awaits_end};
 ghost use Rattle.x25_link.specs.code.FitsLink.{FitsWhole, up_of};
 ghost use Rattle.x25_layer.specs.Layer.{Layer as LayerState};
 ghost use Rattle.x25_layer.specs.code.FitsLayer.{FitsLayer};
@@ -25,11 +25,11 @@ use crate::entering::{bringing, enter_beside, enter_told};
 use crate::entries::Entries;
 use crate::entry::Entry;
 use crate::law::steps_keep_bounds;
-use crate::linking::note_down;
+use crate::linking::{enter_end, note_down};
 use crate::station::Station;
 use crate::step::Step;
 use x25_layer::Layer;
-use x25_link::{Link, Notes, holds_few, notes_what_changes};
+use x25_link::{Link, Notes, holds_few, notes_what_changes, sets_up_by_rows};
 use x25_packet::{Form, PacketError, taking_keeps_octets};
 
 // What the layer does at LinkUp.
@@ -158,6 +158,11 @@ impl Station {
             out.timer = self.timer_behind(ran, false, acknowledged, out);
             return;
         }
+        if self.link.is_closing() {
+            let acknowledged = self.hear_closing(octets, out);
+            out.timer = self.timer_behind(ran, false, acknowledged, out);
+            return;
+        }
         steps_keep_bounds();
         notes_what_changes();
         holds_few();
@@ -173,6 +178,25 @@ impl Station {
         );
         self.link.swap_frames(&mut out.frames);
         out.timer = self.timer_behind(ran, false, heard.acknowledged, out);
+    }
+
+    // The answer to a DISC is awaited: the link alone hears, and the end of that is told.
+    #[cold]
+    #[inline(never)]
+    fn hear_closing(&mut self, octets: &[u8], out: &mut Step) -> bool
+        requires closing { (c : Settings) (s : State) → FitsStation c self.old s
+            → awaits_end s.link.phase s.link.closing ≡ true }
+        requires empty { IsEmpty out.old }
+        ensures does { Does self.old self.new out.new (Ok tt) (λ c s. Did (receives c s octets.now)) }
+        ensures acknowledged { SaysAcknowledged self.old octets.now result }
+    {
+        steps_keep_bounds();
+        sets_up_by_rows();
+        let answer = self.link.hear(octets);
+        self.link.swap_frames(&mut out.frames);
+        enter_end(true, self.link.closing(), &mut out.entries);
+        note_down(&mut self.layer, answer.notes.down, &mut out.entries);
+        answer.acknowledged
     }
 
     // A count is at its most: the octets are dropped, and the link goes down.

@@ -26,7 +26,7 @@ pub struct Station {
 
 impl Station {
     ghost use Rattle.std.specs.Prelude.{◌≡◌, ◌==◌, ℕ, ◌+◌, ◌<◌, ◌≤◌, Bool, true, List, length, IfOk, IfSome};
-    ghost use Rattle.std.specs.Prelude.{IfNone};
+    ghost use Rattle.std.specs.Prelude.{IfNone, None};
     ghost use Rattle.x25_station.specs.code.FitsStation.{FitsStation, RefusesWith};
     ghost use Rattle.x25_station.specs.Config.{Settings, layer_settings, settings_from, config_refusal};
     ghost use Rattle.x25_station.specs.Station.{Station as State, new_station};
@@ -36,7 +36,7 @@ impl Station {
     ghost use Rattle.x25_layer.specs.Calls.{Asks};
     ghost use Rattle.x25_packet.specs.declared.marks.Marks.{Marks};
     ghost use Rattle.x25_circuit.specs.Calling.{Sends};
-    ghost use Rattle.x25_layer.specs.code.FitsLayer.{plain_stretch, awaited_at};
+    ghost use Rattle.x25_layer.specs.code.FitsLayer.{plain_stretch, awaited_at, unacknowledged_at};
     ghost use Rattle.x25_layer.specs.Layer.Confirmed.{unconfirmed_at};
     ghost use Rattle.x25_link.specs.Station.{awaits_ua};
     ghost use Rattle.x25_link.specs.Link.{timer_runs};
@@ -51,7 +51,7 @@ impl Station {
         if !cfg.channels.are_valid() {
             return Err(StationError::BadConfig);
         }
-        let link = match Link::new(alloc, role, cfg.k, N1, cfg.n2) {
+        let link = match Link::new(alloc, role, cfg.k, N1, cfg.n2, cfg.wide) {
             Ok(link) => link,
             Err(LinkError::BadConfig) => return Err(StationError::BadConfig),
             Err(_) => return Err(StationError::NoMemory),
@@ -88,13 +88,18 @@ impl Station {
         self.layer.channels()
     }
 
-    /// The next channel after one on which something may be under way: on those between no answer is awaited.
+    /// The next channel after one on which something may be under way: on those between no answer is awaited, and no
+    /// data packet isn't acknowledged.
     pub fn busy_after(&self, channel: u16) -> Option<u16>
         ensures higher { IfSome result (λ next. channel < next) }
         ensures between { (c : Settings) (s : State) → FitsStation c self.now s → IfSome result (λ next. (h : ℕ)
             → channel < h → h < next → awaited_at (layer_settings c) s.layer h ≡ Awaits.Nothing) }
         ensures none { (c : Settings) (s : State) → FitsStation c self.now s → IfNone result ((h : ℕ)
             → channel < h → awaited_at (layer_settings c) s.layer h ≡ Awaits.Nothing) }
+        ensures acknowledged { (c : Settings) (s : State) → FitsStation c self.now s → IfSome result (λ next. (h : ℕ)
+            → channel < h → h < next → unacknowledged_at (layer_settings c) s.layer h ≡ None) }
+        ensures all_acknowledged { (c : Settings) (s : State) → FitsStation c self.now s → IfNone result ((h : ℕ)
+            → channel < h → unacknowledged_at (layer_settings c) s.layer h ≡ None) }
     {
         self.layer.busy_after(channel)
     }
@@ -144,6 +149,8 @@ impl Station {
         ensures few { result.room ≤ 8 }
         ensures unconfirmed { (c : Settings) (s : State) → FitsStation c self.now s
             → result.unconfirmed ≡ unconfirmed_at (layer_settings c) s.layer number }
+        ensures unacknowledged { (c : Settings) (s : State) → FitsStation c self.now s
+            → result.unacknowledged ≡ unacknowledged_at (layer_settings c) s.layer number }
         ensures stretch { (c : Settings) (s : State) → FitsStation c self.now s
             → plain_stretch result.stretch ≡ stretch c s number }
     {
@@ -151,6 +158,7 @@ impl Station {
             awaits: self.layer.awaits(number),
             room: self.room(number),
             unconfirmed: self.layer.unconfirmed(number),
+            unacknowledged: self.layer.unacknowledged(number),
             stretch: self.stretch(number),
         }
     }

@@ -28,6 +28,8 @@ pub struct Channel {
     /// How many messages haven't the confirmation yet that was asked of them: they wait, or their last packet isn't
     /// acknowledged. 0 where the channel isn't configured.
     pub unconfirmed: usize,
+    /// P(S) of the first data packet that isn't acknowledged, while the other end is ready to receive.
+    pub unacknowledged: Option<u8>,
     /// The name of the stretch that is open, in p4 with d1, where one is.
     pub stretch: Option<Stretch>,
 }

@@ -4,6 +4,8 @@ use Rattle.std.specs.List.{flat_map}
 use Rattle.x25_bits.specs.declared.role.Role.{Role}
 use Rattle.x25_bits.specs.declared.role.Role.TheVariants.{Dte, Dce}
 use Rattle.x25_packet.specs.Spelling.{bit}
+use Rattle.x25_link.specs.declared.phase.Ending.{Ending}
+use Rattle.x25_link.specs.declared.phase.Ending.TheVariants.{ByUa, ByDm, GivenUp}
 use Rattle.x25_link.specs.declared.phase.Reason.{Reason}
 use Rattle.x25_link.specs.declared.phase.Reason.TheVariants.{Retries, Disc, Dm, FrmrSent, FrmrGot, Reset, Local, Counts}
 use Rattle.x25_packet.specs.declared.marks.Marks.{Marks}
@@ -17,7 +19,7 @@ use Rattle.x25_circuit.specs.Calling.{SaysNotReady}
 use Rattle.x25_handshakes.specs.laws.Names.{Name}
 use Rattle.x25_layer.specs.laws.Transcript.{Said, Asked, Told}
 use Rattle.x25_station.specs.Entry.{StationEntry, of_channel, restart_asked, connect_asked, disconnect_asked}
-use Rattle.x25_station.specs.Entry.{relink_asked, link_up}
+use Rattle.x25_station.specs.Entry.{relink_asked, link_up, disconnected}
 use Rattle.x25_station.specs.Entry.{link_down, was_restarted, restart_confirmed, at_fault, came_beside, was_diagnosed}
 use Rattle.x25_station.specs.Entry.{was_confirmed}
 use Rattle.x25_text.specs.Text.{octets_text}
@@ -132,6 +134,12 @@ down_text Reset = codes "reset"
 down_text Local = codes "local"
 down_text Counts = codes "counts"
 
+-- how it ended that this end disconnected it
+abbrev pub ending_text : Ending → List ℕ
+ending_text ByUa = codes "ua"
+ending_text ByDm = codes "dm"
+ending_text GivenUp = codes "retries"
+
 abbrev pub entry_text : StationEntry → List ℕ
 entry_text (of_channel e) = said_text e.channel e.name e.said
 entry_text (restart_asked cause diagnostic) = codes "restart" ++ given_text cause diagnostic
@@ -140,6 +148,7 @@ entry_text disconnect_asked = codes "disconnect"
 entry_text relink_asked = codes "relink"
 entry_text link_up = codes "linkup"
 entry_text (link_down reason) = codes "linkdown " ++ down_text reason
+entry_text (disconnected ending) = codes "disconnected " ++ ending_text ending
 entry_text (was_restarted cause diagnostic) = codes "restarted" ++ reason_text cause diagnostic
 entry_text restart_confirmed = codes "restartdone"
 entry_text (at_fault diagnostic) = codes "fault" ++ channel_text 0 ++ (codes " diag=" ++ decimal diagnostic)

@@ -2,7 +2,8 @@
 ghost use Rattle.std.specs.Prelude.{◌≡◌, ◌++◌, [], IfOk, OnOk, OnErr, codes, decimal};
 ghost use Rattle.x25_transcript.specs.EntryText.{address_text, channel_text, digits_text, end_text, name_text};
 ghost use Rattle.x25_transcript.specs.EntryText.{given_number, given_text, params_text};
-ghost use Rattle.x25_transcript.specs.EntryText.{down_text, entry_line as line_of, entry_text, notice_text};
+ghost use Rattle.x25_transcript.specs.EntryText.{down_text, ending_text, entry_line as line_of, entry_text};
+ghost use Rattle.x25_transcript.specs.EntryText.{notice_text};
 ghost use Rattle.x25_transcript.specs.EntryText.{marks_text, request_text};
 ghost use Rattle.x25_transcript.specs.EntryText.{stretch_text, user_text};
 ghost use Rattle.x25_station.specs.code.PlainEntry.{plain_asked, plain_entry, plain_name, plain_told};
@@ -12,7 +13,7 @@ ghost use Rattle.x25_text.specs.Text.{octets_text};
 
 use std::alloc::{AllocError, Global};
 use x25_layer::{Params, Stretch};
-use x25_link::Reason;
+use x25_link::{Ending, Reason};
 use x25_packet::Marks;
 use x25_station::{Asked, Entry, Lent, Role, Told};
 use x25_text::Text;
@@ -256,6 +257,17 @@ fn push_down(reason: Reason, text: &mut Text) -> Result<(), AllocError>
     })
 }
 
+/// Appends how it ended that this end disconnected the link.
+fn push_ending(ending: Ending, text: &mut Text) -> Result<(), AllocError>
+    ensures { OnOk result (text.new ≡ text.old ++ ending_text ending) }
+{
+    text.try_push(match ending {
+        Ending::ByUa => b"ua",
+        Ending::ByDm => b"dm",
+        Ending::GivenUp => b"retries",
+    })
+}
+
 /// Appends what a packet brought beside what was told of it.
 fn push_beside(
     channel: u16,
@@ -319,6 +331,10 @@ fn push_entry_text(entry: &Entry, lent: &Lent, text: &mut Text) -> Result<(), Al
         Entry::LinkDown(reason) => {
             text.try_push(b"linkdown ")?;
             push_down(*reason, text)
+        }
+        Entry::Disconnected(ending) => {
+            text.try_push(b"disconnected ")?;
+            push_ending(*ending, text)
         }
         Entry::WasRestarted { cause, diagnostic } => {
             text.try_push(b"restarted")?;

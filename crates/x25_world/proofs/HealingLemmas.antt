@@ -1,4 +1,5 @@
 -- What rest shows at a world of two stations; and how its two links heal, while the layers put nothing.
+use Rattle.x25_station.specs.{Entry.{StationEntry, end_between, entries_ended}, Step.{ends, led_by}}
 use Rattle.x25_world.proofs.Names.{◌≡◌, ℕ, List, [], ◌∷◌, ◌++◌, map, true, false, ◌&&◌, if◌then◌else◌, Option, Some, None, refl, sym, ap, ◌∙◌, subst, suc}
 use Rattle.x25_world.proofs.Names.{length, ◌≤◌, inl, eq-eqb, Role, Dte, Dce, spelling_of, Meeting, Sessions, from_nothing, begun_by, IsTimely, AreTimely, Each}
 use Rattle.x25_world.proofs.Names.{octets_of, waits_up_to, HasAllOf, Name, Cfg, Settings, settings_from, link_settings, layer_settings, all_put, view_of}
@@ -27,10 +28,10 @@ turned h = record { near = h.far; far = h.near; out = h.back; back = h.out }
 
 module _ (c : Settings) {w : World} {v : Sessions} (h : Alike w v) where
   -- a step of the near link behind which its layer puts nothing
-  step_alike : (rest : List links.Entry) (left : List (List ℕ)) (met : List Meeting) (k : LinkStep) → octets_of rest ≡ left
+  step_alike : (rest : List links.Entry) (left : List (List ℕ)) (met : List Meeting) (told : List StationEntry) (k : LinkStep) → octets_of rest ≡ left
       → (layer_at (view_of (link_settings c) w.near.turn k.side.near) (layer_settings c) c.wide w.near.layer k.packet k.notes.down k.notes.up).put ≡ []
-      → Alike (after_step c w left (follows c w.near k)) (links.after_step (link_settings c) v rest met [] k)
-  step_alike rest left met k is none =
+      → Alike (after_step c w left (led_by told (follows c w.near k))) (links.after_step (link_settings c) v rest met [] k)
+  step_alike rest left met told k is none =
       let session = begun_by k.notes.up v.near.begun in
       record {
         near = ap (λ ps. (all_put (link_settings c) ps k.side).near) (sym none);
@@ -52,11 +53,11 @@ module _ (c : Settings) {w : World} {v : Sessions} (h : Alike w v) where
       by (e ∷ es) none =
           let lc = link_settings c in
           let k = take_step lc e.octets w.near.link in
-          subst (λ b. Alike (after_step c w (octets_of es) (follows c w.near (if b then abandon_step lc w.near.link else k)))
+          subst (λ b. Alike (after_step c w (octets_of es) (ends c w.near (if b then abandon_step lc w.near.link else k)))
           (links.delivered lc (e ∷ es) v)) (sym none.0)
-          (subst (λ s. Alike (after_step c w (octets_of es) (follows c w.near k))
+          (subst (λ s. Alike (after_step c w (octets_of es) (ends c w.near k))
           (links.after_step lc v es (links.delivered lc (e ∷ es) v).met [] (take_step lc e.octets s))) (sym h.near)
-          (step_alike es (octets_of es) (links.delivered lc (e ∷ es) v).met k refl none.1))
+          (step_alike es (octets_of es) (links.delivered lc (e ∷ es) v).met (entries_ended (end_between w.near.link k.side.near)) k refl none.1))
 
   -- timer T1 runs out, which isn't refused while UA isn't awaited but as the link's
   fired_alike : awaits_ua w.near.link.phase ≡ false → Alike (after w (fired c w)) (links.acts (link_settings c) line.T1 v)
@@ -70,10 +71,10 @@ module _ (c : Settings) {w : World} {v : Sessions} (h : Alike w v) where
       k : LinkStep
       k = timer_step (link_settings c) w.near.link
 
-      by : (o : Option LinkError) → Alike (after w (of_station c w (unless o (follows c w.near k))))
+      by : (o : Option LinkError) → Alike (after w (of_station c w (unless o (ends c w.near k))))
           (links.unless o v (links.after_step (link_settings c) v v.back v.met [] k))
       by (Some e) = h
-      by None = step_alike v.back w.back v.met k h.back
+      by None = step_alike v.back w.back v.met (entries_ended (end_between w.near.link k.side.near)) k h.back
           (silent (view_of (link_settings c) w.near.turn k.side.near) (layer_settings c) c.wide w.near.layer k.packet k.notes.down k.notes.up
           (timer_silent (link_settings c) w.near.link).0 (timer_silent (link_settings c) w.near.link).1)
 

@@ -13,7 +13,7 @@ const CHANNELS: u16 = 16;
 const PIECE: u16 = 4096;
 const ROOM: usize = 65_536;
 const MOST_WAIT: u64 = 1000;
-const TIMES: Times = Times { t1: 200, t3: 1000, t20: 180_000, t21: 200_000, t22: 180_000, t23: 180_000, t26: 180_000 };
+const TIMES: Times = Times { t1: 200, t3: 1000, t20: 180_000, t21: 200_000, t22: 180_000, t23: 180_000, t26: 180_000, t25: 0 };
 const KILOBYTES: Sizes = Sizes { size_called: 10, size_calling: 10, window_called: 7, window_calling: 7 };
 
 // What the standard library doesn't have, with the numbers of Linux: POLLIN 1, POLLOUT 4, SIGTERM 15, SOL_SOCKET 1, SO_LINGER 13.
@@ -155,7 +155,7 @@ fn main() -> Result<()> {
     let [end_word, near, far, manner, place] = words.as_slice() else { panic!("tunnel dte|dce NEAR-PORT FAR-PORT listen|connect PORT") };
     let (is_dte, listens) = (end_word == "dte", manner == "listen");
     let local = |port: &String| SocketAddr::from(([127, 0, 0, 1], port.parse().expect("a port is a number")));
-    let settings = Settings { n2: 20, channels: CHANNELS, message: PIECE, ..Settings::default() };
+    let settings = Settings { n2: 20, channels: CHANNELS, wide: true, message: PIECE, ..Settings::default() };
     let mut station = Station::new(if is_dte { End::Dte } else { End::Dce }, settings).expect("no memory");
     station.set_times(TIMES).expect("no memory");
     let line = UdpSocket::bind(local(near))?;
@@ -167,9 +167,16 @@ fn main() -> Result<()> {
     let now = || begun.elapsed().as_millis() as u64;
     let mut circuits: Vec<Circuit> = (0..=CHANNELS).map(|_| Circuit::default()).collect();
     let (mut waiting, mut room) = (None, [0; PIECE as usize + 64]);
-    while !ENDS.load(Ordering::Relaxed) || !port.did(Station::disconnect) {
-        std::mem::take(&mut port.told).into_iter().for_each(|event| note(event, &mut circuits, listens));
-        if is_dte {
+    loop {
+        let told = std::mem::take(&mut port.told);
+        let has_ended = told.iter().any(|event| matches!(event, Event::Disconnected { .. }));
+        told.into_iter().for_each(|event| note(event, &mut circuits, listens));
+        if has_ended {
+            return Ok(());
+        }
+        if ENDS.load(Ordering::Relaxed) {
+            port.did(Station::disconnect); // refused where it is asked already
+        } else if is_dte {
             port.did(Station::connect); // refused where it is up, or being set up
         }
         if let Some(answer) = waiting.as_ref().and_then(|_| port.station.call("1", "2", b"", Some(KILOBYTES)).ok()) {
@@ -195,5 +202,4 @@ fn main() -> Result<()> {
             waiting = client.filter(|it| it.set_nonblocking(true).is_ok());
         }
     }
-    Ok(())
 }

@@ -1,8 +1,8 @@
 -- One who has a clock beside a station (profile): behind each step he heeds it, and at any moment he may ask what is
 -- due. A deadline then stands for what is awaited, since a moment from which it was, and for nothing else.
-use Rattle.std.specs.Prelude.{◌≡◌, ℕ, ◌+◌, ◌≤◌, Bool, true, false, List, [], ◌∷◌, map, Option, None}
+use Rattle.std.specs.Prelude.{◌≡◌, ℕ, ◌+◌, ◌≤◌, Bool, true, false, List, [], ◌∷◌, map, Option, None, is_some}
 use Rattle.x25_circuit.specs.declared.awaits.Awaits.{Awaits}
-use Rattle.x25_layer.specs.code.FitsLayer.{awaited_at}
+use Rattle.x25_layer.specs.code.FitsLayer.{awaited_at, unacknowledged_at}
 use Rattle.x25_station.specs.Config.{Settings, layer_settings}
 use Rattle.x25_station.specs.Station.{Station, new_station}
 use Rattle.x25_station.specs.Station.Told.{is_at_rest}
@@ -43,6 +43,7 @@ seen_of c s event (Did step) = record {
   noted = tells_link step.entries;
   heard = hears event (Did step);
   awaited = λ h. awaited_at (layer_settings c) step.near.layer h;
+  unacknowledged = λ h. unacknowledged_at (layer_settings c) step.near.layer h;
 }
 seen_of c s event (Refused e) = record {
   timer = standing s;
@@ -51,6 +52,7 @@ seen_of c s event (Refused e) = record {
   noted = false;
   heard = false;
   awaited = λ h. awaited_at (layer_settings c) s.layer h;
+  unacknowledged = λ h. unacknowledged_at (layer_settings c) s.layer h;
 }
 
 abbrev pub heeds : Settings → Times → ℕ → timer.StationEvent → Outcome → Watched → Watched
@@ -89,22 +91,32 @@ pub record Stands (now time : ℕ) (so : Bool) (until : Option ℕ) : Type 0 whe
   pub on : so ≡ true → IsSince now time until
   pub off : so ≡ false → until ≡ None
 
--- of a channel: what is awaited there, and its deadline; that of nothing is none
-pub record IsAwaited (times : Times) (now : ℕ) (awaited : ℕ → Awaits) (w : Wait) : Type 0 where
+-- of a channel: what is awaited there, and its deadline, where that of nothing is none; and the first data packet that
+-- isn't acknowledged, and its deadline, which stands while there is one
+pub record IsAwaited (times : Times) (now : ℕ) (awaited : ℕ → Awaits) (first : ℕ → Option ℕ) (w : Wait) : Type 0 where
   pub awaits : w.awaits ≡ awaited w.channel
   pub until : IsSince now (time_of times w.awaits) w.until
+  pub unacknowledged : w.unacknowledged ≡ first w.channel
+  pub rotates : Stands now times.t25 (is_some w.unacknowledged) w.rotates
 
-abbrev pub AreAwaited : Times → ℕ → (ℕ → Awaits) → List Wait → Type 0
-AreAwaited times now awaited [] = Unit {0}
-AreAwaited times now awaited (w ∷ waits) = IsAwaited times now awaited w × AreAwaited times now awaited waits
+abbrev pub AreAwaited : Times → ℕ → (ℕ → Awaits) → (ℕ → Option ℕ) → List Wait → Type 0
+AreAwaited times now awaited first [] = Unit {0}
+AreAwaited times now awaited first (w ∷ waits) = IsAwaited times now awaited first w
+    × AreAwaited times now awaited first waits
 
 pub record AreTrue (c : Settings) (times : Times) (w : Watched) : Type 0 where
   pub t1 : Stands w.now times.t1 (runs w.station) w.deadlines.t1
   pub idle : Stands w.now times.t3 (is_at_rest w.station) w.deadlines.idle
   pub restart : Stands w.now times.t20 w.station.layer.restarting w.deadlines.restart
-  pub waits : AreAwaited times w.now (λ h. awaited_at (layer_settings c) w.station.layer h) w.deadlines.waits
+  pub waits : AreAwaited times w.now (λ h. awaited_at (layer_settings c) w.station.layer h)
+      (λ h. unacknowledged_at (layer_settings c) w.station.layer h) w.deadlines.waits
   pub channels : map (λ x. x.channel) w.deadlines.waits
       ≡ map (λ x. x.channel) (nothing_awaited c.channels.count).waits
 
 abbrev pub DeadlinesAreTrue : Type 0
 DeadlinesAreTrue = (c : Settings) (times : Times) (moments : List Moment) → AreTrue c times (watched c times moments)
+
+-- and where they are they stay so
+abbrev pub TrueStays : Type 0
+TrueStays = (c : Settings) (times : Times) (moments : List Moment) (w : Watched) → AreTrue c times w
+    → AreTrue c times (watched_from c times moments w)

@@ -1,7 +1,7 @@
 -- What is pulled behind a step may be heeded with it (profile), as one who pulls at once does.
-use Rattle.std.specs.Prelude.{◌≡◌, ◌+◌, [], ◌∷◌, ◌++◌}
+use Rattle.std.specs.Prelude.{◌≡◌, ℕ, ◌+◌, ◌≤◌, [], ◌∷◌, ◌++◌}
 use Rattle.x25_layer.specs.Calls.{PullsAll}
-use Rattle.x25_layer.specs.code.FitsLayer.{awaited_at}
+use Rattle.x25_layer.specs.code.FitsLayer.{awaited_at, unacknowledged_at}
 use Rattle.x25_station.specs.Command.{Requests}
 use Rattle.x25_station.specs.Config.{Settings, layer_settings}
 use Rattle.x25_station.specs.Pulling.{pulled}
@@ -14,7 +14,7 @@ use Rattle.x25_station.specs.laws.TimerLaw as timer
 use Rattle.x25_station.specs.laws.TimerLaw.{Asks}
 use Rattle.x25_clock.specs.declared.times.Times.{Times}
 use Rattle.x25_clock.specs.Clock.{Seen, heeded, is_heard}
-use Rattle.x25_clock.specs.laws.ClockLaw.{Watched, comes}
+use Rattle.x25_clock.specs.laws.ClockLaw.{Watched, AreTrue, comes}
 use Rattle.x25_clock.specs.laws.WaitLaw.{Deed, Happens, event_of, later_by, found_by, outcome_of, all_done}
 
 -- what is seen of an event and of the station behind what is pulled then
@@ -26,6 +26,7 @@ seen_pulled c s event step = let pulls = pulled c step.near in let next = pulls.
   noted = tells_link step.entries;
   heard = is_heard (comes event) (step.out ++ pulls.out) step.entries;
   awaited = λ h. awaited_at (layer_settings c) next.layer h;
+  unacknowledged = λ h. unacknowledged_at (layer_settings c) next.layer h;
 }
 
 abbrev pub pull : Deed
@@ -40,7 +41,8 @@ pulled_by c times deed step w = record {
   now = w.now + later_by deed;
 }
 
--- That is as the deed and then the pull, each heeded, at one moment.
+-- That is as the deed and then the pull, each heeded, at one moment, where the deadlines are true before.
 abbrev pub PullIsHeeded : Type 0
-PullIsHeeded = (c : Settings) (times : Times) (deed : Deed) (step : Step) (w : Watched) → IsSettled c step.near
-    → outcome_of c deed w ≡ Did step → pulled_by c times deed step w ≡ all_done c times (deed ∷ pull ∷ []) w
+PullIsHeeded = (c : Settings) (times : Times) (deed : Deed) (step : Step) (w : Watched) (before : ℕ) → before ≤ w.now
+    → AreTrue c times (record w { now = before }) → IsSettled c step.near → outcome_of c deed w ≡ Did step
+    → pulled_by c times deed step w ≡ all_done c times (deed ∷ pull ∷ []) w

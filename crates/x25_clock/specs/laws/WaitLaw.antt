@@ -5,7 +5,7 @@ use Rattle.std.specs.Prelude.{◌≡◌, ℕ, ◌+◌, ◌^◌, ◌<◌, ◌≤�
 use Rattle.x25_circuit.specs.declared.awaits.Awaits.{Awaits}
 use Rattle.x25_circuit.specs.declared.awaits.Awaits.TheVariants.{Nothing, Acceptance, ResetConfirmation}
 use Rattle.x25_circuit.specs.declared.awaits.Awaits.TheVariants.{ClearConfirmation, InterruptConfirmation}
-use Rattle.x25_layer.specs.code.FitsLayer.{awaited_at}
+use Rattle.x25_layer.specs.code.FitsLayer.{awaited_at, unacknowledged_at}
 use Rattle.x25_station.specs.Config.{Settings, layer_settings}
 use Rattle.x25_station.specs.Station.{Station}
 use Rattle.x25_station.specs.Step.{Outcome, Did, Refused}
@@ -108,3 +108,20 @@ NothingWaits = (c : Settings) (times : Times) (h : ℕ) (moments : List Moment) 
     let longest : ℕ = longest_wait times w.station.layer.restarting awaits in
     AreSet times awaits → w.now + longest < 2 ^ 64
     → AreObeyed c times deeds w → AwaitsAll c times h deeds w → (all_done c times deeds w).now ≤ w.now + longest
+
+-- ---- a data packet that isn't acknowledged
+
+-- the first that isn't is the same, with P(S) n, while the other end is ready to receive, before each of these and
+-- after it, and none tells LinkUp or LinkDown
+abbrev pub StaysFirst : Settings → Times → ℕ → ℕ → List Deed → Watched → Type 0
+StaysFirst c times h n [] w = unacknowledged_at (layer_settings c) w.station.layer h ≡ Some n
+StaysFirst c times h n (deed ∷ deeds) w = (unacknowledged_at (layer_settings c) w.station.layer h ≡ Some n)
+    × (tells (outcome_of c deed w) ≡ false) × StaysFirst c times h n deeds (done c times deed w)
+
+-- After any moments: one who obeys from there on has P(R) moved, RNR, or the end of the stretch, no later than T25,
+-- where that isn't for ever.
+abbrev pub WindowRotates : Type 0
+WindowRotates = (c : Settings) (times : Times) (h n : ℕ) (moments : List Moment) (deeds : List Deed) →
+    let w : Watched = watched c times moments in
+    0 < times.t25 → w.now + times.t25 < 2 ^ 64
+    → AreObeyed c times deeds w → StaysFirst c times h n deeds w → (all_done c times deeds w).now ≤ w.now + times.t25

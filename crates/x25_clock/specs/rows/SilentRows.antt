@@ -35,7 +35,7 @@ dte = record {
 
 -- T1 and T3 are for ever, so that the link of the peer may be left out
 abbrev pub times : Times
-times = record { t1 = 0; t3 = 0; t20 = 5; t21 = 3; t22 = 2; t23 = 4; t26 = 1 }
+times = record { t1 = 0; t3 = 0; t20 = 5; t21 = 3; t22 = 2; t23 = 4; t25 = 0; t26 = 1 }
 
 -- its link is up and in r1, and it calls at once
 abbrev pub before : Watched

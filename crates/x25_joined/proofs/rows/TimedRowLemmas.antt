@@ -39,10 +39,10 @@ sabm_goes_again =
     let p0 : Program = nothing_read in
     let pa : Program = record p0 { read = codes "@ 0\n" } in
     let ra : ReachedTimed ours times pa = goes_on p0 pa at_start
-    (Reads (codes "@ 0") (record { is_line = opens (codes "@ 0") refl; is_no_frame = tt; in_time = tt })) in
+    (Reads (codes "@ 0") (record { is_line = opens (codes "@ 0") refl; is_no_frame = tt; in_time = tt; said = (tt, tt) })) in
     let p1 : Program = record p0 { read = codes "@ 0\ndte connect\n"; out = sabm ∷ [] } in
     let r1 : ReachedTimed ours times p1 = goes_on pa p1 ra
-    (Reads (codes "dte connect") (record { is_line = opens (codes "dte connect") refl; is_no_frame = tt; in_time = tt })) in
+    (Reads (codes "dte connect") (record { is_line = opens (codes "dte connect") refl; is_no_frame = tt; in_time = tt; said = (tt, (tt, tt)) })) in
     let v2 : BesideSessions = record (bare ours times p1) { out = [] } in
     let p2 : Program = record p1 { out = [] } in
     let r2 : ReachedTimed ours times p2 = goes_on p1 p2 r1 (Elsewhere v2
@@ -53,6 +53,7 @@ sabm_goes_again =
       is_line = opens (codes "@ 3000") refl;
       is_no_frame = tt;
       in_time = λ waiting. record { sabm = refl; ua = refl; crossing = tt };
+      said = (tt, (tt, tt));
     })) in
     record { program = p3; reached = r3; text = refl; out = refl }
 
@@ -65,10 +66,10 @@ unfolding digits decode_pairs event_act event_in lines_of line_in parts_of numbe
     facilities_of is_sealed fcs_of number_of divided low_bits add divisor due_turns moment_in next_line time_said timed timed_turn timed_turns timeout_line
 link_is_set_up = record {
   possible = (
-    record { is_line = opens (codes "@ 0") refl; is_no_frame = tt; in_time = tt },
+    record { is_line = opens (codes "@ 0") refl; is_no_frame = tt; in_time = tt; said = (tt, tt) },
     (
-      record { is_line = opens (codes "dte connect") refl; is_no_frame = tt; in_time = tt },
-      (tt, (record { is_line = opens (codes "@ 3000") refl; is_no_frame = tt; in_time = refl }, (tt, (tt, (tt, (tt, (tt, (tt, tt)))))))),
+      record { is_line = opens (codes "dte connect") refl; is_no_frame = tt; in_time = tt; said = (tt, (tt, tt)) },
+      (tt, (record { is_line = opens (codes "@ 3000") refl; is_no_frame = tt; in_time = refl; said = (tt, (tt, tt)) }, (tt, (tt, (tt, (tt, (tt, (tt, tt)))))))),
     ),
   );
   near = refl;

@@ -1,7 +1,7 @@
 -- What a station behind a pipe plays that has a clock, one after another (profile): what lines ask for, what is due and
 -- is asked, and its marks. What it says of each; and the lines that a user of a station without a clock writes for it.
-use Rattle.std.specs.Prelude.{ℕ, zero, suc, nat_lt, Bool, List, [], ◌∷◌, ◌++◌, map, if◌then◌else◌, Option, Some, None}
-use Rattle.std.specs.Prelude.{codes, decimal}
+use Rattle.std.specs.Prelude.{◌≡◌, ℕ, zero, suc, nat_lt, Bool, true, List, [], ◌∷◌, ◌++◌, map, if◌then◌else◌, Option}
+use Rattle.std.specs.Prelude.{Some, None, codes, decimal}
 use Rattle.std.specs.List.{flat_map}
 use Rattle.x25_bits.specs.declared.role.Role.{Role}
 use Rattle.x25_circuit.specs.declared.awaits.Awaits.{Awaits}
@@ -147,8 +147,23 @@ due_words end due.T1 = codes "t1 " ++ end_text end
 due_words end due.Probe = end_text end ++ (codes " " ++ codes "probe")
 due_words end due.Relink = end_text end ++ (codes " " ++ codes "relink")
 due_words end (due.Reset h) = end_text end ++ (codes " " ++ (codes "reset " ++ (decimal h ++ [])))
+due_words end (due.ResetUnacknowledged h) =
+    end_text end ++ (codes " " ++ (codes "reset " ++ (decimal h ++ codes " diag=146")))
 due_words end (due.Clear h) = end_text end ++ (codes " " ++ (codes "clear " ++ (decimal h ++ [])))
 due_words end (due.Restart h) = end_text end ++ (codes " " ++ (codes "restart" ++ []))
+
+-- T25 asks for a reset with a diagnostic, and a line with one is read with `--wide` alone
+abbrev pub IsSaid : Bool → Due → Type 0
+IsSaid wide (due.ResetUnacknowledged h) = wide ≡ true
+IsSaid wide asked = Unit {0}
+
+abbrev pub IsSaidPlay : Settings → Play → Type 0
+IsSaidPlay c (Insists due asked) = IsSaid c.wide asked
+IsSaidPlay c play = Unit {0}
+
+abbrev pub AreSaid : Settings → List Played → Type 0
+AreSaid c [] = Unit {0}
+AreSaid c (p ∷ ps) = IsSaidPlay c p.play × AreSaid c ps
 
 -- a line that says no time stands, and one that says a time is what is due
 abbrev pub lines_for : Role → Play → List (List ℕ)

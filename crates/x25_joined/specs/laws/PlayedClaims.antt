@@ -6,7 +6,7 @@ use Rattle.x25_station.specs.Config.{Settings}
 use Rattle.x25_pipe.specs.Timed.{timed_text}
 use Rattle.x25_joined.specs.laws.Joined.{written, station_of, entries_in, frames_in}
 use Rattle.x25_joined.specs.laws.Played.{timed_line, timed_written, timed_station, timed_entries, timed_frames}
-use Rattle.x25_joined.specs.laws.Played.{without_clock}
+use Rattle.x25_joined.specs.laws.Played.{AreSaid, plays, without_clock}
 
 -- the text that it writes is that of what it says
 abbrev pub SaidIsWritten : Type 0
@@ -21,4 +21,5 @@ pub record IsWithoutClock (c : Settings) (times : Times) (input : List ℕ) : Ty
 
 abbrev pub AreProgramsWithoutClock : Type 0
 AreProgramsWithoutClock =
-    (c : Settings) (times : Times) (input : List ℕ) → c.channels.count ≤ 4095 → IsWithoutClock c times input
+    (c : Settings) (times : Times) (input : List ℕ) → c.channels.count ≤ 4095 → AreSaid c (plays c times input)
+    → IsWithoutClock c times input

@@ -16,7 +16,7 @@ use Rattle.x25_pipe.specs.Pipe.{sends, saying_line}
 use Rattle.x25_pipe.specs.Timed.{timed}
 use Rattle.x25_joined.specs.laws.Joined.{Joined, Act, Reads, Takes, Loses, Damages, Happening, IsDamage, IsNoFrame}
 use Rattle.x25_joined.specs.laws.Joined.{exchanged, is_on_line, on_line}
-use Rattle.x25_joined.specs.laws.Played.{line_plays, first_asked, timed_station}
+use Rattle.x25_joined.specs.laws.Played.{AreSaid, line_plays, first_asked, timed_station}
 use Rattle.x25_joined.specs.laws.Played.{timed_frames}
 use Rattle.x25_joined.specs.laws.TimedPeer.{timed_more}
 
@@ -59,6 +59,7 @@ pub record IsOfUser (c : Settings) (times : Times) (j : Joined) (line : List ℕ
   pub is_line : IsOpen line
   pub is_no_frame : IsNoFrame (first_of c times j line)
   pub in_time : IsInTime c times j (first_of c times j line)
+  pub said : AreSaid c (line_plays c times line (timed c times j.near).next)
 
 abbrev pub IsPossible : Settings → Times → Joined → Act → Type 0
 IsPossible c times j (Reads line) = IsOfUser c times j line

@@ -17,7 +17,7 @@ use Rattle.x25_peer.specs.laws.BesideSessions as beside
 use Rattle.x25_peer.specs.laws.BesideSessions.{Own, BesideSessions, own_anew, links, met_by}
 use Rattle.x25_joined.specs.laws.BesidePeer.{Program, nothing_read, sent_then}
 use Rattle.x25_joined.specs.laws.Joined.{IsNoFrame}
-use Rattle.x25_joined.specs.laws.Played.{TimedSaying, line_plays, first_asked, timed_written, timed_station}
+use Rattle.x25_joined.specs.laws.Played.{AreSaid, TimedSaying, line_plays, first_asked, timed_written, timed_station}
 use Rattle.x25_joined.specs.laws.Played.{timed_entries, timed_frames}
 
 -- what it says when it reads more
@@ -66,6 +66,7 @@ pub record IsOfUser (c : Settings) (times : Times) (p : Program) (line : List â„
   pub is_line : IsOpen line
   pub is_no_frame : IsNoFrame (first_of c times p line)
   pub in_time : IsInTime c times p (first_of c times p line)
+  pub said : AreSaid c (line_plays c times line (timed c times p.read).next)
 
 pub data HappensToTimed (c : Settings) (times : Times) (p : Program) : Program â†’ Type 0 where
   -- a line comes of the user, or says the time

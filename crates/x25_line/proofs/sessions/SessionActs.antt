@@ -9,6 +9,8 @@ use Rattle.x25_line.proofs.{StationRuns.{put_up, timer_by}, StationSteps.{AsUp, 
 use Rattle.x25_line.proofs.sessions.{SessionHeld.{IsOf, Owes, OnLine, Held, is_out}, SessionLines.{count}, SessionSeenActs.{by_neither}}
 use Rattle.x25_line.proofs.sessions.{SessionSteps.{waiting_is_closed, stepped, went_by, apart_held}, SessionUp.{stays_answers, follows_answers, live_goes_on}}
 use Rattle.x25_link.specs.laws.{NoteLaw.{Tells}, WindowLaw.{IsRunning, Ends}, WindowMachine.{nothing}}
+use Rattle.x25_line.proofs.StationAway.{ended_phase_by}
+use Rattle.x25_link.specs.{declared.phase.Ending.TheVariants.{GivenUp}, laws.SetUp.{ended_by}}
 use Rattle.x25_link.specs.declared.error.LinkError.TheVariants as error
 
 -- what holds of a step in which no LinkUp is noted
@@ -130,6 +132,22 @@ module _ {c d : LinkSettings} (joined : AreJoined c d) (reads : ReadsSpelled) (l
           (λ _. omega (arith, none)) tt refl
       by false step i = out_held w h (with_nothing Down w.near.station.tries) [] (Some Retries) step i refl (λ _. omega (arith, none)) tt refl
 
+  -- timer T1 while the answer to a DISC is awaited
+  pub timer_closed_held : {stand : Standing} (w : Sessions) → Held stand c d w → w.near.station.phase ≡ Closed
+      → Held (went_by c (timer_step c w.near.station) None stand) c d (after_step c w w.back w.met [] (timer_step c w.near.station))
+  timer_closed_held {stand} w h closed = by (nat_lt w.near.station.tries c.retries) (timer_step c w.near.station)
+      (laws.set_up.timer_closes c w.near.station closed)
+    where
+      by : (b : Bool) (step : LinkStep)
+          → (let s = w.near.station in Is (if b then record s { tries = suc s.tries } else ended_by GivenUp s.closing s) (if b then disc true ∷ [] else [])
+          None false step)
+          → Held (went_by c step None stand) c d (after_step c w w.back w.met [] step)
+      by true step i = closes_held w h step (ap (λ z. z.phase) i.near ∙ closed) i.out i.packet i.up
+      by false step i =
+          let same = ended_phase_by GivenUp w.near.station.closing w.near.station ∙ closed in
+          out_held w h (ended_by GivenUp w.near.station.closing w.near.station) [] None step i (ap is_up same)
+          (λ waits. waiting_is_closed _ waits same) tt refl
+
   pub disconnect_held : {stand : Standing} (w : Sessions) → Held stand c d w → disconnect_refusal w.near.station.phase ≡ None
       → Held (went_by c (disconnect_step c w.near.station) None stand) c d (after_step c w w.back w.met [] (disconnect_step c w.near.station))
   disconnect_held {stand} w h accepted = by w.near.station.phase refl accepted
@@ -143,7 +161,7 @@ module _ {c d : LinkSettings} (joined : AreJoined c d) (reads : ReadsSpelled) (l
           let out = laws.window.disconnect_out c s (subst IsOut (sym is) tt) in
           closes_held w h (disconnect_step c s) out.phase out.frames out.packet (ap (λ n. n.up) out.quiet)
       by Waiting is ok =
-          let i = laws.set_up.disconnects c s is in
+          let i = laws.set_up.disconnects c s in
           closes_held w h (disconnect_step c s) (ap (λ z. z.phase) i.near) i.out i.packet i.up
       by Up is ok = leaves_held w h (ap is_up is) Local tt refl refl (disconnect_step c) (laws.disconnect_tells c) (laws.window.disconnect c)
       by Closed is ok = absurd (never ok)

@@ -1,7 +1,7 @@
 -- Each event keeps what holds of two stations over sessions, so each run does, and what holds says the claims.
 use Rattle.x25_line.proofs.Names.{◌≡◌, ℕ, List, [], ◌∷◌, ◌++◌, inl, inr, length, map, drop, remove, Bool, true, false, if◌then◌else◌, Option, Some, None, refl}
 use Rattle.x25_line.proofs.Names.{sym, ap, ◌∙◌, subst, arith, leb-true, nat_le, Role, PlainFrame, spelling_of, ReadsSpelled, LinkError, Phase, Down, Waiting}
-use Rattle.x25_line.proofs.Names.{Up, LinkSettings, is_up, with_nothing, fresh, LinkStep, other, take_step, put_step, put_refusal, timer_step, timer_refusal}
+use Rattle.x25_line.proofs.Names.{Closed, Up, LinkSettings, is_up, with_nothing, fresh, LinkStep, other, take_step, put_step, put_refusal, timer_step, timer_refusal}
 use Rattle.x25_line.proofs.Names.{timer_runs, connect_step, connect_refusal, disconnect_step, disconnect_refusal, abandon_step, Stations, Act, Put, Deliver, T1}
 use Rattle.x25_line.proofs.Names.{Connect, Disconnect, Abandon, Probe, Lose, Damage, LinkEvent, Near, Far, is_visible, start, AreJoined, AreWhole, Entry}
 use Rattle.x25_line.proofs.Names.{Meeting, Sessions, swapped, begun_by, sent_in, after_step, unless, delivered, with_octets, acts, happens, run, start_with}
@@ -9,7 +9,7 @@ use Rattle.x25_line.proofs.Names.{IsStart, IsTimely, IsTimelyAt, AreTimely, repl
 use Rattle.x25_line.proofs.{Choices.{unless_by, if_by}, Losses.{removes, replaces}, Names.{AllOf, SessionLaws}, StationAway.{connects_from}}
 use Rattle.x25_line.proofs.StationClaimLemmas.{is_behind, holds_order, holds_lists, holds_window, holds_whole}
 use Rattle.x25_line.proofs.{StationRuns.{joined_swapped, joint_swapped, start_machine}, StationSteps.{Holds}}
-use Rattle.x25_line.proofs.sessions.SessionActs.{up_in_session, put_held, timer_up_held, abandon_held, connect_held, timer_waiting_held, disconnect_held}
+use Rattle.x25_line.proofs.sessions.SessionActs.{up_in_session, put_held, timer_up_held, abandon_held, connect_held, timer_waiting_held, timer_closed_held, disconnect_held}
 use Rattle.x25_line.proofs.sessions.{SessionChanges.{change_held}, SessionHeld.{is_there, is_out, IsThere, OnLine, Held, counted_there, stays_on}}
 use Rattle.x25_line.proofs.sessions.{SessionLines.{octets_sent}, SessionSeenRuns.{Both, both_swapped, event_both, begin_both}, SessionSeenSteps.{put_accepted}}
 use Rattle.x25_line.proofs.sessions.{SessionSteps.{went_by}, SessionTakes.{read_of, heard_by, take_held}, TwoSessions.{on_line}}
@@ -97,6 +97,9 @@ module _ {c d : LinkSettings} (joined : AreJoined c d) (reads : ReadsSpelled) (r
       by Up is =
           now_unless c d (timer_refusal w.near.station) w done h
           (λ _. step_now stand w w.back w.met [] (timer_step c w.near.station) None (timer_up_held joined reads rests_on.laws w h (ap is_up is)))
+      by Closed is =
+          now_unless c d (timer_refusal w.near.station) w done h
+          (λ _. step_now stand w w.back w.met [] (timer_step c w.near.station) None (timer_closed_held joined reads rests_on.laws w h is))
       by phase is = rw (ap (λ p. timer_runs p w.near.station) is) (stays_now c d w h)
 
   acts_held : {stand : Standing} (a : Act) (w : Sessions) → IsTimely c d a w → OnLine c d w → Held stand c d w

@@ -11,6 +11,8 @@ use Rattle.x25_line.proofs.{StationSteps.{no_packet_of, not_afresh}, sessions.Se
 use Rattle.x25_line.proofs.sessions.{SessionMay.{hears_read, IsClear, Known, Kind}, SessionSeen.{Seen, build_quiet, stays_seen, reached_in, unchanged, changed}}
 use Rattle.x25_line.proofs.sessions.SessionSeenActs.{put_none, put_asks, put_closes, sets_up_seen, up_seen, out_seen, answer_seen, waiting_seen}
 use Rattle.x25_link.specs.laws.WindowMachine.{hands_down, nothing}
+use Rattle.x25_line.proofs.StationAway.{ended_phase_by}
+use Rattle.x25_link.specs.{declared.phase.Ending.TheVariants.{GivenUp}, laws.SetUp.{ended_by}}
 use Rattle.x25_link.specs.declared.error.LinkError.TheVariants as error
 
 -- the UA that is awaited, or none such
@@ -117,6 +119,19 @@ module _ {d : LinkSettings} (k : Kind d) where
           (put_none k step.side.out i.out
           (k.does.gives_up w.back w.met w.near.begun h.all w.out over.2 clear (rw (sym waiting) h.reached)))
 
+  timer_closed : (w : Sessions) (h : S w) → w.near.station.phase ≡ Closed → S (after_step d w w.back w.met [] (timer_step d w.near.station))
+  timer_closed w h closed = by (nat_lt w.near.station.tries d.retries) (timer_step d w.near.station)
+      (k.rests.laws.set_up.timer_closes d w.near.station closed)
+    where
+      by : (b : Bool) (step : LinkStep)
+          → (let s = w.near.station in Is (if b then record s { tries = suc s.tries } else ended_by GivenUp s.closing s) (if b then disc true ∷ [] else [])
+          None false step)
+          → S (after_step d w w.back w.met [] step)
+      by true step i = away_seen h step i.up i.packet (ap (λ z. z.phase) i.near ∙ closed) refl (put_closes k w h true step.side.out i.out)
+      by false step i =
+          let same = ended_phase_by GivenUp w.near.station.closing w.near.station ∙ closed in
+          away_seen h step i.up i.packet (ap (λ z. z.phase) i.near ∙ same) refl (put_none k step.side.out i.out (rw (sym closed) h.reached))
+
   timer_seen : (w : Sessions) (h : S w) → IsTimely T1 w → OwesAt w
       → S (unless (timer_refusal w.near.station) w (after_step d w w.back w.met [] (timer_step d w.near.station)))
   timer_seen w h timely owes = by w.near.station.phase refl
@@ -127,6 +142,7 @@ module _ {d : LinkSettings} (k : Kind d) where
       by : (p : Phase) → w.near.station.phase ≡ p → S (unless (timer_refusal w.near.station) w done)
       by Waiting is = unless_by S (timer_refusal w.near.station) h (λ _. timer_waiting w h is (timely is) owes)
       by Up is = unless_by S (timer_refusal w.near.station) h (λ _. timer_up w h (ap is_up is))
+      by Closed is = unless_by S (timer_refusal w.near.station) h (λ _. timer_closed w h is)
       by phase is = rw (ap (λ p. timer_runs p w.near.station) is) h
 
   disconnect_seen : (w : Sessions) (h : S w) → disconnect_refusal w.near.station.phase ≡ None
@@ -149,7 +165,7 @@ module _ {d : LinkSettings} (k : Kind d) where
       by : (p : Phase) → s.phase ≡ p → S (after_step d w w.back w.met [] step)
       by Down is = (let out = k.rests.laws.window.disconnect_out d s (subst IsOut (sym is) tt) in
           closes (ap (λ n. n.up) out.quiet) out.packet out.phase out.frames)
-      by Waiting is = (let i = k.rests.laws.set_up.disconnects d s is in closes i.up i.packet (ap (λ z. z.phase) i.near) i.out)
+      by Waiting is = (let i = k.rests.laws.set_up.disconnects d s in closes i.up i.packet (ap (λ z. z.phase) i.near) i.out)
       by Up is =
           let up : is_up s.phase ≡ true = ap is_up is in
           let ends = k.rests.laws.window.disconnect d s (record { up = up; sound = (h.up up).sound }) in

@@ -10,10 +10,10 @@ use Rattle.x25_line.specs.laws.Stations.{Far, run, start}
 
 -- the DTE is the near end
 abbrev pub dte : LinkSettings
-dte = record { role = Dte; window = 7; longest = 128; retries = 20 }
+dte = record { role = Dte; window = 7; longest = 128; retries = 20; disc_again = false }
 
 abbrev pub dce : LinkSettings
-dce = record { role = Dce; window = 7; longest = 128; retries = 20 }
+dce = record { role = Dce; window = 7; longest = 128; retries = 20; disc_again = false }
 
 -- the packet of one octet, 5, was handed up at the far end and is acknowledged
 abbrev pub IsAcrossFive : Stations → Type 0

@@ -1,6 +1,7 @@
 -- How each numbered frame is answered, what the sending rule sends behind the answer, and what timer T1 asks.
 use Rattle.x25_link.proofs.Names.{◌≡◌, ℕ, suc, zero, ◌+◌, ◌-◌, ◌%◌, ◌<◌, ◌≤◌, List, [], ◌∷◌, ◌++◌, length, Bool, true, false, not, if◌then◌else◌, Some, None}
 use Rattle.x25_link.proofs.Names.{Ok, refl, sym, ap, ◌∙◌, subst, arith, append-nil, lt-ltb, and_parts, not-true, PlainFrame, info, rr, rnr, rej, sabm, disc, dm}
+use Rattle.x25_link.proofs.Names.{ua, when_closed}
 use Rattle.x25_link.proofs.Names.{frame_of, Phase, Down, Up, Closed, Dm, LinkSettings, LinkStation, Side, is_up, is_busy, wanted, with_near, sends}
 use Rattle.x25_link.proofs.Names.{ready, next_frame, send_next, may_send, pumped, owes_ready, finished, ended, LinkStep, quiet, leaves, other, is_valid}
 use Rattle.x25_link.proofs.Names.{acknowledged, is_taken, takes, answers, passes_over, hears_info, peer_is, goes_back, polls, row_of_frame, alone, closed_by}
@@ -376,9 +377,11 @@ down_declines (rnr true nr true) s e = record { near = refl; out = refl; packet 
 down_declines (rej true nr true) s e = record { near = refl; out = refl; packet = refl; quiet = refl }
 down_declines frame s e = true_false (sym e)
 
-closed_declines : (frame : PlainFrame) (s : LinkStation) → asks frame ≡ true → Declines s (quiet (declines frame (alone s)))
+closed_declines : (frame : PlainFrame) (s : LinkStation) → asks frame ≡ true → Declines s (when_closed frame (alone s))
 closed_declines (sabm p) s e = true_false (sym e)
 closed_declines (disc p) s e = true_false (sym e)
+closed_declines (ua f) s e = true_false (sym e)
+closed_declines (dm f) s e = true_false (sym e)
 closed_declines frame s e = down_declines frame s e
 
 out_row : (c : LinkSettings) (octets : List ℕ) (p : Phase) (s : LinkStation) → IsOut p → (frame : PlainFrame) → asks frame ≡ true

@@ -3,6 +3,7 @@ use Rattle.x25_link.proofs.Names.{◌≡◌, ℕ, zero, suc, ◌+◌, List, [], 
 use Rattle.x25_link.proofs.Names.{subst, arith, ◌||◌, nat_lt, ltb-false, le-ltb, PlainFrame, info, rr, rnr, rej, sabm, disc, ua, dm, frmr, frame_of, FrameError}
 use Rattle.x25_link.proofs.Names.{Undefined, NoInfoAllowed, TooLong, Phase, Up, Disc, Dm, FrmrSent, FrmrGot, Reset, Retries, LinkSettings, LinkStation, Side}
 use Rattle.x25_link.proofs.Names.{is_busy, wanted, with_near, sends, ready, next_frame, send_next, may_send, pumped, owes_ready, finished, ended, LinkStep}
+use Rattle.x25_link.proofs.Names.{ap, is_up, gives_up}
 use Rattle.x25_link.proofs.Names.{quiet, leaves, other, is_valid, acknowledged, is_taken, takes, answers, passes_over, peer_is, goes_back, polls, row_of_frame}
 use Rattle.x25_link.proofs.{EndLemmas.{true_false, open_is}, Names.{row_of, alone, hears, puts, fires, asks_again}, rows.NoteRows.{noted_quiet, up_quiet}}
 use Rattle.x25_link.{proofs.rows.WindowRows.{up_is}, specs.laws.BusyLaw.{said_last, says_free, NoInfo, Says, TakeSaysBusy, PutSaysBusy, TimerSaysBusy}}
@@ -162,9 +163,13 @@ asks_row s t p is none same =
     let u = with_near t (record t.near { recovery = true }) in
     subst (λ (z : Phase). S s.said_busy (asks_again z t)) (sym is) (S-ready s.said_busy true true u (S-begins s.said_busy u none same))
 
+gives_row : (s : LinkStation) (p : Phase) → p ≡ Up → Row s (gives_up p (alone s))
+gives_row s Up is = λ e. noted_quiet Retries false e
+gives_row s p is = true_false (sym (ap is_up is))
+
 pub timer_says_busy : TimerSaysBusy
 timer_says_busy c s up still =
     let t = with_near (alone s) (record s { tries = s.tries + 1 }) in
     S-ended s.said_busy c.window (fires c (alone s)).side
-    (row_if s (nat_lt s.tries c.retries) (quiet (asks_again s.phase t)) (leaves Retries (alone s)) (λ _. asks_row s t s.phase (up_is s.phase up) refl refl)
-    (λ e. noted_quiet Retries false e) still)
+    (row_if s (nat_lt s.tries c.retries) (quiet (asks_again s.phase t)) (gives_up s.phase (alone s)) (λ _. asks_row s t s.phase (up_is s.phase up) refl refl)
+    (gives_row s s.phase (up_is s.phase up)) still)

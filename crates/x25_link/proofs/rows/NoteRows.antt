@@ -7,6 +7,7 @@ use Rattle.x25_link.proofs.Names.{LinkStation, Side, fresh, is_up, is_busy, with
 use Rattle.x25_link.proofs.Names.{quiet, leaves, other, rejects, is_valid, acknowledged, is_taken, takes, answers, passes_over, reject_of, hears_info, peer_is}
 use Rattle.x25_link.proofs.Names.{goes_back, polls, numbered, row_of_frame, row_of, alone, closed_by, hears, puts, connects, asks_again, fires, disconnects}
 use Rattle.std.proofs.{Common.{Option, option_to_list}, Math.Nat.{le_trans}, lemmas.Option.{none-some}}
+use Rattle.x25_link.proofs.Names.{answered, gives_up, when_closed, Closing, Asked, Ending, ByUa, ByDm, GivenUp}
 use Rattle.x25_link.{proofs.EndLemmas.{true_false, none_open, ended_stays}, proofs.Names.{when_down, when_waiting}, specs.Link.{relinks}}
 use Rattle.x25_link.specs.{Station.{lists_of, no_packets}, declared.phase.Notes.{Notes}, laws.LinkLaws.{ended_lists, ended_phase}}
 use Rattle.x25_link.specs.laws.NoteLaw.{Tells, Continues, HandsUp, TakeTells, TakeContinues, TakeHandsUp, TimerTells, TimerContinues, PutTells, ConnectTells}
@@ -313,12 +314,26 @@ waiting_tells (sabm p) s e = row_still s (sends (ua p) (alone s)) refl
 waiting_tells (disc p) s e = row_still s (sends (dm p) (alone s)) refl
 waiting_tells frame s e = row_still s (alone s) refl
 
+-- what a DISC awaits ends
+ended_tells : (s : LinkStation) (ending : Ending) (closing : Closing) → is_up s.phase ≡ false → RowTells s (quiet (answered ending closing (alone s)))
+ended_tells s ending Asked low = record {
+  tells = quiet_tells s _ None refl (λ _ none. none);
+  continues = quiet_continues s _ None (begins_same s);
+  hands = hands_none s _ refl;
+}
+ended_tells s ending closing low = row_still s (alone s) refl
+
+closed_tells : (frame : PlainFrame) (s : LinkStation) → is_up s.phase ≡ false → RowTells s (when_closed frame (alone s))
+closed_tells (ua true) s low = ended_tells s ByUa s.closing low
+closed_tells (dm true) s low = ended_tells s ByDm s.closing low
+closed_tells frame s low = declines_tells (is_command frame && poll_or_final frame) s
+
 hears_tells : (c : LinkSettings) (octets : List ℕ) (read : Result PlainFrame FrameError) (p : Phase) (s : LinkStation) → s.phase ≡ p
     → RowTells s (hears c octets read p (alone s))
 hears_tells c octets (Ok frame) Down s e = down_tells frame s e
 hears_tells c octets (Ok frame) Waiting s e = waiting_tells frame s e
 hears_tells c octets read Up s e = read_tells c octets read s e
-hears_tells c octets (Ok frame) Closed s e = declines_tells _ s
+hears_tells c octets (Ok frame) Closed s e = closed_tells frame s (ap is_up e)
 hears_tells c octets (Err x) p s e = row_still s (alone s) refl
 
 -- ---- calls
@@ -336,8 +351,8 @@ pub take_hands_up : TakeHandsUp
 take_hands_up c octets s =
     hands_from c.window s _ (take_row c octets s).hands
 
-row_quiet : (s : LinkStation) (n : ℕ) → is_up s.phase ≡ false → RowTells s (quiet (sends (sabm true) (alone (record s { tries = n }))))
-row_quiet s n low = record {
+row_quiet : (s : LinkStation) (n : ℕ) (frame : PlainFrame) → is_up s.phase ≡ false → RowTells s (quiet (sends frame (alone (record s { tries = n }))))
+row_quiet s n frame low = record {
   tells = quiet_tells s _ None refl (λ _ none. none);
   continues = quiet_continues s _ None (begins_same s);
   hands = hands_none s _ refl;
@@ -345,11 +360,16 @@ row_quiet s n low = record {
 
 asks_tells : (s : LinkStation) (n : ℕ) (p : Phase) → s.phase ≡ p → RowTells s (quiet (asks_again p (alone (record s { tries = n }))))
 asks_tells s n Up e = row_same s _ e (S-ready s [] true true (with_near (alone s) (record s { tries = n; recovery = true })) (begins_same s))
-asks_tells s n p e = row_quiet s n (ap is_up e)
+asks_tells s n Closed e = row_quiet s n (disc true) (ap is_up e)
+asks_tells s n p e = row_quiet s n (sabm true) (ap is_up e)
+
+gives_tells : (s : LinkStation) (p : Phase) → s.phase ≡ p → RowTells s (gives_up p (alone s))
+gives_tells s Closed e = ended_tells s GivenUp s.closing (ap is_up e)
+gives_tells s p e = row_leaves s Retries (alone s)
 
 timer_by : (b : Bool) (c : LinkSettings) (s : LinkStation) → nat_lt s.tries c.retries ≡ b → RowTells s (fires c (alone s))
 timer_by true c s is = rw is (asks_tells s (s.tries + 1) s.phase refl)
-timer_by false c s is = rw is (row_leaves s Retries (alone s))
+timer_by false c s is = rw is (gives_tells s s.phase refl)
 
 pub timer_tells : TimerTells
 timer_tells c s = tells_from c.window s _ (timer_by _ c s refl).tells
@@ -363,7 +383,7 @@ put_tells c packet s up = tells_from c.window s (puts packet (alone s)) (quiet_t
 pub connect_tells : ConnectTells
 connect_tells c s e = tells_from c.window s (connects (alone s)) (quiet_tells s _ None (sym (ap is_up e)) (λ _ none. none))
 
-disconnect_by : (b : Bool) (c : LinkSettings) (s : LinkStation) → is_up s.phase ≡ b → Tells s (disconnects (alone s))
+disconnect_by : (b : Bool) (c : LinkSettings) (s : LinkStation) → is_up s.phase ≡ b → Tells s (disconnects c.disc_again (alone s))
 disconnect_by true c s e = rw e (record {
   fresh_up = λ f. true_false (sym f);
   after_down = λ f. true_false (sym f);
@@ -375,7 +395,7 @@ disconnect_by true c s e = rw e (record {
 disconnect_by false c s e = rw e (quiet_tells s _ None (sym e) (λ _ _. refl))
 
 pub disconnect_tells : DisconnectTells
-disconnect_tells c s = tells_from c.window s (disconnects (alone s)) (disconnect_by _ c s refl)
+disconnect_tells c s = tells_from c.window s (disconnects c.disc_again (alone s)) (disconnect_by _ c s refl)
 
 pub abandon_tells : AbandonTells
 abandon_tells c s = tells_from c.window s (leaves Counts (alone s)) (leaves_tells s Counts (alone s))

@@ -1,10 +1,10 @@
 -- Each step of a station says all that it may, and when a station is at rest.
 use Rattle.x25_link.proofs.Names.{◌≡◌, ℕ, suc, zero, ◌+◌, ◌<◌, ◌≤◌, length, Bool, true, false, if◌then◌else◌, refl, sym, ap, ◌∙◌, subst, arith, ◌&&◌, ◌||◌}
-use Rattle.x25_link.proofs.Names.{nat_lt, lt-ltb, le-ltb, ltb-false, eq-eqb, and_parts, frame_of, Phase, Up, Retries, Counts, waits, is_open, LinkStation, Side}
+use Rattle.x25_link.proofs.Names.{nat_lt, lt-ltb, le-ltb, ltb-false, eq-eqb, and_parts, frame_of, Phase, Up, Closed, Closing, Asked, GivenUp, Counts, waits, is_open, LinkStation, Side}
 use Rattle.x25_link.proofs.Names.{is_up, is_busy, with_near, ready, send_next, may_send, pumped, owes_ready, ended, LinkStep, quiet, leaves, other, alone}
 use Rattle.std.{proofs.lemmas.Bool.{eqb-true}, specs.Prelude.{◌==◌}}
 use Rattle.x25_link.proofs.{EndLemmas.{true_false, closed_is, ended_settled, ended_calm}, FrameCount.{Few, hears_few}}
-use Rattle.x25_link.proofs.{Names.{closed_by, hears, puts, fires, asks_again, connects, disconnects}, rows.WindowRows.{closed_stays, up_is}}
+use Rattle.x25_link.proofs.{Names.{closed_by, hears, puts, fires, answered, asks_again, gives_up, connects, disconnects}, rows.WindowRows.{closed_stays, up_is}}
 use Rattle.x25_link.specs.{Link.{timer_runs, is_idle}, laws.RestLaw.{AllHeardIsRest, RestIsAllHeard}}
 use Rattle.x25_link.specs.laws.RestLaw.{HasSaidAll, TakeSaysAll, PutSaysAll, TimerSaysAll, ConnectSaysAll, DisconnectSaysAll, AbandonSaysAll, NoTimerIsIdle}
 
@@ -65,17 +65,25 @@ asks_low : (p : Phase) (t : Side) → Low t → Low (asks_again p t)
 asks_low Up t h = L-ready true true (with_near t (record t.near { recovery = true })) h
 asks_low p t h = h
 
+ends_low : (closing : Closing) (t : Side) → Low t → Low (answered GivenUp closing t)
+ends_low Asked t h = h
+ends_low closing t h = h
+
+gives_low : (p : Phase) (t : Side) → Low t → Low (gives_up p t).side
+gives_low Closed t h = ends_low t.near.closing t h
+gives_low p t h = none_low
+
 pub timer_says_all : TimerSaysAll
 timer_says_all c s small h =
     says_all c.window (fires c (alone s)) small
-    (low_step (nat_lt s.tries c.retries) (quiet (asks_again s.phase (with_near (alone s) (record s { tries = s.tries + 1 })))) (leaves Retries (alone s))
-    (asks_low s.phase (with_near (alone s) (record s { tries = s.tries + 1 })) h) none_low)
+    (low_step (nat_lt s.tries c.retries) (quiet (asks_again s.phase (with_near (alone s) (record s { tries = s.tries + 1 })))) (gives_up s.phase (alone s))
+    (asks_low s.phase (with_near (alone s) (record s { tries = s.tries + 1 })) h) (gives_low s.phase (alone s) h))
 
 pub connect_says_all : ConnectSaysAll
 connect_says_all c s h = off_says_all c.window (connects (alone s)) refl h
 
 pub disconnect_says_all : DisconnectSaysAll
-disconnect_says_all c s = off_says_all c.window (disconnects (alone s)) refl none_low
+disconnect_says_all c s = off_says_all c.window (disconnects c.disc_again (alone s)) refl none_low
 
 pub abandon_says_all : AbandonSaysAll
 abandon_says_all c s = off_says_all c.window (leaves Counts (alone s)) refl none_low

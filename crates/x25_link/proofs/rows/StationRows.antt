@@ -3,30 +3,30 @@ use Rattle.x25_link.proofs.Names.{◌≡◌, [], ◌∷◌, ◌++◌, true, fals
 use Rattle.x25_bits.specs.declared.role.Role.TheVariants.{Dte, Dce}
 use Rattle.x25_link.{proofs.Names.{row_of, row_of_frame, Down, alone, closed_by, when_down}, specs.Link.{put_step, timer_step}, specs.laws.RestLaw.{IsAtRest}}
 
+abbrev far : LinkSettings
+far = record { role = Dce; window = 7; longest = 4099; retries = 10; disc_again = false }
+
 -- an I frame with N(R) 1 where nothing was sent
-invalid_nr : (let s = row_of (record { role = Dce; window = 7; longest = 4099; retries = 10 }) (1 ∷ 32 ∷ []) (Ok (info 0 1 false [])) (alone fresh) in
+invalid_nr : (let s = row_of far (1 ∷ 32 ∷ []) (Ok (info 0 1 false [])) (alone fresh) in
     s.side.out) ≡ frmr false (32 ∷ 0 ∷ 8 ∷ []) ∷ []
 invalid_nr = refl
 
-gap : (let s = row_of_frame (record { role = Dce; window = 7; longest = 4099; retries = 10 }) [] (info 1 0 false (5 ∷ [])) (alone fresh) in s.side.out)
+gap : (let s = row_of_frame far [] (info 1 0 false (5 ∷ [])) (alone fresh) in s.side.out)
     ≡ rej false 0 false ∷ []
 gap = refl
 
-taken : (let s = closed_by 7 (row_of_frame (record { role = Dce; window = 7; longest = 4099; retries = 10 }) [] (info 0 0 false (5 ∷ [])) (alone fresh)) in
+taken : (let s = closed_by 7 (row_of_frame far [] (info 0 0 false (5 ∷ [])) (alone fresh)) in
     s.side.out) ≡ rr false 1 false ∷ []
 unfolding pumped
 taken = refl
 
-three : (let c : LinkSettings = record { role = Dte; window = 2; longest = 4099; retries = 10 } in
+three : (let c : LinkSettings = record far { role = Dte; window = 2 } in
     let a = put_step c (5 ∷ []) fresh in let b = put_step c (6 ∷ []) a.side.near in let d = put_step c (7 ∷ []) b.side.near in
     a.side.out ++ b.side.out ++ d.side.out) ≡ info 0 0 false (5 ∷ []) ∷ info 1 0 false (6 ∷ []) ∷ []
 unfolding pumped
 three = refl
 
 -- ---- a lost frame comes again: T1 runs out, the poll is answered by F=1, and the frame goes again
-
-abbrev far : LinkSettings
-far = record { role = Dce; window = 7; longest = 4099; retries = 10 }
 
 abbrev asked : LinkStep
 asked = timer_step far (put_step far (5 ∷ []) fresh).side.near

@@ -4,6 +4,7 @@ use Rattle.x25_link.proofs.Names.{length-append, arith, ◌+◌, ◌≤◌, ◌&
 use Rattle.x25_link.proofs.Names.{poll_or_final, frame_of, FrameError, Undefined, NoInfoAllowed, TooLong, Phase, Down, Waiting, Up, Closed, Reason, Retries}
 use Rattle.x25_link.proofs.Names.{Disc, Dm, FrmrSent, FrmrGot, Reset, Local, Counts, no_packet, LinkSettings, LinkStation, Side, is_up, with_near, sends, ready}
 use Rattle.x25_link.proofs.Names.{may_send, owes_ready, LinkStep, quiet, leaves, other, rejects, is_valid, acknowledged, is_taken, takes, hears_info, peer_is}
+use Rattle.x25_link.proofs.Names.{answered, gives_up, when_closed, Closing, Asked, Ending, ByUa, ByDm}
 use Rattle.x25_link.proofs.Names.{goes_back, polls, numbered, row_of_frame, row_of, alone, closed_by, hears, puts, asks_again, fires, disconnects, when_down}
 use Rattle.std.proofs.lemmas.Bool.{leb-true, eqb-true}
 use Rattle.x25_link.proofs.EndLemmas.{true_false, none_open, ended_stays}
@@ -187,14 +188,16 @@ timer_by true c s is running =
       hands_up = tt;
       quiet = refl;
     })))
-timer_by false c s is running = rw is (leaves_ends c.window Retries s refl refl)
+timer_by false c s is running =
+    rw is (subst (λ (p : Phase). Ends Retries (closed_by c.window (gives_up p (alone s)))) (sym (up_is s.phase running.up))
+    (leaves_ends c.window Retries s refl refl))
 
 pub timer_follows : TimerFollows
 timer_follows c s running = timer_by _ c s refl running
 
 pub disconnect_follows : DisconnectFollows
 disconnect_follows c s running =
-    let step : LinkStep = disconnects (alone s) in
+    let step : LinkStep = disconnects c.disc_again (alone s) in
     ends_from c.window Local step refl refl (record { frames = refl; packet = refl; phase = refl; outgoing = refl; taken = refl; noted = rw running.up refl })
 
 pub abandon_follows : AbandonFollows
@@ -227,13 +230,23 @@ down_out (sabm p) s h e = true_false e
 down_out (disc p) s h e = record { out = h; frames = tt; packet = refl; quiet = refl }
 down_out frame s h e = declines_out frame (is_command frame && poll_or_final frame) s h
 
+-- what a DISC awaits ends
+answered_out : (ending : Ending) (closing : Closing) (s : LinkStation) → IsOut s.phase → StaysOut (quiet (answered ending closing (alone s)))
+answered_out ending Asked s h = record { out = h; frames = tt; packet = refl; quiet = refl }
+answered_out ending closing s h = record { out = h; frames = tt; packet = refl; quiet = refl }
+
+closed_out : (frame : PlainFrame) (s : LinkStation) → IsOut s.phase → StaysOut (when_closed frame (alone s))
+closed_out (ua true) s h = answered_out ByUa s.closing s h
+closed_out (dm true) s h = answered_out ByDm s.closing s h
+closed_out frame s h = declines_out frame (is_command frame && poll_or_final frame) s h
+
 hears_out : (c : LinkSettings) (octets : List ℕ) (read : Result PlainFrame FrameError) (p : Phase) (s : LinkStation) → IsOut p → IsOut s.phase → sets_up read
     ≡ false
     → StaysOut (hears c octets read p (alone s))
 hears_out c octets (Ok frame) Down s h g e = down_out frame s g e
 hears_out c octets read Waiting s h g e = absurd h
 hears_out c octets read Up s h g e = absurd h
-hears_out c octets (Ok frame) Closed s h g e = declines_out frame _ s g
+hears_out c octets (Ok frame) Closed s h g e = closed_out frame s g
 hears_out c octets (Err x) p s h g e = record { out = g; frames = tt; packet = refl; quiet = refl }
 
 pub take_stays_out : TakeStaysOut
@@ -243,6 +256,6 @@ take_stays_out c octets s out e =
 
 pub disconnect_stays_out : DisconnectStaysOut
 disconnect_stays_out c s out =
-    let step : LinkStep = disconnects (alone s) in
+    let step : LinkStep = disconnects c.disc_again (alone s) in
     subst ClosesOut (sym (closed_stays c.window step refl refl))
     (record { phase = refl; frames = refl; packet = refl; quiet = rw (out_is_not_up s.phase out) refl })

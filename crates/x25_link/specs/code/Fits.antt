@@ -13,6 +13,7 @@ pub record FitsStation (c : LinkSettings) (v : StationCode) (s : LinkStation) : 
   pub role : v.role ≡ c.role
   pub longest : v.parameters.n1 ≡ c.longest
   pub retries : v.parameters.n2 ≡ c.retries
+  pub again : v.parameters.disc_again ≡ c.disc_again
   pub outgoing : FitsOutgoing c.window v.outgoing s.outgoing
   pub taken : FitsTaken v.receiver (length s.taken)
   pub phase : v.phase ≡ s.phase
@@ -21,6 +22,7 @@ pub record FitsStation (c : LinkSettings) (v : StationCode) (s : LinkStation) : 
   pub peer_busy : v.peer_busy ≡ s.peer_busy
   pub rejecting : v.rejecting ≡ s.rejecting
   pub said_busy : v.said_busy ≡ s.said_busy
+  pub closing : v.closing ≡ s.closing
 
 -- the frames made are those that were there before the step, and then those sent, as the octets that spell them
 abbrev pub Made : LinkSettings → List (List ℕ) → List (List ℕ) → List PlainFrame → Type 0

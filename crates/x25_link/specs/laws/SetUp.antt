@@ -1,14 +1,19 @@
 -- What a station does in set-up: connect, SABM and UA, and what comes while UA is awaited (section 2.4.4.1).
 use Rattle.std.specs.Prelude.{◌≡◌, ℕ, suc, nat_lt, Bool, true, false, if◌then◌else◌, List, [], ◌∷◌, Option, Some, None}
-use Rattle.std.specs.Prelude.{Result, Ok, Err}
+use Rattle.std.specs.Prelude.{Result, Ok, Err, ◌&&◌}
 use Rattle.x25_frame.specs.Frame.{PlainFrame, sabm, disc, ua, dm}
 use Rattle.x25_frame.specs.Reading.{frame_of}
+use Rattle.x25_frame.specs.Spelling.{is_command, poll_or_final}
 use Rattle.x25_frame.specs.declared.error.FrameError.{FrameError}
 use Rattle.x25_link.specs.declared.phase.Phase.{Phase}
 use Rattle.x25_link.specs.declared.phase.Phase.TheVariants.{Down, Waiting, Up, Closed}
 use Rattle.x25_link.specs.declared.phase.Reason.{Reason}
-use Rattle.x25_link.specs.declared.phase.Reason.TheVariants.{Retries, Reset}
-use Rattle.x25_link.specs.Station.{LinkSettings, LinkStation, fresh, with_nothing}
+use Rattle.x25_link.specs.declared.phase.Reason.TheVariants.{Retries, Reset, Local}
+use Rattle.x25_link.specs.declared.phase.Closing.{Closing}
+use Rattle.x25_link.specs.declared.phase.Closing.TheVariants.{Asked, Ended}
+use Rattle.x25_link.specs.declared.phase.Ending.{Ending}
+use Rattle.x25_link.specs.declared.phase.Ending.TheVariants.{ByUa, ByDm, GivenUp}
+use Rattle.x25_link.specs.Station.{LinkSettings, LinkStation, fresh, with_nothing, disconnected, is_up}
 use Rattle.x25_link.specs.Hearing.{LinkStep, other}
 use Rattle.x25_link.specs.Link.{take_step, timer_step, connect_step, disconnect_step, abandon_step, relink_step}
 
@@ -74,9 +79,39 @@ TimerWaits = (c : LinkSettings) (s : LinkStation) → s.phase ≡ Waiting →
     (if nat_lt s.tries c.retries then sabm true ∷ [] else [])
     (if nat_lt s.tries c.retries then None else Some Retries) false (timer_step c s)
 
-abbrev pub DisconnectWaits : Type 0
-DisconnectWaits = (c : LinkSettings) (s : LinkStation) → s.phase ≡ Waiting
-    → Is (with_nothing Closed s.tries) (disc true ∷ []) None false (disconnect_step c s)
+-- in each phase
+abbrev pub DisconnectCloses : Type 0
+DisconnectCloses = (c : LinkSettings) (s : LinkStation)
+    → Is (disconnected c.disc_again) (disc true ∷ []) (if is_up s.phase then Some Local else None) false
+    (disconnect_step c s)
+
+-- ---- a station that is closed: what comes, and timer T1 where it awaits the answer to a DISC (section 2.4.4.3)
+
+-- the answer that a DISC awaits ends that once, and none is awaited any more
+abbrev pub ended_by : Ending → Closing → LinkStation → LinkStation
+ended_by ending Asked s = record s { closing = Ended ending }
+ended_by ending closing s = s
+
+abbrev pub closed_after : Result PlainFrame FrameError → LinkStation → LinkStation
+closed_after (Ok (ua true)) s = ended_by ByUa s.closing s
+closed_after (Ok (dm true)) s = ended_by ByDm s.closing s
+closed_after (Ok frame) s = s
+closed_after (Err e) s = s
+
+abbrev pub closed_sends : Result PlainFrame FrameError → List PlainFrame
+closed_sends (Ok frame) = if is_command frame && poll_or_final frame then dm true ∷ [] else []
+closed_sends (Err e) = []
+
+abbrev pub TakeCloses : Type 0
+TakeCloses = (c : LinkSettings) (octets : List ℕ) (s : LinkStation) → s.phase ≡ Closed
+    → (read : Result PlainFrame FrameError) → read ≡ frame_of (other c.role) c.longest octets →
+    Is (closed_after read s) (closed_sends read) None false (take_step c octets s)
+
+-- DISC goes N2 times more
+abbrev pub TimerCloses : Type 0
+TimerCloses = (c : LinkSettings) (s : LinkStation) → s.phase ≡ Closed →
+    Is (if nat_lt s.tries c.retries then record s { tries = suc s.tries } else ended_by GivenUp s.closing s)
+    (if nat_lt s.tries c.retries then disc true ∷ [] else []) None false (timer_step c s)
 
 -- relink is abandon, and then connect
 pub record IsTwoSteps (c : LinkSettings) (s : LinkStation) : Type 0 where
@@ -92,4 +127,6 @@ pub record SetUpLaws : Type 0 where
   pub sets_up : TakeSetsUp
   pub connects : ConnectWaits
   pub timer : TimerWaits
-  pub disconnects : DisconnectWaits
+  pub disconnects : DisconnectCloses
+  pub closes : TakeCloses
+  pub timer_closes : TimerCloses

@@ -20,13 +20,18 @@ use Rattle.x25_peer.proofs.sessions.{SessionLinks.{Reach, acts_reach}, Standing.
 use Rattle.x25_peer.proofs.sessions.StationSteps.{AreSilent, followed, extended_here, goes, follows_on}
 use Rattle.x25_peer.specs.laws.BesideSessions.{stepped, acted, took, StationDoes, Asks, AsksWith, Connects, Disconnects, Probes, Relinks, Fires, Takes}
 use Rattle.x25_station.specs.Command.{may_ask, Connects as ConnectsCommand, Disconnects as DisconnectsCommand, Probes as ProbesCommand}
-use Rattle.x25_station.specs.{Command.{Relinks as RelinksCommand}, Config.{longest_packet}, Entry.{connect_asked, disconnect_asked, relink_asked}}
-use Rattle.x25_station.specs.{Giving.{suits}, Step.{Did, unless as refused_or, abandons, receives, requests, gives}, laws.GivenLaw.{GivesOctets}}
+use Rattle.x25_station.specs.{Command.{Relinks as RelinksCommand}, Config.{longest_packet}, Entry.{connect_asked, disconnect_asked, relink_asked, end_between, entries_ended}}
+use Rattle.x25_link.specs.declared.phase.Ending.{Ending}
+use Rattle.x25_station.specs.{Giving.{suits}, Step.{Did, unless as refused_or, abandons, ends, receives, requests, gives}, laws.GivenLaw.{GivesOctets}}
 use Rattle.x25_station.specs.laws.{JoinLaw.{station_with, IsJoined, MovesAs}, KeepLaw.{KeptBy}, ReadLaw.{RequestsOctets}}
 use Rattle.x25_line.specs.laws.Stations as line
 
 silent : AreSilent []
 silent = record { entries = refl; told = refl }
+
+ended_silent : (e : Option Ending) → AreSilent (entries_ended e)
+ended_silent None = record { entries = refl; told = refl }
+ended_silent (Some ending) = record { entries = refl; told = refl }
 
 module _ (below : Below) (c : Settings) (low : 1 ≤ c.window) (high : c.window ≤ 7) (few : c.channels.count ≤ 4095) (w : BesideSessions) (h : Stands c w) where
   abbrev lc : LinkSettings
@@ -145,15 +150,22 @@ module _ (below : Below) (c : Settings) (low : 1 ≤ c.window) (high : c.window 
 
   -- ---- octets come
 
+  -- the end of what a DISC awaits, which isn't the layer's
+  abbrev told_end : LinkStep → List StationEntry
+  told_end k = entries_ended (end_between w.near.link k.side.near)
+
+  end_silent : (k : LinkStep) → AreSilent (told_end k)
+  end_silent k = ended_silent (end_between w.near.link k.side.near)
+
   module _ (e : Entry) (rest : List Entry) (front : w.back ≡ e ∷ rest) where
     -- a count is full: the link is left, and the octets are lost
-    abandons_it : abandons c w.near ≡ true → Stands c (followed c w [] rest w.met (abandon_step lc w.near.link))
+    abandons_it : abandons c w.near ≡ true → Stands c (followed c w (told_end (abandon_step lc w.near.link)) rest w.met (abandon_step lc w.near.link))
     abandons_it full =
         let k = abandon_step lc w.near.link in
         let left = acts lc line.Abandon both in
         let kept : IsKept (follows c w.near k).near =
         subst (λ x. IsKept (follows c w.near (if x then k else take_step lc e.octets w.near.link)).near) full (below.takes c w.near e.octets h.kept) in
-        follows_on below c low high few w h [] silent rest w.met k (below.abandon_tells lc w.near.link) refl
+        follows_on below c low high few w h (told_end k) (end_silent k) rest w.met k (below.abandon_tells lc w.near.link) refl
         (acts lc (line.Lose 0) left) (acts_reach (line.Lose 0) left tt (acts_reach line.Abandon both tt h.link))
         (rw (sym (ap (λ es. remove es 0) front))
         (abandon_goes lc both w.near.link refl (and_parts (is_up w.near.link.phase) (is_full (layer_settings c) w.near.layer) full).0))
@@ -181,8 +193,8 @@ module _ (below : Below) (c : Settings) (low : 1 ≤ c.window) (high : c.window 
         (record { near = b; far = e.session }) w.met can
 
     module _ (not_full : abandons c w.near ≡ false) where
-      same : receives c w.near e.octets ≡ follows c w.near k
-      same = ap (λ x. follows c w.near (if x then abandon_step lc w.near.link else k)) not_full
+      same : receives c w.near e.octets ≡ ends c w.near k
+      same = ap (λ x. ends c w.near (if x then abandon_step lc w.near.link else k)) not_full
 
       kept : IsKept (follows c w.near k).near
       kept = subst (λ s. IsKept s.near) same (below.takes c w.near e.octets h.kept)
@@ -249,7 +261,7 @@ module _ (below : Below) (c : Settings) (low : 1 ≤ c.window) (high : c.window 
         abbrev two : TwoLayers
         two = record { near = ours; far = ours; out = way theirs ours.given; back = drop (length ups) (h.puts there) }
 
-        handed : Stands c (stepped c w b rest met (follows c w.near k))
+        handed : Stands c (stepped c w b rest met (ends c w.near k))
         handed =
             let at : ours.layer ≡ w.near.layer = at_now was_up in
             let free : abandons c (station_with w.near.link ours.layer w.near.turn) ≡ false =
@@ -257,7 +269,7 @@ module _ (below : Below) (c : Settings) (low : 1 ≤ c.window) (high : c.window 
             let j₀ = below.receive c w.near.link two w.near.turn e.octets o next.packet behind (h.each b).out next.front free some next.reads in
             let ms = HandsUp ∷ pulls_of j₀.0 in
             let v = moves_all (layer_settings c) two ms in
-            let j : IsJoined c two v k.side behind (follows c w.near k) =
+            let j : IsJoined c two v k.side behind (ends c w.near k) =
             subst (λ s. IsJoined c two v k.side behind s) (ap (λ l. receives c (station_with w.near.link l w.near.turn) e.octets) at ∙ same) j₀.2 in
             let ps = j.packets in
             let moved = moves_reached theirs.layer two ms (tt, tt, pulls_stay c.wide j₀.0) (h.pairs b there (could b there partner.1)) in
@@ -278,15 +290,15 @@ module _ (below : Below) (c : Settings) (low : 1 ≤ c.window) (high : c.window 
             (all_both (λ p. (p.near ≡ b → p.far ≡ there) × (p.far ≡ there → p.near ≡ b)) (λ p. (p.near ≡ b → p.far ≡ m) × (p.far ≡ m → p.near ≡ b)) met
             partner.1 can) has_met)) pair) kept
 
-        handed_up : Stands c (followed c w [] rest met k)
-        handed_up = subst (λ u. Stands c (stepped c w (begun_by u b) rest met (follows c w.near k))) (sym noted) handed
+        handed_up : Stands c (followed c w (told_end k) rest met k)
+        handed_up = subst (λ u. Stands c (stepped c w (begun_by u b) rest met (ends c w.near k))) (sym noted) handed
 
-      comes : Stands c (followed c w [] rest met k)
+      comes : Stands c (followed c w (told_end k) rest met k)
       comes = by k.packet refl
         where
-          by : (p : Option (List ℕ)) → k.packet ≡ p → Stands c (followed c w [] rest met k)
+          by : (p : Option (List ℕ)) → k.packet ≡ p → Stands c (followed c w (told_end k) rest met k)
           by (Some o) some = handed_up o some
-          by None none = follows_on below c low high few w h [] silent rest met k (below.take_tells lc e.octets w.near.link) none after
+          by None none = follows_on below c low high few w h (told_end k) (end_silent k) rest met k (below.take_tells lc e.octets w.near.link) none after
               reach_after taken could kept
 
     takes : Stands c (took c w e rest)
@@ -295,7 +307,7 @@ module _ (below : Below) (c : Settings) (low : 1 ≤ c.window) (high : c.window 
         took_as : Bool → Type 0
         took_as full =
             let x = if full then abandon_step lc w.near.link else k in
-            Stands c (stepped c w (begun_by x.notes.up w.begun) rest (if full then w.met else met) (follows c w.near x))
+            Stands c (stepped c w (begun_by x.notes.up w.begun) rest (if full then w.met else met) (ends c w.near x))
 
         by : (full : Bool) → abandons c w.near ≡ full → Stands c (took c w e rest)
         by true full = subst took_as (sym full) (abandons_it full)
@@ -329,7 +341,8 @@ module _ (below : Below) (c : Settings) (low : 1 ≤ c.window) (high : c.window 
       (λ none. relink_goes below.relinks lc both w.near.link refl (relinks_in_up w.near.link.phase none)) refl refl
       (λ none. below.relink_tells lc w.near.link) step is (below.command c w.near RelinksCommand h.kept)
   station_does (Fires step is due) =
-      by_link [] (timer_refusal w.near.link) (timer_step lc w.near.link) (acts lc line.T1 both) silent (acts_reach line.T1 both due h.link)
+      by_link (told_end (timer_step lc w.near.link)) (timer_refusal w.near.link) (timer_step lc w.near.link) (acts lc line.T1 both)
+      (end_silent (timer_step lc w.near.link)) (acts_reach line.T1 both due h.link)
       (act_goes lc both w.near.link line.T1 timer_refusal (timer_step lc) refl refl)
       (timer_silent lc w.near.link).0 (timer_silent lc w.near.link).1 (λ none. below.timer_tells lc w.near.link) step is (below.timer c w.near h.kept)
   station_does (Takes e rest front) = takes e rest front

@@ -1,6 +1,7 @@
 -- What stands in the midst of an input.
-use Rattle.std.specs.Prelude.{◌≡◌, ℕ, false, List, [], ◌++◌, Option}
+use Rattle.std.specs.Prelude.{◌≡◌, ℕ, Bool, false, List, [], ◌++◌, Option}
 use Rattle.std.specs.Io.KnownBytes.{Appends}
+use Rattle.x25_io.specs.Loose.{asked_lines, asked_text}
 use Rattle.x25_io.specs.code.LinesLead.{LinesEnded}
 use Rattle.x25_io.specs.code.Runs.{Program}
 use Rattle.x25_station.specs.Config.{Settings}
@@ -21,12 +22,14 @@ pub record WritesLines (c : Settings) (old now : Option (List ℕ)) (lines : Lis
   pub same : part ++ sayings_text c.role (turns c lines at).sayings ≡ sayings_text c.role whole.sayings
 
 -- the same, where a line has begun
-abbrev pub WritesEnded : Settings → Option (List ℕ) → Option (List ℕ) → List ℕ → Turn → Type 0
-WritesEnded c old now rest whole = LinesEnded (λ lines. WritesLines c old now lines whole) rest
+abbrev pub WritesEnded : Settings → Bool → Option (List ℕ) → Option (List ℕ) → List ℕ → Turn → Type 0
+WritesEnded c loose old now rest whole =
+    LinesEnded (λ lines. WritesLines c old now (asked_lines loose lines) whole) rest
 
-abbrev pub program : Settings → Program
-program c = record {
-  text = text_of c;
-  status = status_of c;
-  Ended = λ old now rest input. WritesEnded c old now rest (piped c input);
+-- with `loose` of what the lines of the input ask
+abbrev pub program : Settings → Bool → Program
+program c loose = record {
+  text = λ input. text_of c (asked_text loose input);
+  status = λ input. status_of c (asked_text loose input);
+  Ended = λ old now rest input. WritesEnded c loose old now rest (piped c (asked_text loose input));
 }

@@ -2,6 +2,7 @@
 use Rattle.std.specs.Prelude.{◌≡◌, ℕ, Bool, false, ◌||◌, List, [], ◌++◌, Option}
 use Rattle.std.specs.Io.KnownBytes.{Appends}
 use Rattle.x25_clock.specs.declared.times.Times.{Times}
+use Rattle.x25_io.specs.Loose.{asked_lines, asked_text}
 use Rattle.x25_io.specs.code.LinesLead.{LinesEnded}
 use Rattle.x25_io.specs.code.Runs.{Program}
 use Rattle.x25_station.specs.Config.{Settings}
@@ -35,12 +36,14 @@ pub record WritesTimed (c : Settings) (times : Times) (old now : Option (List �
   pub same : part ++ (timed_turns c times lines at).text ≡ whole.text
 
 -- the same, where a line has begun
-abbrev pub WritesTimedEnded : Settings → Times → Option (List ℕ) → Option (List ℕ) → List ℕ → TimedTurn → Type 0
-WritesTimedEnded c times old now rest whole = LinesEnded (λ lines. WritesTimed c times old now lines whole) rest
+abbrev pub WritesTimedEnded : Settings → Times → Bool → Option (List ℕ) → Option (List ℕ) → List ℕ → TimedTurn → Type 0
+WritesTimedEnded c times loose old now rest whole =
+    LinesEnded (λ lines. WritesTimed c times old now (asked_lines loose lines) whole) rest
 
-abbrev pub timed_program : Settings → Times → Program
-timed_program c times = record {
-  text = timed_text c times;
-  status = timed_status c times;
-  Ended = λ old now rest input. WritesTimedEnded c times old now rest (timed c times input);
+-- with `loose` of what the lines of the input ask
+abbrev pub timed_program : Settings → Times → Bool → Program
+timed_program c times loose = record {
+  text = λ input. timed_text c times (asked_text loose input);
+  status = λ input. timed_status c times (asked_text loose input);
+  Ended = λ old now rest input. WritesTimedEnded c times loose old now rest (timed c times (asked_text loose input));
 }

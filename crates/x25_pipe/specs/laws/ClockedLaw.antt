@@ -8,7 +8,7 @@ use Rattle.x25_station.specs.laws.TimerLaw.{StationEvent}
 use Rattle.x25_clock.specs.declared.due.Due.{Due}
 use Rattle.x25_clock.specs.declared.times.Times.{Times}
 use Rattle.x25_clock.specs.Clock.{due_of}
-use Rattle.x25_clock.specs.laws.ClockLaw.{Moment, Watched, watched}
+use Rattle.x25_clock.specs.laws.ClockLaw.{AreTrue, Moment, Watched, watched}
 use Rattle.x25_clock.specs.laws.PullLaw.{pull}
 use Rattle.x25_clock.specs.laws.WaitLaw.{Deed, Happens, IsAsked, outcome_of, all_done}
 use Rattle.x25_pipe.specs.Pipe.{event_act}
@@ -28,13 +28,15 @@ done_with_pull c times deed w = all_done c times (with_pull deed (outcome_of c d
 
 -- of an event that a line asks for
 abbrev pub EventIsDone : Type 0
-EventIsDone = (c : Settings) (times : Times) (event : StationEvent) (w : Timed) → c.window ≤ 7 → IsSettled c w.station
+EventIsDone = (c : Settings) (times : Times) (event : StationEvent) (w : Timed) (before : ℕ) → c.window ≤ 7
+    → IsSettled c w.station → before ≤ moment_of w.now → AreTrue c times (record (watched_in w) { now = before })
     → watched_in (act_turn c times w (event_act c w.station event)).next
     ≡ done_with_pull c times (Happens 0 event) (watched_in w)
 
 -- of what is told as due, and asked for
 abbrev pub DueIsDone : Type 0
-DueIsDone = (c : Settings) (times : Times) (due : Due) (w : Timed) → c.window ≤ 7 → IsSettled c w.station
+DueIsDone = (c : Settings) (times : Times) (due : Due) (w : Timed) (before : ℕ) → c.window ≤ 7
+    → IsSettled c w.station → before ≤ moment_of w.now → AreTrue c times (record (watched_in w) { now = before })
     → watched_in (insist_turn c times due (told_due times w)).next
     ≡ done_with_pull c times (IsAsked 0 due) (watched_in w)
 

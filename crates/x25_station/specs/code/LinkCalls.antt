@@ -8,7 +8,9 @@ use Rattle.x25_link.specs.Link.{disconnect_step, probe_refusal, relink_refusal, 
 use Rattle.x25_station.specs.declared.linking.LinkCall.{LinkCall}
 use Rattle.x25_station.specs.declared.linking.LinkCall.TheVariants.{Connect, Disconnect, Fire, Probe, Relink}
 use Rattle.x25_station.specs.Config.{Settings, link_settings}
-use Rattle.x25_station.specs.Entry.{StationEntry, connect_asked, disconnect_asked, relink_asked}
+use Rattle.x25_link.specs.declared.phase.Ending.{Ending}
+use Rattle.x25_station.specs.Entry.{StationEntry, connect_asked, disconnect_asked, relink_asked, end_between}
+use Rattle.x25_station.specs.Entry.{entries_ended}
 use Rattle.x25_station.specs.Station.{Station}
 use Rattle.x25_station.specs.Step.{Outcome, follows, led_by, unless}
 
@@ -25,12 +27,15 @@ step_of_call Disconnect c s = disconnect_step c s
 step_of_call Relink c s = relink_step c s
 step_of_call call c s = timer_step c s
 
-abbrev pub entries_asked : LinkCall → List StationEntry
-entries_asked Connect = connect_asked ∷ []
-entries_asked Disconnect = disconnect_asked ∷ []
-entries_asked Relink = relink_asked ∷ []
-entries_asked call = []
+-- the entry of a command, and at a firing of T1 the end of what a DISC awaits
+abbrev pub entries_called : LinkCall → Option Ending → List StationEntry
+entries_called Connect ending = connect_asked ∷ []
+entries_called Disconnect ending = disconnect_asked ∷ []
+entries_called Relink ending = relink_asked ∷ []
+entries_called Fire ending = entries_ended ending
+entries_called Probe ending = []
 
 abbrev pub calls_link : LinkCall → Settings → Station → Outcome
-calls_link call c s = unless (link_refusal call s.link)
-    (led_by (entries_asked call) (follows c s (step_of_call call (link_settings c) s.link)))
+calls_link call c s =
+    let k : LinkStep = step_of_call call (link_settings c) s.link in
+    unless (link_refusal call s.link) (led_by (entries_called call (end_between s.link k.side.near)) (follows c s k))

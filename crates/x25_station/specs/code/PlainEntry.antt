@@ -18,7 +18,7 @@ use Rattle.x25_station.specs.declared.lent.Lent.{Lent}
 use Rattle.x25_station.specs.Entry.{StationEntry, of_channel, restart_asked, connect_asked, disconnect_asked}
 use Rattle.x25_station.specs.Entry.{relink_asked, link_up}
 use Rattle.x25_station.specs.Entry.{link_down, was_restarted, restart_confirmed, at_fault, came_beside, was_diagnosed}
-use Rattle.x25_station.specs.Entry.{was_confirmed}
+use Rattle.x25_station.specs.Entry.{was_confirmed, disconnected}
 
 abbrev pub plain_name : Stretch → Name
 plain_name s = record { restarts = s.restarts; clears = s.clears; resets = s.resets }
@@ -59,6 +59,7 @@ plain_entry lent code.DisconnectAsked = disconnect_asked
 plain_entry lent code.RelinkAsked = relink_asked
 plain_entry lent code.LinkUp = link_up
 plain_entry lent (code.LinkDown reason) = link_down reason
+plain_entry lent (code.Disconnected ending) = disconnected ending
 plain_entry lent (code.WasRestarted cause diagnostic) = was_restarted cause diagnostic
 plain_entry lent code.RestartDone = restart_confirmed
 plain_entry lent (code.Fault diagnostic) = at_fault diagnostic

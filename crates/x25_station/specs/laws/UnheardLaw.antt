@@ -11,7 +11,7 @@ use Rattle.x25_station.specs.Timer.{runs, tells_link}
 use Rattle.x25_station.specs.laws.TimerLaw as timer
 use Rattle.x25_station.specs.laws.TimerLaw.{Comes, Asks, Fires}
 
--- the phases in which T1 may run
+-- UA is awaited, or the link is up
 abbrev pub MayAsk : Phase → Type 0
 MayAsk Down = ⊥
 MayAsk Waiting = Unit {0}

@@ -1,7 +1,7 @@
 -- What leads on where the other end doesn't answer (profile): an interrupt that isn't confirmed is reset, what else
 -- isn't answered is cleared, then all is restarted, then the link is set up anew, and that ends, up or down. No clause
 -- speaks of what the other end does.
-use Rattle.std.specs.Prelude.{◌≡◌, ℕ, suc, ◌+◌, ◌<◌, ◌≤◌, ◌⊎◌, Bool, true, false, [], ◌∷◌}
+use Rattle.std.specs.Prelude.{◌≡◌, ℕ, suc, ◌+◌, ◌<◌, ◌≤◌, ◌⊎◌, Bool, true, false, [], ◌∷◌, Some, None}
 use Rattle.x25_link.specs.declared.phase.Phase.{Phase}
 use Rattle.x25_link.specs.declared.phase.Phase.TheVariants.{Down, Waiting, Up, Closed}
 use Rattle.x25_link.specs.declared.phase.Reason.TheVariants.{Local, Retries}
@@ -13,7 +13,7 @@ use Rattle.x25_circuit.specs.declared.awaits.Awaits.TheVariants.{ClearConfirmati
 use Rattle.x25_circuit.specs.Calling.{Clears, Resets}
 use Rattle.x25_layer.specs.Layer.{rested}
 use Rattle.x25_layer.specs.Calls.{Asks, Restarts}
-use Rattle.x25_layer.specs.code.FitsLayer.{awaited_at}
+use Rattle.x25_layer.specs.code.FitsLayer.{awaited_at, unacknowledged_at}
 use Rattle.x25_station.specs.Command.{Requests, Relinks}
 use Rattle.x25_station.specs.Config.{Settings, layer_settings}
 use Rattle.x25_station.specs.Entry.{relink_asked, link_down}
@@ -50,6 +50,14 @@ rank c s h = rank_of s.link.phase s.layer.restarting (awaited_at (layer_settings
 abbrev pub ResetLeadsOn : Type 0
 ResetLeadsOn = (c : Settings) (s : Station) (h : ℕ) → rank c s h ≡ 5 → waits s.link.outgoing < 256
     → (step : Step) × (commands c s (Requests (Asks h (Resets 0 0))) ≡ Did step) × (rank c step.near h ≡ 4)
+
+-- Where a data packet isn't acknowledged, while the other end is ready to receive, `reset` is accepted too, but for 256
+-- packets that wait in the link, and then none is: the stretch ends.
+abbrev pub RotationLeadsOn : Type 0
+RotationLeadsOn = (c : Settings) (s : Station) (h n : ℕ) → is_up s.link.phase ≡ true
+    → unacknowledged_at (layer_settings c) s.layer h ≡ Some n → waits s.link.outgoing < 256
+    → (step : Step) × (commands c s (Requests (Asks h (Resets 0 146))) ≡ Did step)
+    × (unacknowledged_at (layer_settings c) step.near.layer h ≡ None)
 
 -- Where a call or a reset isn't answered `clear` is accepted, but for 256 packets that wait in the link.
 abbrev pub ClearLeadsOn : Type 0

@@ -1,4 +1,5 @@
 -- What entries that an end's step adds say of its sessions, and of whom they meet.
+use Rattle.x25_station.specs.Entry.{disconnected}
 use Rattle.x25_world.proofs.Names.{◌≡◌, ℕ, zero, suc, ◌+◌, ◌≤◌, ◌==◌, List, [], ◌∷◌, ◌++◌, inl, Bool, true, false, if◌then◌else◌, Option, Some, None, Ok, refl}
 use Rattle.x25_world.proofs.Names.{sym, ap, ap₂, ◌∙◌, subst, append_assoc, append-nil, arith, eqb-true, cond_both, Name, both, same_name, Role, Dte, Dce}
 use Rattle.x25_world.proofs.Names.{PlainPacket, restart, restart_conf, channel_of, Answer, answers, LayerSettings, Layer, LayerNotice, is_channel, answers_on}
@@ -175,6 +176,7 @@ elsewhere_met n here there (e ∷ entries) plain out =
     at_one relink_asked h = refl
     at_one link_up h = refl
     at_one (link_down reason) h = refl
+    at_one (disconnected ending) h = refl
     at_one (was_restarted cause diagnostic) h = ap (λ b. if b then Some there.begun else None) out
     at_one restart_confirmed h = refl
     at_one (at_fault diagnostic) h = refl
@@ -190,6 +192,7 @@ IsMute disconnect_asked = Unit {0}
 IsMute relink_asked = Unit {0}
 IsMute link_up = Unit {0}
 IsMute (link_down reason) = Unit {0}
+IsMute (disconnected ending) = Unit {0}
 IsMute entry = ⊥
 
 -- all these are of the link or of its commands
@@ -216,6 +219,7 @@ mute_tell (e ∷ entries) h = by e h.0 (mute_tell entries h.1)
     by relink_asked is t = record { entered = t.entered; told = t.told; beside = t.beside; confirmed = λ k name. none_more _ (t.confirmed k name) }
     by link_up is t = record { entered = t.entered; told = t.told; beside = t.beside; confirmed = λ k name. none_more _ (t.confirmed k name) }
     by (link_down reason) is t = record { entered = t.entered; told = t.told; beside = t.beside; confirmed = λ k name. none_more _ (t.confirmed k name) }
+    by (disconnected ending) is t = record { entered = t.entered; told = t.told; beside = t.beside; confirmed = λ k name. none_more _ (t.confirmed k name) }
     by e is t = absurd is
 
 -- of these, those of a session

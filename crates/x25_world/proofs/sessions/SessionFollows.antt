@@ -1,4 +1,6 @@
 -- A step of the link that hands nothing up: nothing is noted; or LinkDown; or LinkUp, by which a session begins.
+use Rattle.x25_link.specs.declared.phase.Ending.{Ending}
+use Rattle.x25_station.specs.Entry.{disconnected, entries_ended}
 use Rattle.x25_world.proofs.Names.{◌≡◌, ℕ, suc, List, [], ◌∷◌, ◌++◌, Bool, true, false, Option, Some, None, refl, sym, ap, ap₂, ◌∙◌, subst, arith, Role}
 use Rattle.x25_world.proofs.Names.{restart, IsQuiet, Meeting, Sessions, begun_by, octets_of, OnlyBegunHaveLists, LayerSettings, Layer, rested, restart_cause}
 use Rattle.x25_world.proofs.Names.{goes_up, LinkView, started, own_run, Cfg, Settings, settings_from, StationEntry, connect_asked, disconnect_asked}
@@ -12,12 +14,13 @@ use Rattle.x25_world.proofs.sessions.{SessionJoined.{HasMet, PairsAreInOrder, Se
 use Rattle.x25_world.proofs.sessions.{SessionReaches.{Asked, known_sessions}, SessionTrace.{layer_of, own, TakeNothing}}
 use Rattle.x25_line.specs.laws.Sessions as links
 
--- the command that a step is of, if it is one of the link
+-- the command that a step is of, if it is one of the link, or what it ends that a DISC awaits, if anything
 pub data Lead : Type 0 where
   no_command : Lead
   connect : Lead
   disconnect : Lead
   relink : Lead
+  ended : (ending : Option Ending) → Lead
 
 -- its entry comes first
 abbrev pub lead_of : Lead → List StationEntry
@@ -25,6 +28,7 @@ lead_of no_command = []
 lead_of connect = connect_asked ∷ []
 lead_of disconnect = disconnect_asked ∷ []
 lead_of relink = relink_asked ∷ []
+lead_of (ended ending) = entries_ended ending
 
 -- ---- entries that aren't the layer's
 
@@ -44,6 +48,9 @@ quiet_silent : (lead : Lead) (p : Progress) (still : Bool) → p.stands ≡ stil
 quiet_silent no_command p still same = record { progress = ap (λ b. record { begun = p.begun; stands = b }) same; mute = tt; later = λ n differs. refl }
 quiet_silent connect p still same = asked_silent p p still connect_asked (ap (λ b. record { begun = p.begun; stands = b }) same) (λ n. refl) (tt, tt)
 quiet_silent disconnect p still same = asked_silent p p still disconnect_asked (ap (λ b. record { begun = p.begun; stands = b }) same) (λ n. refl) (tt, tt)
+quiet_silent (ended None) p still same = record { progress = ap (λ b. record { begun = p.begun; stands = b }) same; mute = tt; later = λ n differs. refl }
+quiet_silent (ended (Some ending)) p still same =
+    asked_silent p p still (disconnected ending) (ap (λ b. record { begun = p.begun; stands = b }) same) (λ n. refl) (tt, tt)
 quiet_silent relink p still same = asked_silent p p still relink_asked (ap (λ b. record { begun = p.begun; stands = b }) same) (λ n. refl) (tt, tt)
 
 -- LinkDown alone
@@ -51,6 +58,8 @@ down_silent : (lead : Lead) (p : Progress) (reason : Reason) → IsSilent p (rec
 down_silent no_command p reason = record { progress = refl; mute = (tt, tt); later = λ n differs. refl }
 down_silent connect p reason = asked_silent p p false connect_asked refl (λ n. refl) (tt, (tt, tt))
 down_silent disconnect p reason = asked_silent p p false disconnect_asked refl (λ n. refl) (tt, (tt, tt))
+down_silent (ended None) p reason = record { progress = refl; mute = (tt, tt); later = λ n differs. refl }
+down_silent (ended (Some ending)) p reason = asked_silent p p false (disconnected ending) refl (λ n. refl) (tt, (tt, tt))
 down_silent relink p reason = asked_silent p p false relink_asked refl (λ n. refl) (tt, (tt, tt))
 
 -- LinkUp, after LinkDown or alone

@@ -13,5 +13,5 @@ returns c =
       event = event;
       due = due_is_done station.pulled station.stays heeded;
       nothing = nothing_is_due;
-      watched = pipe_is_watched event station.new station.stays;
+      watched = pipe_is_watched event station.new station.stays c.awaited_deadlines_are_true.ensures.so c.awaited_deadlines_are_true.ensures.stays;
     }

@@ -1,4 +1,4 @@
-use Rattle.x25_station.proofs.{KeepLemmas.{LinkLaws}, StillLemmas.{reset_leads_on, clear_leads_on, restart_leads_on, nothing_leads_back, end_is_told}}
+use Rattle.x25_station.proofs.{KeepLemmas.{LinkLaws}, StillLemmas.{reset_leads_on, rotation_leads_on, clear_leads_on, restart_leads_on, nothing_leads_back, end_is_told}}
 use Rattle.x25_station.proofs.WayOutLemmas.{relink_leads_on, firing_leads_on}
 use Rattle.x25_station.proofs.law.ways_out_lead_on.Goals as goal
 
@@ -19,6 +19,7 @@ known c = record {
 pub returns : goal.returns
 returns c = record {
   reset = reset_leads_on (known c).put;
+  rotation = rotation_leads_on (known c).put;
   clear = clear_leads_on (known c).put;
   restart = restart_leads_on (known c).put;
   relink = relink_leads_on c.sets_up_by_rows.ensures.connects c.sets_up_by_rows.ensures.relinks;

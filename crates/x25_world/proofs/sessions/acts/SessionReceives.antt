@@ -13,7 +13,9 @@ use Rattle.x25_peer.proofs.sessions.LinkSteps.{deliver_goes, abandon_goes}
 use Rattle.x25_station.specs.{Step.{abandons}, laws.JoinLaw.{IsJoined}}
 use Rattle.x25_world.proofs.{Growing.{read_by, all_read, is_read, as_read, first_read, FrontEntry, front_entry}, Known.{IsConfigured, true_false}}
 use Rattle.x25_world.proofs.{Names.{remove, IsQuiet}, sessions.SessionBeside.{spelled_bring}, sessions.SessionCounts.{counted_at, counted_by, counted_in}}
-use Rattle.x25_world.proofs.sessions.{SessionEntries.{heard_plain, heard_beside, heard_confirms}, SessionFollows.{no_command, follows_silent, follows_up}}
+use Rattle.x25_world.proofs.sessions.{SessionEntries.{heard_plain, heard_beside, heard_confirms}, SessionFollows.{no_command, ended, follows_silent, follows_up}}
+use Rattle.x25_station.proofs.EndsLemmas.{fresh_ends, up_ends}
+use Rattle.x25_station.specs.{Entry.{end_between}, Step.{ends}}
 use Rattle.x25_world.proofs.sessions.SessionGoes.{here_extended}
 use Rattle.x25_world.proofs.sessions.SessionJoined.{HasMet, PairIsInOrder, PairsAreInOrder, SessionsJoined, Goes, gave_none, stays}
 use Rattle.x25_world.proofs.sessions.SessionKnown.{met_in_order, pair_ends, here_in, here_is, there_is, own_order, own_first, nothing_in_order}
@@ -125,14 +127,14 @@ module _ (laws : SessionLaws) (cfg : Cfg) (fine : IsConfigured cfg) (end : Role)
     abbrev gone : Sessions
     gone = links.acts lc (line.Lose 0) (links.acts lc line.Abandon h.links)
 
-    abandoned : abandons ours w.near ≡ true → IsKept (follows ours w.near (abandon_step lc w.near.link)).near
-        → To (after_step ours w back (follows ours w.near (abandon_step lc w.near.link)))
+    abandoned : abandons ours w.near ≡ true → IsKept (ends ours w.near (abandon_step lc w.near.link)).near
+        → To (after_step ours w back (ends ours w.near (abandon_step lc w.near.link)))
     abandoned full kept =
         let c = link_of cfg end in
         let up : is_up w.near.link.phase ≡ true = (and_parts (is_up w.near.link.phase) (is_full (layer_settings ours) w.near.layer) full).0 in
         let k = abandon_step c w.near.link in
-        subst (λ os. To (after_step ours w os (follows ours w.near k))) (ap (λ es. octets_of (remove es 0)) came.is ∙ came.left)
-        (follows_silent Receives laws cfg fine end w h no_command (remove h.links.back 0) k gone h.links.met h.pairs (λ n m has. has)
+        subst (λ os. To (after_step ours w os (ends ours w.near k))) (ap (λ es. octets_of (remove es 0)) came.is ∙ came.left)
+        (follows_silent Receives laws cfg fine end w h (ended (end_between w.near.link k.side.near)) (remove h.links.back 0) k gone h.links.met h.pairs (λ n m has. has)
         (laws.stations.abandon_tells c w.near.link) (abandon_goes c h.links w.near.link h.near.link up)
         (record {
           asked = line.Abandon ∷ line.Lose 0 ∷ [];
@@ -313,7 +315,7 @@ module _ (laws : SessionLaws) (cfg : Cfg) (fine : IsConfigured cfg) (end : Role)
           (ap (λ l. abandons c (station_with w.near.link l w.near.turn)) now.layer ∙ none) some in_front.reads in
           let is : receives c (station_with w.near.link own_here.layer w.near.turn) octets ≡ step =
           ap (λ l. receives c (station_with w.near.link l w.near.turn) octets) now.layer
-          ∙ ap (λ b. follows c w.near (if b then abandon_step lc w.near.link else taken)) none in
+          ∙ ap (λ b. ends c w.near (if b then abandon_step lc w.near.link else taken)) none ∙ up_ends c w.near taken up in
           (j.0, subst (λ s. IsJoined c begin (world_on j.0) taken.side [] s) is j.2)
 
       joined_readable : (none : abandons ours w.near ≡ false) → AreReadable cfg.wide cfg.long_data (joined_on none).1.packets
@@ -364,27 +366,31 @@ module _ (laws : SessionLaws) (cfg : Cfg) (fine : IsConfigured cfg) (end : Role)
 
     -- ---- all that may come
 
-    takes_joined : abandons ours w.near ≡ false → IsKept (follows ours w.near taken).near
-        → To (after_step ours w (octets_of came.others) (follows ours w.near taken))
+    takes_joined : abandons ours w.near ≡ false → IsKept (ends ours w.near taken).near
+        → To (after_step ours w (octets_of came.others) (ends ours w.near taken))
     takes_joined none kept = by taken.notes.up taken.packet refl refl
       where
         by : (up : Bool) (o : Option (List ℕ)) → taken.notes.up ≡ up → taken.packet ≡ o
-            → To (after_step ours w (octets_of came.others) (follows ours w.near taken))
+            → To (after_step ours w (octets_of came.others) (ends ours w.near taken))
         by true None up is =
-            follows_up Receives laws cfg fine end w h no_command came.others taken after_taken after_taken.met met_taken.pairs met_taken.more
-            (laws.stations.take_tells lc octets w.near.link) goes_taken asks_taken up is kept
+            subst (λ s. To (after_step ours w (octets_of came.others) s))
+            (sym (fresh_ends ours w.near taken ((laws.stations.take_tells lc octets w.near.link).fresh_up up)))
+            (follows_up Receives laws cfg fine end w h no_command came.others taken after_taken after_taken.met met_taken.pairs met_taken.more
+            (laws.stations.take_tells lc octets w.near.link) goes_taken asks_taken up is kept)
         by true (Some packet_octets) up is =
             true_false (sym up ∙ ap (λ n. n.up) ((laws.stations.take_hands_up lc octets w.near.link).quiet packet_octets is))
         by false None up is =
-            follows_silent Receives laws cfg fine end w h no_command came.others taken after_taken after_taken.met met_taken.pairs met_taken.more
+            follows_silent Receives laws cfg fine end w h (ended (end_between w.near.link taken.side.near)) came.others taken after_taken after_taken.met met_taken.pairs met_taken.more
             (laws.stations.take_tells lc octets w.near.link) goes_taken (asks_taken []) up is kept
-        by false (Some packet_octets) up is = handed up packet_octets is none kept
+        by false (Some packet_octets) up is =
+            let was_up = ap is_up ((laws.stations.take_hands_up lc octets w.near.link).up packet_octets is) in
+            subst (λ s. To (after_step ours w (octets_of came.others) s)) (sym (up_ends ours w.near taken was_up)) (handed up packet_octets is none kept)
 
     came_joined : To (after_step ours w back (receives ours w.near octets))
     came_joined = by (abandons ours w.near) refl (laws.stations.receive_keeps ours w.near octets h.near.kept)
       where
         step : Bool → Step
-        step b = follows ours w.near (if b then abandon_step lc w.near.link else taken)
+        step b = ends ours w.near (if b then abandon_step lc w.near.link else taken)
 
         by : (b : Bool) → abandons ours w.near ≡ b → IsKept (step b).near → To (after_step ours w back (step b))
         by true is kept = abandoned is kept

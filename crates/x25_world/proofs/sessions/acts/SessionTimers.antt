@@ -16,7 +16,8 @@ use Rattle.x25_link.specs.laws.NoteLaw.{Tells}
 use Rattle.x25_peer.proofs.{Granted.{connects_in_down, relinks_in_up}, sessions.LinkSteps.{act_goes, probe_acts, relink_goes}}
 use Rattle.x25_station.specs.Step.{connects, disconnects, probes, relinks}
 use Rattle.x25_world.proofs.Known.{IsConfigured, true_false}
-use Rattle.x25_world.proofs.sessions.{SessionBeside.{none_more}, SessionFollows.{Lead, no_command, connect, disconnect, relink, lead_of, follows_silent}}
+use Rattle.x25_world.proofs.sessions.{SessionBeside.{none_more}, SessionFollows.{Lead, no_command, connect, disconnect, relink, ended, lead_of, follows_silent}}
+use Rattle.x25_station.specs.Entry.{end_between}
 use Rattle.x25_world.proofs.sessions.{SessionJoined.{SessionsJoined, Goes, gave_none, stays}, SessionReaches.{Leads, Asked, reach_on}}
 use Rattle.x25_world.specs.{SetUp.{is_a}, World.{lost}, declared.set_up.SetUpFrame.{SetUpFrame}}
 use Rattle.x25_bits.specs.Role as bits
@@ -162,7 +163,7 @@ module _ (laws : SessionLaws) {cfg : Cfg} (fine : IsConfigured cfg) {end : Role}
           → To Fires (after w (if b then Declined error.OnLine else of_station ours w (fires ours w.near)))
       by true is = stays h gave_none
       by false is =
-          act_joined no_command line.T1 timer_refusal (timer_step lc) refl (laws.hands lc lc (line.Near line.T1) h.links).0.begun (is_timely is)
+          act_joined (ended (end_between w.near.link (timer_step lc w.near.link).side.near)) line.T1 timer_refusal (timer_step lc) refl (laws.hands lc lc (line.Near line.T1) h.links).0.begun (is_timely is)
           (λ are. are) tt (timer_silent lc w.near.link).0 (λ accepted. laws.stations.timer_tells lc w.near.link)
           (laws.stations.timer_keeps ours w.near h.near.kept)
 

@@ -11,6 +11,7 @@ none_come : (d : Due) → false ≡ comes (event_for d)
 none_come due.T1 = refl
 none_come due.Probe = refl
 none_come (due.Reset h) = refl
+none_come (due.ResetUnacknowledged h) = refl
 none_come (due.Clear h) = refl
 none_come (due.Restart h) = refl
 none_come due.Relink = refl

@@ -6,7 +6,7 @@ pub returns-then-self-clause-step : goal.returns-then-self-clause-step
 returns-then-self-clause-step c = λ d before t fits.
     let near = fits.near in
     let last : nat_lt t.near.tries d.retries ≡ false = le-ltb _ _ (omega arith) in
-    rw last (c.leave.ensures.step d before _ t fits)
+    rw last (c.give_up.ensures.step d before _ t fits)
 
 pub returns-clause-step : goal.returns-clause-step
 returns-clause-step c = λ d before t fits.

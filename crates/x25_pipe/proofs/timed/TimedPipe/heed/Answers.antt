@@ -1,6 +1,6 @@
 use Rattle.std.proofs.Common.{◌≡◌, ◌∙◌, Bool, ap, ap₂}
 use Rattle.x25_clock.specs.Clock.{Seen, is_heard, seen}
-use Rattle.x25_layer.specs.code.FitsLayer.{awaited_at}
+use Rattle.x25_layer.specs.code.FitsLayer.{awaited_at, unacknowledged_at}
 use Rattle.x25_station.specs.Config.{layer_settings}
 use Rattle.x25_station.specs.Station.Told.{is_at_rest}
 use Rattle.x25_station.specs.Timer.{tells_link}
@@ -19,6 +19,7 @@ returns c = λ k times old now w told refused a h deadlines is_times channels ti
       noted = noted;
       heard = heard;
       awaited = λ h. awaited_at (layer_settings k) a.next.layer h;
+      unacknowledged = λ h. unacknowledged_at (layer_settings k) a.next.layer h;
     } in
     let same : seen k a.next step c.args.self.now.pipe.has_come ≡ seen_at k a =
     ap (λ t. by t (tells_link step.entries.items) (is_heard c.args.self.now.pipe.has_come step.frames step.entries.items)) h.timer

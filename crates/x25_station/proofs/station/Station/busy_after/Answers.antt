@@ -6,3 +6,9 @@ returns-clause-between c = λ d s fits. c.busy_after.ensures.between (layer_sett
 
 pub returns-clause-none : goal.returns-clause-none
 returns-clause-none c = λ d s fits. c.busy_after.ensures.none (layer_settings d) s.layer fits.layer
+
+pub returns-clause-acknowledged : goal.returns-clause-acknowledged
+returns-clause-acknowledged c = λ d s fits. c.busy_after.ensures.acknowledged (layer_settings d) s.layer fits.layer
+
+pub returns-clause-all_acknowledged : goal.returns-clause-all_acknowledged
+returns-clause-all_acknowledged c = λ d s fits. c.busy_after.ensures.all_acknowledged (layer_settings d) s.layer fits.layer

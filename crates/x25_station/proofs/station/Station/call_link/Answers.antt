@@ -3,13 +3,16 @@ use Rattle.x25_link.specs.declared.heard.Heard.{Heard}
 use Rattle.x25_station.proofs.{AskLemmas.{taken_link}, DoesLemmas.{declines}, DownLemmas.{call_down, leaves_down, frames_down, entries_noted_down}}
 use Rattle.x25_station.proofs.{KeepLemmas.{call_kept}, Names.{follows, led_by, AreMeant, FitsParts, calls_link, link_refusal, step_of_call, LinkCall}}
 use Rattle.x25_station.proofs.OutcomeLemmas.{leaves_some, still_meant, sends_unless, enters_unless, goes, refused, call_named, goes_only, refused_only}
-use Rattle.x25_station.specs.code.LinkCalls.{entries_asked}
+use Rattle.x25_station.proofs.Names.{ap₂, Bool, Closing, LinkStep, end_between, end_if}
+use Rattle.x25_station.specs.code.LinkCalls.{entries_called}
 use Rattle.x25_station.specs.declared.step.Step as code_step
 use Rattle.x25_station.proofs.station.Station.call_link.Goals as goal
 
 -- what it does where the link doesn't refuse it
 abbrev does : LinkCall → Settings → Station → Step
-does call c s = led_by (entries_asked call) (follows c s (step_of_call call (link_settings c) s.link))
+does call c s =
+    let k : LinkStep = step_of_call call (link_settings c) s.link in
+    led_by (entries_called call (end_between s.link k.side.near)) (follows c s k)
 
 pub invariant_of-self : goal.invariant_of-self
 invariant_of-self c = record {
@@ -55,9 +58,11 @@ returns-in-Ok-clause-does c =
       entries = λ c' s fits.
           let k = step_of_call c.args.call (link_settings c') s.link in
           enters_unless r (link_refusal c.args.call s.link) (does c.args.call c' s)
-          (entries_noted_down s k (entries_asked c.args.call) _ _ (follows c' s k) (call_down c.args.call c' s s.link)
+          (entries_noted_down s k (entries_called c.args.call (end_between s.link k.side.near)) _ _ (follows c' s k) (call_down c.args.call c' s s.link)
           (ap (λ n. n.down) (c.in-Ok.ensures.heard (link_settings c') s.link fits.link).notes)
-          (c.note_down.ensures.entries ∙ ap (λ es. es ++ entries_down c.in-Ok.heard.notes.down) c.enter_call.ensures));
+          (c.note_down.ensures.entries ∙ ap (λ es. es ++ entries_down c.in-Ok.heard.notes.down) (c.enter_call.ensures
+          ∙ ap₂ (λ (b : Bool) (x : Closing). entries_called c.args.call (end_if b x)) (c.is_closing-awaited.ensures (link_settings c') s.link fits.link)
+          (c.closing.ensures (link_settings c') k.side.near (c.in-Ok.ensures.state (link_settings c') s.link fits.link)))));
       refused = λ c' s fits.
           goes _ (link_refusal c.args.call s.link) (does c.args.call c' s) (c.in-Ok.ensures.refused (link_settings c') s.link fits.link);
       stays = λ c' s fits. tt;

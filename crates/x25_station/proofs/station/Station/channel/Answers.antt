@@ -17,5 +17,8 @@ returns-clause-few c = c.room.ensures.few
 pub returns-clause-unconfirmed : goal.returns-clause-unconfirmed
 returns-clause-unconfirmed c = λ d s fits. c.unconfirmed.ensures (layer_settings d) s.layer fits.layer
 
+pub returns-clause-unacknowledged : goal.returns-clause-unacknowledged
+returns-clause-unacknowledged c = λ d s fits. c.unacknowledged.ensures (layer_settings d) s.layer fits.layer
+
 pub returns-clause-stretch : goal.returns-clause-stretch
 returns-clause-stretch c = c.stretch.ensures

@@ -4,7 +4,7 @@ use Rattle.x25_station.specs.{Receiving.{PutsBehind}, Step.{layer_at}}
 use Rattle.x25_layer.specs.Full.{IsNotFull}
 use Rattle.x25_station.proofs.{FrameLemmas.{few_heard}, Names.{layer_settings, CanPut, kept_of, all_put, receives}, OutcomeLemmas.{still_meant}}
 use Rattle.x25_station.proofs.TakeLemmas.{up_can_put, handed_can_put, handed_was_up, put_by_meaning, least_by_meaning, up_by_meaning, few_made, if_some}
-use Rattle.x25_station.proofs.TookLemmas.{abandoned, not_abandoned, not_full, and_left, put_behind, took_fits, took_sends, took_enters, took_acknowledged}
+use Rattle.x25_station.proofs.TookLemmas.{abandoned, is_open, not_full, and_left, put_behind, took_fits, took_sends, took_enters, took_acknowledged}
 use Rattle.x25_station.proofs.station.Station.receive.Goals as goal
 
 pub abandon-acknowledged-requires-clause-up : goal.abandon-acknowledged-requires-clause-up
@@ -51,8 +51,8 @@ invariant_of-self-2 c = record {
         (receives c' s c.args.octets.now).near,
         took_fits c' fits.same s c.args.octets.now (option_copied c.hear-heard.result.packet) c.hear-heard.result.notes c.follow.new.link
             c.swap_frames.new.self c.follow.new.layer
-            (not_abandoned c' s (c.is_up.ensures.state (link_settings c') s.link fits.link) (c.full.ensures.value (layer_settings c') s.layer fits.layer)
-            c.if-is_up-full.false) (heard.packet, heard.notes)
+            (is_open c' s (c.is_up.ensures.state (link_settings c') s.link fits.link) (c.full.ensures.value (layer_settings c') s.layer fits.layer)
+            c.if-is_up-full.false (c.is_closing.ensures (link_settings c') s.link fits.link) c.if-is_closing.false) (heard.packet, heard.notes)
             (puts.link c' s.layer k.side fits.layer whole) (puts.layer c' s.layer k.side fits.layer whole)
             (puts.turns c' s.layer k.side fits.layer whole)
             (ap (λ l. l.station) c.swap_frames.ensures.link) (ap (λ l. l.frames) c.swap_frames.ensures.link ∙ c.clear.ensures.frames)
@@ -72,8 +72,8 @@ returns-clause-does c = record {
       (λ view cc l. layer_at view cc c.args.self.now.manner.wide l (option_copied c.hear-heard.result.packet) c.hear-heard.result.notes.down
       c.hear-heard.result.notes.up)) fits.turned c.follow.ensures.puts) in
       took_fits c' fits.same s c.args.octets.now (option_copied c.hear-heard.result.packet) c.hear-heard.result.notes c.follow.new.link c.swap_frames.new.self
-      c.follow.new.layer (not_abandoned c' s (c.is_up.ensures.state (link_settings c') s.link fits.link)
-      (c.full.ensures.value (layer_settings c') s.layer fits.layer) c.if-is_up-full.false) (heard.packet, heard.notes)
+      c.follow.new.layer (is_open c' s (c.is_up.ensures.state (link_settings c') s.link fits.link)
+      (c.full.ensures.value (layer_settings c') s.layer fits.layer) c.if-is_up-full.false (c.is_closing.ensures (link_settings c') s.link fits.link) c.if-is_closing.false) (heard.packet, heard.notes)
       (puts.link c' s.layer k.side fits.layer whole) (puts.layer c' s.layer k.side fits.layer whole)
       (puts.turns c' s.layer k.side fits.layer whole)
       (ap (λ l. l.station) c.swap_frames.ensures.link) (ap (λ l. l.frames) c.swap_frames.ensures.link ∙ c.clear.ensures.frames)
@@ -90,8 +90,8 @@ returns-clause-does c = record {
       let link = puts.link c' s.layer k.side fits.layer whole in
       c.swap_frames.ensures.frames
       ∙ took_sends c' fits.same s c.args.octets.now (option_copied c.hear-heard.result.packet) c.hear-heard.result.notes
-      _ (not_abandoned c' s (c.is_up.ensures.state (link_settings c') s.link fits.link) (c.full.ensures.value (layer_settings c') s.layer fits.layer)
-      c.if-is_up-full.false) (heard.packet, heard.notes) link.kept;
+      _ (is_open c' s (c.is_up.ensures.state (link_settings c') s.link fits.link) (c.full.ensures.value (layer_settings c') s.layer fits.layer)
+      c.if-is_up-full.false (c.is_closing.ensures (link_settings c') s.link fits.link) c.if-is_closing.false) (heard.packet, heard.notes) link.kept;
   entries = λ c' s fits.
       let lk = link_settings c' in
       let k : LinkStep = take_step lk c.args.octets.now s.link in
@@ -99,8 +99,8 @@ returns-clause-does c = record {
       let whole : FitsWhole c.hear-heard.new.self (kept_of lk k.side) =
       record { link = c.hear-heard.ensures.state lk s.link fits.link; kept = c.hear-heard.ensures.frames lk s.link fits.link } in
       took_enters c' fits.same s c.args.octets.now (option_copied c.hear-heard.result.packet) c.hear-heard.result.notes
-      _ (not_abandoned c' s (c.is_up.ensures.state (link_settings c') s.link fits.link) (c.full.ensures.value (layer_settings c') s.layer fits.layer)
-      c.if-is_up-full.false) (heard.packet, heard.notes)
+      _ (is_open c' s (c.is_up.ensures.state (link_settings c') s.link fits.link) (c.full.ensures.value (layer_settings c') s.layer fits.layer)
+      c.if-is_up-full.false (c.is_closing.ensures (link_settings c') s.link fits.link) c.if-is_closing.false) (heard.packet, heard.notes)
       (c.follow.ensures.entries c' s.layer k.side fits.layer whole);
   refused = λ c' s fits. tt;
   stays = λ c' s fits. tt;
@@ -132,7 +132,7 @@ returns-clause-timer c = λ c' s fits.
     c.timer_behind-out-2.ensures c' s (receives c' s c.args.octets.now) (c.timer_runs-ran.ensures lk s.link fits.link) (does.state c' s fits)
     (does.entries c' s fits)
     (heard.acknowledged ∙ took_acknowledged c' s c.args.octets.now
-    (not_abandoned c' s (c.is_up.ensures.state lk s.link fits.link) (c.full.ensures.value (layer_settings c') s.layer fits.layer) c.if-is_up-full.false))
+    (is_open c' s (c.is_up.ensures.state lk s.link fits.link) (c.full.ensures.value (layer_settings c') s.layer fits.layer) c.if-is_up-full.false (c.is_closing.ensures (link_settings c') s.link fits.link) c.if-is_closing.false))
 
 pub returns-then-is_up-full-clause-does : goal.returns-then-is_up-full-clause-does
 returns-then-is_up-full-clause-does c =
@@ -153,3 +153,26 @@ returns-then-is_up-full-clause-timer c = λ c' s fits.
     let does = c.abandon-acknowledged.ensures.does in
     c.timer_behind-out.ensures c' s (receives c' s c.args.octets.now) (c.timer_runs-ran.ensures (link_settings c') s.link fits.link) (does.state c' s fits)
     (does.entries c' s fits) (c.abandon-acknowledged.ensures.acknowledged c' s fits)
+
+pub hear_closing-acknowledged-requires-clause-closing : goal.hear_closing-acknowledged-requires-clause-closing
+hear_closing-acknowledged-requires-clause-closing c = λ c' s fits. sym (c.is_closing.ensures (link_settings c') s.link fits.link) ∙ c.if-is_closing.true
+
+pub returns-then-is_closing-clause-does : goal.returns-then-is_closing-clause-does
+returns-then-is_closing-clause-does c =
+    let does = c.hear_closing-acknowledged.ensures.does in
+    record {
+      state = λ c' s fits. does.state c' s fits;
+      frames = λ c' s fits. does.frames c' s fits;
+      entries = λ c' s fits. does.entries c' s fits;
+      refused = λ c' s fits. tt;
+      stays = λ c' s fits. tt;
+      empty = tt;
+      few_frames = does.few_frames;
+      few_entries = does.few_entries;
+    }
+
+pub returns-then-is_closing-clause-timer : goal.returns-then-is_closing-clause-timer
+returns-then-is_closing-clause-timer c = λ c' s fits.
+    let does = c.hear_closing-acknowledged.ensures.does in
+    c.timer_behind-out-then-is_closing.ensures c' s (receives c' s c.args.octets.now) (c.timer_runs-ran.ensures (link_settings c') s.link fits.link) (does.state c' s fits)
+    (does.entries c' s fits) (c.hear_closing-acknowledged.ensures.acknowledged c' s fits)

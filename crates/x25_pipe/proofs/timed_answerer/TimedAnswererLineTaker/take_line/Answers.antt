@@ -4,7 +4,7 @@ use Rattle.x25_pipe.specs.Timed.{answer_turn, mark_turn, time_said, timed, timed
 use Rattle.x25_pipe.proofs.TimedLemmas.{begins_before, line_is, part_done, part_failed, stood_behind, turns_more}
 use Rattle.x25_io.specs.code.Written.{AppendsPrefix}
 use Rattle.x25_pipe.specs.code.TimedStands.{StoodTimed}
-use Rattle.x25_pipe.proofs.timed_answerer.TimedPipeLineTaker.take_line.Goals as goal
+use Rattle.x25_pipe.proofs.timed_answerer.TimedAnswererLineTaker.take_line.Goals as goal
 
 pub returns-in_err-answer-clause-on : goal.returns-in_err-answer-clause-on
 returns-in_err-answer-clause-on g c = λ setting old first lines input line l.
@@ -12,7 +12,7 @@ returns-in_err-answer-clause-on g c = λ setting old first lines input line l.
     let times = setting.1 in
     let p = err_from_is_err_and c.from_residual.result c.from_residual.ensures.1 in
     let t = answer_turn k times first l.at (time_said first) in
-    rw p.1 (part_failed k times old _ _ c.args.self.now c.args.self.now _ _ (timed k times input) (timed_turns k times (first ∷ lines))
+    rw p.1 (part_failed k times old _ _ c.args.self.now.timed c.args.self.now.timed _ _ (timed k times input) (timed_turns k times (first ∷ lines))
     (timed_turns k times lines) (timed_turn k times first l.at) l
     (turns_more k times first lines l.at)
     (subst (λ x. AppendsPrefix old (g.W.Sink.contents c.answer.new.writer) (l.text ++ x.text)) (sym (line_is k times first l.at))
@@ -29,9 +29,9 @@ returns-clause-on g c = λ setting old first lines input line l.
     (stood_behind k times old _ l.text l.status (mark_turn k) t c.mark.new.self c.mark.result
     (c.mark.ensures.turns k times old t.next (l.text ++ t.text) _ stands)) in
     MatchResult-weaker c.mark.result turned
-    (λ _ done. part_done k times old _ _ c.args.self.now c.mark.new.self _ _ (timed k times input) (timed_turns k times (first ∷ lines))
+    (λ _ done. part_done k times old _ _ c.args.self.now.timed c.mark.new.self _ _ (timed k times input) (timed_turns k times (first ∷ lines))
     (timed_turns k times lines) (timed_turn k times first l.at) l
     (turns_more k times first lines l.at) done)
-    (λ _ begins. part_failed k times old _ _ c.args.self.now c.args.self.now _ _ (timed k times input) (timed_turns k times (first ∷ lines))
+    (λ _ begins. part_failed k times old _ _ c.args.self.now.timed c.args.self.now.timed _ _ (timed k times input) (timed_turns k times (first ∷ lines))
     (timed_turns k times lines) (timed_turn k times first l.at) l
     (turns_more k times first lines l.at) begins)

@@ -4,14 +4,14 @@ use Rattle.x25_io.proofs.ToldLemmas.{with_ok}
 use Rattle.x25_pipe.specs.Timed.{timed, timed_turns}
 use Rattle.x25_pipe.specs.code.TimedStands.{StandsTimed}
 use Rattle.x25_pipe.proofs.TimedLemmas.{ended_written, given_up, left_begun, left_written}
-use Rattle.x25_pipe.proofs.timed_answerer.TimedPipeLineTaker.write_out.Goals as goal
+use Rattle.x25_pipe.proofs.timed_answerer.TimedAnswererLineTaker.write_out.Goals as goal
 
 pub returns-clause-on : goal.returns-clause-on
 returns-clause-on g c = λ setting old lines input l.
     let k = setting.0 in
     let times = setting.1 in
     let whole = timed k times input in
-    let p = c.args.self.now in
+    let p = c.args.self.now.timed in
     MatchResult-weaker c.flush.result (with_ok c.flush.result _ _ _ (c.flush.ensures.stands k old l.at.station l.text l.status l.stands.pipe)
     c.flush.ensures.written)
     (λ _ t.
