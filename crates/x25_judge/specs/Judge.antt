@@ -15,25 +15,27 @@ use Rattle.x25_judge.specs.{Links.{Both, Missed, no_end, sees, misses}, Note.{fi
 use Rattle.x25_judge.specs.{Rule.{breaks_manners, breaks_order, first, is_of_manners}, RuleText.{rule_text}}
 use Rattle.x25_packet.specs.Reading.{channel_in}
 use Rattle.x25_possible_links.specs.code.Steps.{is_followed, is_known, numbers, unknown}
+use Rattle.x25_possible.specs.declared.packet.Defaults.{Defaults}
 use Rattle.x25_possible_links.specs.declared.{stand.Stand.{Stand}, stand.Stand.TheVariants.{Up}}
 use Rattle.x25_packet_judge.specs.declared.{book.Book.{Book}, book.Verdict.{Verdict}}
 use Rattle.x25_judge.specs.declared.{counts.Line.{Line}, counts.Line.TheVariants.{Nothing, Told, Unjudged}}
-use Rattle.x25_judge.specs.declared.doubt.At.{At}
+use Rattle.x25_judge.specs.declared.{doubt.At.{At}, midst.Watch.TheVariants.{Unseen}}
 use Rattle.x25_judge.specs.declared.{doubt.At.TheVariants.{Line as OnLine}, judge.Judge.{Judge}, links.End.{End}}
 use Rattle.x25_judge.specs.declared.{doubt.Lack.{Lack}, doubt.Frames.TheVariants.{Any}, links.Seen.{Seen}}
 use Rattle.x25_judge.specs.declared.{judge.Strictness.{Strictness}, note.Note.{Note}, rule.Rule.{Rule}}
 use Rattle.x25_packet_judge.specs.declared.packet_rule.PacketRule.{PacketRule}
 use Rattle.x25_judge.specs.declared.rule.Rule.TheVariants.{NoFrame, Packet}
 
--- before anything was sent: k, how octets are read, and what counts beside a broken rule; of a trace of all frames
-abbrev pub begins : ℕ → Reading → Strictness → Judge
-begins window reading strictness = record {
+-- before anything was sent: k, the network's packet size and window, how octets are read, and what counts beside a
+-- broken rule; of a trace of all frames
+abbrev pub begins : ℕ → Defaults → Reading → Strictness → Judge
+begins window defaults reading strictness = record {
   window = window;
   reading = reading;
   strictness = strictness;
   dte = no_end;
   dce = no_end;
-  book = book.empty;
+  book = book.empty defaults;
   dte_frames = none;
   dce_frames = none;
   dte_packets = no_counts;
@@ -46,8 +48,8 @@ begins window reading strictness = record {
 }
 
 -- of a trace that was made at a place
-abbrev pub begins_at : At → ℕ → Reading → Strictness → Judge
-begins_at at window reading strictness = record (begins window reading strictness) { at = at }
+abbrev pub begins_at : At → ℕ → Defaults → Reading → Strictness → Judge
+begins_at at window defaults reading strictness = record (begins window defaults reading strictness) { at = at }
 
 -- ---- a frame
 
@@ -241,7 +243,7 @@ read_of j from octets (Err e) =
 -- ---- a gap: any number of frames may be missing
 
 abbrev pub forgotten : End → End
-forgotten e = record { set = unknown; held = forgets_all e.held; manners = no_manners }
+forgotten e = record { set = unknown; held = forgets_all e.held; manners = no_manners; watch = Unseen }
 
 abbrev pub is_dte : Role → Bool
 is_dte Dte = true

@@ -5,6 +5,7 @@ pub mod Counts
 pub mod Rule
 pub mod RuleText
 pub mod Manners
+pub mod Midst
 pub mod Links
 pub mod Judge
 pub mod Answerer

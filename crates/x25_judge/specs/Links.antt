@@ -5,15 +5,17 @@ use Rattle.std.specs.Prelude.{List, [], ◌∷◌, Option, Some, None, is_some}
 use Rattle.x25_frame.specs.Frame.{PlainFrame, info, rr, rnr, rej, sabm, disc, ua, dm, frmr}
 use Rattle.x25_judge.specs.{Held.{Held, differs, forgets, forgets_all, is_same, keeps, none_held}, Manners.{place_of}}
 use Rattle.x25_judge.specs.Manners as manners
+use Rattle.x25_judge.specs.Midst as midst
 use Rattle.x25_judge.specs.{Note.{first_note}, Rule.{first}}
 use Rattle.x25_judge.specs.declared.{links.End.{End}, links.Minding.{Minding}, links.Sent.{Sent}, links.Seen.{Seen}}
 use Rattle.x25_judge.specs.declared.{manners.Manners.{Manners}, manners.Minded.{Minded}, manners.Place.{Place}}
+use Rattle.x25_judge.specs.declared.{midst.Watch.{Watch}, midst.Watch.TheVariants.{Over, Unseen}}
 use Rattle.x25_judge.specs.declared.{note.Note.{Note}, rule.Rule.{Rule}}
 use Rattle.x25_judge.specs.declared.note.Note.TheVariants.{HeardBehindDamage, NumbersUnjudged, SentBehindDamage}
 use Rattle.x25_judge.specs.declared.rule.Rule.TheVariants.{Differs, Falls, NotUp, OverWindow, UaUnasked, Unsent}
 use Rattle.x25_packet_judge.specs.Numbers.{apart}
 use Rattle.x25_possible_links.specs.code.Steps as steps
-use Rattle.x25_possible_links.specs.code.Steps.{facts, numbers, sends_to, session_facts, shows_to, unknown}
+use Rattle.x25_possible_links.specs.code.Steps.{begun_as, facts, numbers, sends_to, session_facts, shows_to, unknown}
 use Rattle.x25_possible_links.specs.declared.{frame.Frame.{Frame}, set.Facts.{Facts}, set.LinkSet.{LinkSet}}
 use Rattle.x25_possible_links.specs.declared.frame.Frame.TheVariants.{Disc, Dm, Frmr, Info, Ready, Sabm, Ua, Unread}
 use Rattle.x25_possible_links.specs.declared.{set.Told.{Told}, set.Told.TheVariants.{Broken, Nothing, Skips}}
@@ -104,7 +106,7 @@ forgets_each (q ∷ qs) h = forgets_each qs (forgets_in q.stand h)
 
 -- nothing was sent
 abbrev pub no_end : End
-no_end = record { set = unknown; held = none_held; manners = manners.none }
+no_end = record { set = unknown; held = none_held; manners = manners.none; watch = Unseen }
 
 abbrev pub with_minded : Minded → Seen → Seen
 with_minded m t =
@@ -222,7 +224,7 @@ passes_so (Some both) (Some taken) window frame own other = goes_quietly window 
 passes_so step taken window frame own other = false
 
 abbrev pub passes : ℕ → PlainFrame → End → End → Bool
-passes window frame own other = passes_so (steps.steps (shown frame false) own.set)
+passes window frame own other = midst.is_over own.watch && passes_so (steps.steps (shown frame false) own.set)
     (steps.takes (shown frame false) other.set) window frame own.manners other.manners
 
 -- in a session, with nothing on the way
@@ -248,6 +250,7 @@ abbrev pub end_sent : PlainFrame → Frame → End → End
 end_sent frame x e = record e {
   set = (sends_to x e.set).set;
   held = keeps (held_by (sends_to x e.set).told e.held) frame;
+  watch = midst.sends x e.watch;
 }
 
 abbrev pub end_shown : Frame → End → End
@@ -294,10 +297,32 @@ abbrev pub sees_as : ℕ → PlainFrame → Frame → Bool → End → End → B
 sees_as window frame x was own other =
     sees_by window frame x was (sent_by frame x own) (end_sent frame x own) (end_shown x other)
 
+-- ---- a link that the trace finds set up
+
+-- it is in a session with such numbers, and nothing is on the way to it
+abbrev pub standing : Numbers → End → End
+standing k e = record e { set = begun_as (Up k ∷ []); manners = manners.found e.manners; watch = Over }
+
+-- where it is known; field by field, as its octets stay in any case
+abbrev pub taken_up : Bool → Numbers → End → End
+taken_up known k e = record e {
+  set = if known then begun_as (Up k ∷ []) else e.set;
+  manners = if known then manners.found e.manners else e.manners;
+  watch = if known then Over else e.watch;
+}
+
+-- both ends stand where what they sent shows them, as soon as it does
+abbrev pub taken_both : Watch → Both → Both
+taken_both was b = let known = midst.are_known b.own.watch b.other.watch in record {
+  own = taken_up known (midst.numbers b.own.watch b.other.watch) b.own;
+  other = taken_up known (midst.numbers b.other.watch b.own.watch) b.other;
+  seen = record b.seen { note = first_note b.seen.note (midst.note_of known was b.own.watch) };
+}
+
 -- an end sends a frame; at most `window` I frames may be unacknowledged
 abbrev pub sees : ℕ → PlainFrame → End → End → Both
-sees window frame own other =
-    sees_as window frame (shown frame (differs own.held frame)) (is_blind own other) own other
+sees window frame own other = taken_both own.watch
+    (sees_as window frame (shown frame (differs own.held frame)) (is_blind own other) own other)
 
 -- octets that spell no frame, which may have been any
 pub record Missed : Type 0 where
@@ -311,6 +336,7 @@ misses own other = record {
     set = (sends_to Unread own.set).set;
     held = forgets_each own.set.spots.items own.held;
     manners = manners.adrift (manners.asks_on own.manners.is_polling own.manners);
+    watch = midst.sends Unread own.watch;
   };
   other = record other {
     set = shows_to Unread other.set;

@@ -95,6 +95,10 @@ unheard pending m = record (sent_back pending m) { is_astray = true; is_rejectin
 abbrev pub adrift : Manners → Manners
 adrift m = record m { behind = 0; farthest = 255; is_adrift = true }
 
+-- it is taken up where it stands: what may set its V(S) back was seen, and not to which number
+abbrev pub found : Manners → Manners
+found m = adrift (record (begun m) { causes = m.causes; reach = 0 })
+
 -- ---- N(S) (2.4.5.1, 2.4.5.9)
 
 -- the next new number goes, with P=0, and nothing is said of it

@@ -4,6 +4,7 @@ use Rattle.std.specs.Prelude.{ℕ, ◌==◌, ◌++◌, List, Option, Some, None,
 use Rattle.x25_judge.specs.declared.{note.Note.{Note}, note.Note.TheVariants.{RequestAgain}}
 use Rattle.x25_judge.specs.declared.note.Note.TheVariants.{Unjudged, NoneJudged, SentAgain, SentBehindDamage}
 use Rattle.x25_judge.specs.declared.note.Note.TheVariants.{HeardBehindDamage, PollAgain, PollUnseen, NumbersUnjudged}
+use Rattle.x25_judge.specs.declared.note.Note.TheVariants.{NotTakenUp, TakenUp}
 use Rattle.x25_packet_judge.specs.declared.book.Noted.{Noted}
 use Rattle.x25_packet_judge.specs.declared.book.Noted.TheVariants as noted
 
@@ -28,3 +29,5 @@ note_text HeardBehindDamage = codes "N(R) is out of range behind a damaged frame
 note_text PollAgain = codes "P=1 again, and no F=1 answered the last one (2.4.3)"
 note_text PollUnseen = codes "F=1 answers no P=1 that the trace shows (2.4.3)"
 note_text NumbersUnjudged = codes "not all N(S) and N(R) are judged before the next set-up (2.4.4.1)"
+note_text NotTakenUp = codes "N(S) and N(R) aren't judged before a set-up, or eight I frames acknowledged"
+note_text TakenUp = codes "V(S) of both ends is known: N(S) and N(R) are judged from here on (2.4.5)"

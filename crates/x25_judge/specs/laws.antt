@@ -5,4 +5,5 @@ pub mod Watching
 pub mod Explaining
 pub mod VerdictClaims
 pub mod Tapes
+pub mod Midst
 pub mod DoubtClaims

@@ -6,6 +6,7 @@ use crate::judge::{Judge, MOST_ANSWER, Strictness};
 use std::alloc::{AllocError, Global};
 use x25_decode::{Reading, long_lines_send_nothing};
 use x25_io::{Failed, Fault, LineTaker, Output, Sink, split_loose};
+use x25_possible::Defaults;
 use x25_text::MOST_OCTETS;
 
 /// The octets of the last line, the answers that wait to be written, and the judge.
@@ -34,17 +35,18 @@ impl Answerer {
         alloc: Global,
         at: At,
         window: u8,
+        defaults: Defaults,
         reading: Reading,
         strictness: Strictness,
         loose: bool,
     ) -> Result<Answerer, AllocError>
         ensures loose { IfOk result (λ a. a.loose ≡ loose) }
-        ensures judge { IfOk result (λ a. a.judge ≡ begins_at at window reading strictness) }
+        ensures judge { IfOk result (λ a. a.judge ≡ begins_at at window defaults reading strictness) }
         ensures empty { IfOk result (λ a. a.output ≡ []) }
         ensures faultless { IfOk result (λ a. a.is_faulty ≡ false) }
     {
         let output = Output::new(alloc)?;
-        let judge = Judge::new(alloc, at, window, reading, strictness)?;
+        let judge = Judge::new(alloc, at, window, defaults, reading, strictness)?;
         Ok(Answerer {
             octets: [0; MOST_OCTETS],
             output,

@@ -19,6 +19,7 @@ use crate::counts::{Count, Counts, Line, Tally, tell_end, tell_line};
 use crate::doubt::{At, Frames, Lack};
 use crate::links::{End, Seen, misses, passes, sees};
 use crate::manners::Manners;
+use crate::midst::Watch;
 use crate::note::{MOST_NOTE, Note, first_note, packet_note, push_note};
 use crate::rule::{Rule, breaks_order, first};
 use crate::rule_text::{MOST_RULE, push_rule};
@@ -28,6 +29,7 @@ use x25_frame::{Frame, FrameError, N1, Role, decode};
 use x25_io::{Failed, Output, Sink};
 use x25_packet::{Packet, PacketError, channel, decode_within, longest_user};
 use x25_packet_judge::Book;
+use x25_possible::Defaults;
 use x25_possible_links::{LinkSet, Stand};
 use x25_text::{
     MOST_OCTETS, MOST_TEXT, ROOM, Text, push_fault, push_frame, push_other_frame, push_packet,
@@ -229,6 +231,7 @@ fn forget(end: &mut End)
     end.set = LinkSet::new();
     end.held.forget_all();
     end.manners = Manners::new();
+    end.watch = Watch::Unseen;
 }
 
 impl Judge {
@@ -237,14 +240,15 @@ impl Judge {
         alloc: Global,
         at: At,
         window: u8,
+        defaults: Defaults,
         reading: Reading,
         strictness: Strictness,
     ) -> Result<Judge, AllocError>
-        ensures { IfOk result (λ judge. judge ≡ begins_at at window reading strictness) }
+        ensures { IfOk result (λ judge. judge ≡ begins_at at window defaults reading strictness) }
     {
         let dte = End::new(alloc)?;
         let dce = End::new(alloc)?;
-        let book = Book::new(alloc)?;
+        let book = Book::new(alloc, defaults)?;
         let dte_packets = Counts::new(alloc)?;
         let dce_packets = Counts::new(alloc)?;
         Ok(Judge {

@@ -7,6 +7,7 @@ ghost use Rattle.x25_judge.specs.laws.VerdictClaims.{SilenceMeansOrder, SilenceM
 ghost use Rattle.x25_judge.specs.laws.VerdictClaims.{SilenceMeansNumbers};
 ghost use Rattle.x25_judge.specs.laws.DoubtClaims.{GapsLeaveDoubt, LossesAreTold, LossesLeaveDoubt, OctetsAreCertain};
 ghost use Rattle.x25_judge.specs.laws.DoubtClaims.{PacketsStayInDoubt};
+ghost use Rattle.x25_judge.specs.laws.Midst.{LinksAreTakenUp, NumbersAreFound};
 ghost use Rattle.x25_line.specs.laws.{LawsBelow.{Laws}, PeerClaims.{KeepsOrder, OnAnySilentTape}};
 ghost use Rattle.x25_line.specs.laws.StationClaims.{EachEventHandsOne};
 
@@ -80,6 +81,16 @@ pub fn guilty_are_told()
     ensures told { ToldAreGuilty }
     ensures sendings { JudgedSendingsAreTold }
     ensures finals { JudgedFinalsAreTold }
+{}
+
+/// A link that the trace finds set up, at its beginning or behind a gap, is taken up where each end acknowledged eight
+/// I frames in a row. Both are in a session then, with nothing on the way. From there on no rule of order is told of an
+/// end that stands so and keeps the rules, and what no such end explains is told (`guilty_are_told`). Of two ends that
+/// keep the rules for numbers, each has V(S) and the last N(R) with which it is taken up. No more than that is
+/// acknowledged to it, or taken by it, whatever is lost.
+pub fn links_are_taken_up()
+    ensures begins { LinksAreTakenUp }
+    ensures found { NumbersAreFound }
 {}
 
 /// What is told where frames or packets may be missing is in doubt: after a gap, until both ends are settled and the

@@ -13,6 +13,7 @@ mod judging;
 mod law;
 mod links;
 mod manners;
+mod midst;
 mod note;
 mod rule;
 mod rule_text;
@@ -24,3 +25,4 @@ pub use law::{
     guilty_are_told, sessions_stay_untold, set_ups_begin, silence_means_one_packet,
     silence_means_order, silence_means_rules_kept, stations_stay_untold,
 };
+pub use x25_possible::Defaults;

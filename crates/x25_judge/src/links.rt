@@ -3,11 +3,13 @@ ghost use Rattle.std.specs.Prelude.{◌≡◌, ℕ, Bool, true, false, IfOk};
 ghost use Rattle.x25_frame.specs.Frame.{plain};
 ghost use Rattle.x25_judge.specs.Held.{keeps, is_same as same_octets};
 ghost use Rattle.x25_judge.specs.Links as definition;
+ghost use Rattle.x25_judge.specs.Midst as midst;
 ghost use Rattle.x25_possible_links.specs.code.Steps.{numbers};
 ghost use Rattle.x25_possible_links.specs.declared.{set.LinkSet.{LinkSet}, stand.Stand.TheVariants.{Up}};
 
 use crate::held::Held;
 use crate::manners::{Manners, Minded, Place, place_of, says};
+use crate::midst::{Watch, are_known, note_of, numbers as numbers_by};
 use crate::note::{Note, first_note};
 use crate::rule::{Rule, first};
 use std::alloc::{AllocError, Global};
@@ -21,6 +23,7 @@ pub(crate) struct End {
     pub(crate) set: LinkSet,
     pub(crate) held: Held,
     pub(crate) manners: Manners,
+    pub(crate) watch: Watch,
 }
 
 /// The rule that a frame breaks, what is noted of it, whether it is an I frame that was sent before, whether it is
@@ -238,7 +241,17 @@ impl End {
             set: LinkSet::new(),
             held,
             manners: Manners::new(),
+            watch: Watch::Unseen,
         })
+    }
+
+    /// It is in a session with such numbers, and nothing is on the way to it.
+    fn stands(&mut self, k: Numbers)
+        ensures { self.new ≡ definition.standing k self.old }
+    {
+        self.set = LinkSet::standing(k);
+        self.manners = self.manners.found();
+        self.watch = Watch::Over;
     }
 
     /// It sends a frame.
@@ -255,6 +268,7 @@ impl End {
             self.held.forget_all();
         }
         self.held.keep(frame);
+        self.watch = self.watch.sends(shown);
         Sent {
             facts,
             told,
@@ -526,6 +540,9 @@ pub(crate) fn passes(own: &mut End, other: &mut End, window: u8, frame: &Frame) 
     ensures own { result ≡ false → own.new ≡ own.old }
     ensures other { result ≡ false → other.new ≡ other.old }
 {
+    if !own.watch.is_over() {
+        return false;
+    }
     let shown = shown(frame, false);
     let Some((k, next)) = own.set.steps(shown) else {
         return false;
@@ -549,6 +566,31 @@ pub(crate) fn passes(own: &mut End, other: &mut End, window: u8, frame: &Frame) 
     true
 }
 
+/// An end stands there, where that is known.
+fn stand_at(known: bool, k: Numbers, end: &mut End)
+    ensures { end.new ≡ definition.taken_up known k end.old }
+{
+    if known {
+        end.stands(k);
+    }
+}
+
+/// Both ends stand where what they sent shows them, as soon as it does; what is noted of that is answered, where an end
+/// was watched so before its frame.
+fn take_up(was: Watch, own: &mut End, other: &mut End) -> Option<Note>
+    ensures own { own.new ≡ definition.taken_up (midst.are_known own.old.watch other.old.watch)
+        (midst.numbers own.old.watch other.old.watch) own.old }
+    ensures other { other.new ≡ definition.taken_up (midst.are_known own.old.watch other.old.watch)
+        (midst.numbers other.old.watch own.old.watch) other.old }
+    ensures note { result ≡ midst.note_of (midst.are_known own.old.watch other.old.watch) was own.old.watch }
+{
+    let (here, there) = (own.watch, other.watch);
+    let known = are_known(here, there);
+    stand_at(known, numbers_by(here, there), own);
+    stand_at(known, numbers_by(there, here), other);
+    note_of(known, was, here)
+}
+
 /// An end sends a frame; at most `window` I frames may be unacknowledged.
 #[inline(never)]
 pub(crate) fn sees(own: &mut End, other: &mut End, window: u8, frame: &Frame) -> Seen
@@ -559,6 +601,7 @@ pub(crate) fn sees(own: &mut End, other: &mut End, window: u8, frame: &Frame) ->
     let (is_same, differs) = own.held.compare(frame);
     let shown = shown(frame, differs);
     let was_blind = is_blind(own, other);
+    let was = own.watch;
     let sent = own.sends(is_same, shown, frame);
     other.set.shows(shown);
     let seen = Seen {
@@ -576,7 +619,11 @@ pub(crate) fn sees(own: &mut End, other: &mut End, window: u8, frame: &Frame) ->
     both.minds(window, &sent, &other.set, frame);
     own.manners = both.own;
     other.manners = both.other;
-    both.seen
+    let note = take_up(was, own, other);
+    Seen {
+        note: first_note(both.seen.note, note),
+        ..both.seen
+    }
 }
 
 /// An end sends octets that spell no frame: they may have been any. What is noted of them is answered.
@@ -590,6 +637,7 @@ pub(crate) fn misses(own: &mut End, other: &mut End) -> Option<Note>
     own.manners = own.manners.asks_on(own.manners.is_polling).adrift();
     other.manners = other.manners.unheard(place(&other.set).pending);
     let _ = own.set.sends(Shown::Unread);
+    own.watch = own.watch.sends(Shown::Unread);
     other.set.shows(Shown::Unread);
     blind_note(was_blind, is_blind(own, other))
 }

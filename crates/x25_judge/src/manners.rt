@@ -225,6 +225,18 @@ impl Manners {
         }
     }
 
+    /// It is taken up where it stands: what may set its V(S) back was seen, and not to which number.
+    pub(crate) fn found(self) -> Manners
+        ensures { result ≡ definition.found self }
+    {
+        Manners {
+            causes: self.causes,
+            reach: 0,
+            ..self.begun()
+        }
+        .adrift()
+    }
+
     // ---- N(S)
 
     /// So many numbers more were sent. What sent V(S) back to a number that is eight or more behind counts no more.

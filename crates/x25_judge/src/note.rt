@@ -18,6 +18,8 @@ pub(crate) enum Note {
     PollAgain,
     PollUnseen,
     NumbersUnjudged,
+    NotTakenUp,
+    TakenUp,
 }
 
 /// The most characters of the text of a note.
@@ -71,6 +73,12 @@ pub(crate) fn push_note(note: Note, text: &mut Text)
         Note::PollUnseen => text.push(b"F=1 answers no P=1 that the trace shows (2.4.3)"),
         Note::NumbersUnjudged => text.push(
             b"not all N(S) and N(R) are judged before the next set-up (2.4.4.1)",
+        ),
+        Note::NotTakenUp => text.push(
+            b"N(S) and N(R) aren't judged before a set-up, or eight I frames acknowledged",
+        ),
+        Note::TakenUp => text.push(
+            b"V(S) of both ends is known: N(S) and N(R) are judged from here on (2.4.5)",
         ),
     }
 }

@@ -12,11 +12,11 @@ use Rattle.x25_packet_judge.specs.Channel as channels
 
 -- which packet it is
 pub takes_is : (from : Role) (of : ℕ) (packet : PlainPacket) (b : Book) (all : Bool) → is_of_all packet ≡ all
-    → book.takes from of packet b ≡ (if all then book.restarts from (item_of packet) (is_restart packet) (book.spoken from b)
-    else book.follows from of (item_of packet) (is_quiet from b) (book.spoken from b))
+    → book.takes from of packet b ≡ (if all then book.restarts from (item_of b.defaults packet) (is_restart packet) (book.spoken from b)
+    else book.follows from of (item_of b.defaults packet) (is_quiet from b) (book.spoken from b))
 unfolding book.takes
-takes_is from of packet b all is = ap (λ a. if a then book.restarts from (item_of packet) (is_restart packet) (book.spoken from b)
-    else book.follows from of (item_of packet) (is_quiet from b) (book.spoken from b)) is
+takes_is from of packet b all is = ap (λ a. if a then book.restarts from (item_of b.defaults packet) (is_restart packet) (book.spoken from b)
+    else book.follows from of (item_of b.defaults packet) (is_quiet from b) (book.spoken from b)) is
 
 -- ---- channels and restarts behind it
 
@@ -31,23 +31,23 @@ one_set role from channel of x cs false is = ap (end_of role) (put_other of chan
 
 sets_follow : (b : Book) (role from : Role) (channel of : ℕ) (packet : PlainPacket) (all : Bool) → is_of_all packet ≡ all
     → set_of role channel (book.takes from of packet b).book
-    ≡ (if all || (channel % 4096 == of % 4096) then behind_item (seen_by role from (item_of packet)) (set_of role channel b)
+    ≡ (if all || (channel % 4096 == of % 4096) then behind_item (seen_by role from (item_of b.defaults packet)) (set_of role channel b)
     else set_of role channel b)
 sets_follow b role from channel of packet true is =
     ap (λ (s : book.Seen). end_of role (channel_of channel s.book.channels)) (takes_is from of packet b true is)
-    ∙ ap (end_of role) (happens_on (Sends from (item_of packet)) channel b.channels) ∙ ends_move role from (item_of packet) (channel_of channel b.channels)
+    ∙ ap (end_of role) (happens_on (Sends from (item_of b.defaults packet)) channel b.channels) ∙ ends_move role from (item_of b.defaults packet) (channel_of channel b.channels)
 sets_follow b role from channel of packet false is =
     ap (λ (s : book.Seen). end_of role (channel_of channel s.book.channels)) (takes_is from of packet b false is)
-    ∙ one_set role from channel of (item_of packet) b.channels (channel % 4096 == of % 4096) refl
+    ∙ one_set role from channel of (item_of b.defaults packet) b.channels (channel % 4096 == of % 4096) refl
 
 pub restarts_of_all : (b : Book) (role from : Role) (of : ℕ) (packet : PlainPacket) → is_of_all packet ≡ true
-    → end_of role (book.takes from of packet b).book.restarts ≡ behind_item (seen_by role from (item_of packet)) (end_of role b.restarts)
+    → end_of role (book.takes from of packet b).book.restarts ≡ behind_item (seen_by role from (item_of b.defaults packet)) (end_of role b.restarts)
 restarts_of_all b role from of packet is =
-    ap (λ (s : book.Seen). end_of role s.book.restarts) (takes_is from of packet b true is) ∙ ends_move role from (item_of packet) b.restarts
+    ap (λ (s : book.Seen). end_of role s.book.restarts) (takes_is from of packet b true is) ∙ ends_move role from (item_of b.defaults packet) b.restarts
 
 restarts_follow : (b : Book) (role from : Role) (of : ℕ) (packet : PlainPacket) (all : Bool) → is_of_all packet ≡ all → is_quiet from b ≡ false
     → end_of role (book.takes from of packet b).book.restarts
-    ≡ behind_item (seen_by role from (if all then item_of packet else Elsewhere)) (end_of role b.restarts)
+    ≡ behind_item (seen_by role from (if all then item_of b.defaults packet else Elsewhere)) (end_of role b.restarts)
 restarts_follow b role from of packet true is loud = restarts_of_all b role from of packet is
 restarts_follow b role from of packet false is loud =
     ap (λ (s : book.Seen). end_of role s.book.restarts) (takes_is from of packet b false is)
@@ -110,25 +110,25 @@ asked from of b all = if all then end_of from b.restarts else set_of from of b
 module _ (from : Role) (of : ℕ) (packet : PlainPacket) (b : Book) where
   pub told_is : AreUnknown → (all : Bool) → is_of_all packet ≡ all → (book.takes from of packet b).verdict.rule
       ≡ (if awaits from packet b then Some RestartAwaited
-      else rule_of (sends_to (item_of packet) (asked_of from of packet b)).told (item_of packet))
+      else rule_of (sends_to (item_of b.defaults packet) (asked_of from of packet b)).told (item_of b.defaults packet))
   told_is unknown false is =
       ap (λ (s : book.Seen). s.verdict.rule) (takes_is from of packet b false is)
-      ∙ one_rule unknown from of (item_of packet) (channel_of of b.channels) (is_early from b)
-      ∙ ap (λ a. if not a && is_early from b then Some RestartAwaited else rule_of (sends_to (item_of packet) (asked from of b a)).told (item_of packet))
+      ∙ one_rule unknown from of (item_of b.defaults packet) (channel_of of b.channels) (is_early from b)
+      ∙ ap (λ a. if not a && is_early from b then Some RestartAwaited else rule_of (sends_to (item_of b.defaults packet) (asked from of b a)).told (item_of b.defaults packet))
       (sym is)
   told_is unknown true is =
       ap (λ (s : book.Seen). s.verdict.rule) (takes_is from of packet b true is)
-      ∙ ap (λ a. if not a && is_early from b then Some RestartAwaited else rule_of (sends_to (item_of packet) (asked from of b a)).told (item_of packet))
+      ∙ ap (λ a. if not a && is_early from b then Some RestartAwaited else rule_of (sends_to (item_of b.defaults packet) (asked from of b a)).told (item_of b.defaults packet))
       (sym is)
 
   pub judged_so : (all : Bool) → is_of_all packet ≡ all → (book.takes from of packet b).verdict.is_judged
-      ≡ (awaits from packet b || (is_restart packet || (sent (item_of packet) (asked_of from of packet b)).verdict.is_judged))
+      ≡ (awaits from packet b || (is_restart packet || (sent (item_of b.defaults packet) (asked_of from of packet b)).verdict.is_judged))
   judged_so false is =
       ap (λ (s : book.Seen). s.verdict.is_judged) (takes_is from of packet b false is)
-      ∙ one_judged from of (item_of packet) (channel_of of b.channels) (is_early from b)
-      ∙ ap (λ a. (not a && is_early from b) || (sent (item_of packet) (asked from of b a)).verdict.is_judged) (sym is)
-      ∙ ap (λ r. awaits from packet b || (r || (sent (item_of packet) (asked_of from of packet b)).verdict.is_judged))
+      ∙ one_judged from of (item_of b.defaults packet) (channel_of of b.channels) (is_early from b)
+      ∙ ap (λ a. (not a && is_early from b) || (sent (item_of b.defaults packet) (asked from of b a)).verdict.is_judged) (sym is)
+      ∙ ap (λ r. awaits from packet b || (r || (sent (item_of b.defaults packet) (asked_of from of packet b)).verdict.is_judged))
       (sym (or_parts (is_restart packet) _ is).0)
   judged_so true is =
       ap (λ (s : book.Seen). s.verdict.is_judged) (takes_is from of packet b true is)
-      ∙ ap (λ a. (not a && is_early from b) || (is_restart packet || (sent (item_of packet) (asked from of b a)).verdict.is_judged)) (sym is)
+      ∙ ap (λ a. (not a && is_early from b) || (is_restart packet || (sent (item_of b.defaults packet) (asked from of b a)).verdict.is_judged)) (sym is)

@@ -32,12 +32,12 @@ early from b = refuses from (if is_quiet from b then lost b.restarts else b.rest
 
 module _ (b : Book) (from : Role) (of : ℕ) (packet : PlainPacket) (one : is_of_all packet ≡ false) where
   abbrev there : channels.Found
-  there = channels.takes from (item_of packet) (channel_of of b.channels)
+  there = channels.takes from (item_of b.defaults packet) (channel_of of b.channels)
 
   channel_is : channel_of of (book.takes from of packet b).book.channels ≡ (channels.marked of there.verdict there.channel).channel
   unfolding channels.judges
   channel_is = ap (λ (s : book.Seen). channel_of of s.book.channels) (takes_is from of packet b false one)
-      ∙ put_same of of (channels.judges of from (item_of packet) (channel_of of b.channels)).channel b.channels refl
+      ∙ put_same of of (channels.judges of from (item_of b.defaults packet) (channel_of of b.channels)).channel b.channels refl
 
   verdict_is : (book.takes from of packet b).verdict ≡ (if early from b then record { rule = Some rules.RestartAwaited; noted = None; is_judged = true }
       else (channels.marked of there.verdict there.channel).verdict)

@@ -15,18 +15,20 @@ use Rattle.x25_packet_judge.specs.declared.{book.Book.{Book}, book.Noted.{Noted}
 use Rattle.x25_packet_judge.specs.declared.{book.Noted.TheVariants.{Unjudged}, channel.Channel.{Channel}}
 use Rattle.x25_packet_judge.specs.declared.{channel.Event.TheVariants.{Sends, Loss}, layers.Layers.{Layers}}
 use Rattle.x25_packet_judge.specs.declared.packet_rule.PacketRule.TheVariants as rules
-use Rattle.x25_possible.specs.declared.packet.{Packet.{Packet as Item}, Packet.TheVariants.{Elsewhere}}
+use Rattle.x25_possible.specs.declared.packet.{Defaults.{Defaults}, Packet.{Packet as Item}}
+use Rattle.x25_possible.specs.declared.packet.Packet.TheVariants.{Elsewhere}
 use Rattle.x25_packet.specs.Form as form
 use Rattle.x25_packet.specs.Taking.{taken_in}
 
--- nothing was sent
-abbrev pub empty : Book
-empty = record {
+-- nothing was sent, on a network with these defaults
+abbrev pub empty : Defaults → Book
+empty defaults = record {
   dte = layers.new;
   dce = layers.new;
   restarts = channels.any_channel;
   channels = all_alike channels.any_channel;
   is_whole = false;
+  defaults = defaults;
 }
 
 -- ---- parts: the end that sends comes first
@@ -106,8 +108,8 @@ is_of_all packet = is_restart packet || is_confirmation packet
 
 unfoldable pub takes : Role → ℕ → PlainPacket → Book → Seen
 takes from channel packet b =
-    if is_of_all packet then restarts from (item_of packet) (is_restart packet) (spoken from b)
-    else follows from channel (item_of packet) (layers_of from b).own.is_quiet (spoken from b)
+    if is_of_all packet then restarts from (item_of b.defaults packet) (is_restart packet) (spoken from b)
+    else follows from channel (item_of b.defaults packet) (layers_of from b).own.is_quiet (spoken from b)
 
 -- octets that spell none: nothing may be said of any channel where they name none
 abbrev pub misses_on : ℕ → Book → Seen

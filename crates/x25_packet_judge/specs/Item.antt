@@ -1,5 +1,5 @@
--- What the rules of a channel look at of a packet. ITU-T X.25 (10/96), sections 6.12 and 7.2.2; what isn't said of
--- packet sizes and windows is 128 octets and 2 packets where a call proposes nothing.
+-- What the rules of a channel look at of a packet. ITU-T X.25 (10/96), sections 6.9, 6.10, 6.12 and 7.2.2; what a
+-- call doesn't say of packet sizes and windows is the network's default.
 use Rattle.std.specs.Prelude.{ℕ, ◌^◌, ◌&&◌, nat_le, nat_lt, if◌then◌else◌, List, length, Option, Some, None}
 use Rattle.std.specs.Prelude.{not, unwrap_or, Result, Ok, Err}
 use Rattle.x25_packet.specs.Facilities.{facilities_of}
@@ -10,8 +10,8 @@ use Rattle.x25_packet.specs.declared.facilities.Facilities.{Facilities}
 use Rattle.x25_possible.specs.declared.packet.Packet.{Packet as Item}
 use Rattle.x25_possible.specs.declared.packet.Packet.TheVariants.{Call, Accept, Clear, ClearConf, Reset, ResetConf}
 use Rattle.x25_possible.specs.declared.packet.Packet.TheVariants.{Restart, RestartConf, Data, Rr, Rnr, Interrupt}
-use Rattle.x25_possible.specs.declared.{packet.Packet.TheVariants.{InterruptConf}, packet.Said.{Said}}
-use Rattle.x25_possible.specs.declared.{packet.Sizes.{Sizes}, packet.Terms.{Terms}, packet.Windows.{Windows}}
+use Rattle.x25_possible.specs.declared.{packet.Packet.TheVariants.{InterruptConf}, packet.Defaults.{Defaults}}
+use Rattle.x25_possible.specs.declared.packet.{Said.{Said}, Sizes.{Sizes}, Terms.{Terms}, Windows.{Windows}}
 
 -- the packet sizes that a facility names, in octets (section 7.2.2.1.1)
 abbrev pub octets_of : ℕ → ℕ
@@ -37,11 +37,12 @@ said_by (Err e) = record { sizes = None; windows = None }
 abbrev pub said : List ℕ → Said
 said field = said_by (facilities_of field)
 
-abbrev pub proposed : Said → Terms
-proposed s =
-    let sizes = unwrap_or s.sizes (record { calling = 128; called = 128 }) in
-    let windows = unwrap_or s.windows (record { calling = 2; called = 2 }) in
+abbrev pub proposed : Defaults → Said → Terms
+proposed d s =
+    let sizes = unwrap_or s.sizes (record { calling = d.size; called = d.size }) in
+    let windows = unwrap_or s.windows (record { calling = d.window; called = d.window }) in
     record {
+      defaults = d;
       calling_size = sizes.calling;
       called_size = sizes.called;
       calling_window = windows.calling;
@@ -49,17 +50,17 @@ proposed s =
     }
 
 -- with D=1 no message goes on, whatever M is (section 4.3.4)
-unfoldable pub item_of : PlainPacket → Item
-item_of (call channel called calling facilities user) = Call (proposed (said facilities))
-item_of (accept channel facilities) = Accept (said facilities)
-item_of (clear channel cause diagnostic) = Clear
-item_of (clear_conf channel) = ClearConf
-item_of (user_data channel marks m ps pr user) = Data marks.q (m && not marks.d) ps pr (size_of (length user))
-item_of (rr channel pr) = Rr pr
-item_of (rnr channel pr) = Rnr pr
-item_of (interrupt channel user) = Interrupt
-item_of (interrupt_conf channel) = InterruptConf
-item_of (reset channel cause diagnostic) = Reset
-item_of (reset_conf channel) = ResetConf
-item_of (restart cause diagnostic) = Restart
-item_of restart_conf = RestartConf
+unfoldable pub item_of : Defaults → PlainPacket → Item
+item_of d (call channel called calling facilities user) = Call (proposed d (said facilities))
+item_of d (accept channel facilities) = Accept (said facilities)
+item_of d (clear channel cause diagnostic) = Clear
+item_of d (clear_conf channel) = ClearConf
+item_of d (user_data channel marks m ps pr user) = Data marks.q (m && not marks.d) ps pr (size_of (length user))
+item_of d (rr channel pr) = Rr pr
+item_of d (rnr channel pr) = Rnr pr
+item_of d (interrupt channel user) = Interrupt
+item_of d (interrupt_conf channel) = InterruptConf
+item_of d (reset channel cause diagnostic) = Reset
+item_of d (reset_conf channel) = ResetConf
+item_of d (restart cause diagnostic) = Restart
+item_of d restart_conf = RestartConf

@@ -14,7 +14,7 @@ use x25_bits::Role;
 use x25_decode::Reading;
 use x25_frame::Frame;
 use x25_packet::{Kind, Packet, PacketError, channel, decode, longest_user, read};
-use x25_possible::Packet as Item;
+use x25_possible::{Defaults, Packet as Item};
 
 /// Which packets of both ends are followed, and what is known of the ends of the channels.
 #[derive(Drop)]
@@ -26,6 +26,7 @@ pub struct Book {
     pub(crate) channels: Channels,
     /// The link was set up, and no packet was missed since then.
     pub is_whole: bool,
+    pub(crate) defaults: Defaults,
 }
 
 /// What is noted of a packet: the end's RESTART, CLEAR or RESET goes again before its answer; or a channel isn't judged
@@ -76,9 +77,9 @@ fn is_modulo_8(octets: &[u8]) -> bool
 }
 
 impl Book {
-    /// Nothing was sent. Err: no memory.
-    pub fn new(alloc: Global) -> Result<Book, AllocError>
-        ensures { IfOk result (λ book. book ≡ definition.empty) }
+    /// Nothing was sent, on a network with these defaults. Err: no memory.
+    pub fn new(alloc: Global, defaults: Defaults) -> Result<Book, AllocError>
+        ensures { IfOk result (λ book. book ≡ definition.empty defaults) }
     {
         let channels = Channels::new(alloc)?;
         Ok(Book {
@@ -87,6 +88,7 @@ impl Book {
             restarts: Channel::any(),
             channels,
             is_whole: false,
+            defaults,
         })
     }
 
@@ -167,7 +169,7 @@ impl Book {
                 if is_first {
                     self.restarts.lose();
                 }
-                self.judges(from, channel, &item_of(packet))
+                self.judges(from, channel, &item_of(self.defaults, packet))
             }
         }
     }

@@ -4,7 +4,7 @@ ghost use Rattle.x25_packet.specs.Packet.{plain};
 ghost use Rattle.x25_packet_judge.specs.Item as definition;
 
 use x25_packet::{Directions, Facilities, Packet, call_views};
-use x25_possible::{Packet as Item, Said, Sizes, Terms, Windows};
+use x25_possible::{Defaults, Packet as Item, Said, Sizes, Terms, Windows};
 
 /// The octets that a packet size stands for, 0 where it stands for none.
 fn octets_of(size: u8) -> u16
@@ -62,19 +62,20 @@ fn said(field: &[u8]) -> Said
     }
 }
 
-/// What a CALL proposes: packets of 128 octets and windows of 2 where it says nothing.
-fn proposed(said: Said) -> Terms
-    ensures { result ≡ definition.proposed said }
+/// What a CALL proposes: the network's defaults where it says nothing.
+fn proposed(defaults: Defaults, said: Said) -> Terms
+    ensures { result ≡ definition.proposed defaults said }
 {
     let sizes = said.sizes.unwrap_or(Sizes {
-        calling: 128,
-        called: 128,
+        calling: defaults.size,
+        called: defaults.size,
     });
     let windows = said.windows.unwrap_or(Windows {
-        calling: 2,
-        called: 2,
+        calling: defaults.window,
+        called: defaults.window,
     });
     Terms {
+        defaults,
         calling_size: sizes.calling,
         called_size: sizes.called,
         calling_window: windows.calling,
@@ -84,13 +85,14 @@ fn proposed(said: Said) -> Terms
 
 /// A packet as the rules of its channel look at it.
 #[tactic(auto, unfolding(crate::specs::Item::item_of))]
-pub(crate) fn item_of(packet: &Packet) -> Item
-    ensures { result ≡ definition.item_of (plain packet.now) }
+pub(crate) fn item_of(defaults: Defaults, packet: &Packet) -> Item
+    ensures { result ≡ definition.item_of defaults (plain packet.now) }
 {
     match packet {
-        Packet::Call { a, body, .. } => {
-            Item::Call(proposed(said(call_views(*a, body).facilities.as_slice())))
-        }
+        Packet::Call { a, body, .. } => Item::Call(proposed(
+            defaults,
+            said(call_views(*a, body).facilities.as_slice()),
+        )),
         Packet::Accept { a, body, .. } => {
             Item::Accept(said(call_views(*a, body).facilities.as_slice()))
         }

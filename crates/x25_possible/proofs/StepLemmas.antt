@@ -6,7 +6,8 @@ use Rattle.x25_possible.proofs.Names.{settled, grown, after_own, after_other, pl
 use Rattle.x25_possible.proofs.Names.{goes, go_all, grows, grow_all, are_at_end, anew, Packet, Phase, Idle, Calls, Resets, Clears, Restarts, Spot}
 use Rattle.std.proofs.{Common.{◌↔◌, length-drop, append-nil}, lemmas.Bool.{leb-false}, lemmas.List.{drop-drop, drop_at, drop-append-le}}
 use Rattle.x25_possible.proofs.Lists.{in_left, in_right, in_either}
-use Rattle.x25_possible.specs.{code.Steps.{same_limits, same_terms, is_same, is_there, anew_at}, declared.packet.Terms.{Terms}, declared.phase.Limits.{Limits}}
+use Rattle.x25_possible.specs.{code.Steps.{same_defaults, same_limits, same_numbers, same_terms, is_same, is_there, anew_at}, declared.packet.Defaults.{Defaults}}
+use Rattle.x25_possible.specs.{declared.packet.Terms.{Terms}, declared.phase.Limits.{Limits}}
 use Rattle.x25_possible.specs.{declared.phase.Phase.TheVariants.{WasCalled, WasReset, WasCleared, WasRestarted}, laws.Possible.{settled_by}}
 
 pub in_map : {X Y : Type 0} (f : X → Y) (xs : List X) (x : X) → IsIn x xs → IsIn (f x) (map f xs)
@@ -34,18 +35,27 @@ limits_are_same a b h =
     let p = and_parts (a.most == b.most) (a.window == b.window) h in
     ap₂ (λ m w. record { most = m; window = w }) (eqb-true a.most b.most p.0) (eqb-true a.window b.window p.1)
 
+defaults_are_same : (a b : Defaults) → same_defaults a b ≡ true → a ≡ b
+defaults_are_same a b h =
+    let p = and_parts (a.size == b.size) (a.window == b.window) h in
+    ap₂ (λ m w. record { size = m; window = w }) (eqb-true a.size b.size p.0) (eqb-true a.window b.window p.1)
+
 terms_are_same : (a b : Terms) → same_terms a b ≡ true → a ≡ b
-terms_are_same a b h =
+terms_are_same a b both =
+    let d = and_parts (same_defaults a.defaults b.defaults) (same_numbers a b) both in
+    let h = d.1 in
     let p = and_parts (a.calling_size == b.calling_size)
     (a.called_size == b.called_size && (a.calling_window == b.calling_window && a.called_window == b.called_window)) h in
     let q = and_parts (a.called_size == b.called_size) (a.calling_window == b.calling_window && a.called_window == b.called_window) p.1 in
     let r = and_parts (a.calling_window == b.calling_window) (a.called_window == b.called_window) q.1 in
-    ap₂ (λ (f : ℕ → Terms) w. f w)
-    (ap₂ (λ (f : ℕ → ℕ → Terms) v. f v)
-    (ap₂ (λ m n v w. record { calling_size = m; called_size = n; calling_window = v; called_window = w })
+    ap₂ (λ (f : Defaults → Terms) e. f e)
+    (ap₂ (λ (f : ℕ → Defaults → Terms) w. f w)
+    (ap₂ (λ (f : ℕ → ℕ → Defaults → Terms) v. f v)
+    (ap₂ (λ m n v w e. record { defaults = e; calling_size = m; called_size = n; calling_window = v; called_window = w })
     (eqb-true a.calling_size b.calling_size p.0) (eqb-true a.called_size b.called_size q.0))
     (eqb-true a.calling_window b.calling_window r.0))
-    (eqb-true a.called_window b.called_window r.1)
+    (eqb-true a.called_window b.called_window r.1))
+    (defaults_are_same a.defaults b.defaults d.0)
 
 are_same : (s r : Phase) → is_same s r ≡ true → s ≡ r
 are_same Idle Idle h = refl

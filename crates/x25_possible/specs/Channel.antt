@@ -52,24 +52,27 @@ called_limits terms said = record {
 abbrev pub limits_of : Talk → Limits
 limits_of k = record { most = k.most; window = k.window }
 
--- what is answered lies between what was proposed and what is usual: 128 octets, 2 packets; a size of 0 isn't known
+-- what is answered lies between what was proposed and the network's default; a size of 0 isn't known
 abbrev pub is_between : ℕ → ℕ → ℕ → Bool
 is_between a b n = nat_le a n && nat_le n b
 
 abbrev pub is_toward : ℕ → ℕ → ℕ → Bool
-is_toward usual proposed n = is_between usual proposed n || is_between proposed usual n
+is_toward default proposed n = is_between default proposed n || is_between proposed default n
 
-abbrev pub is_size : ℕ → ℕ → Bool
-is_size proposed n = proposed == 0 || is_toward 128 proposed n
+abbrev pub is_size : ℕ → ℕ → ℕ → Bool
+is_size default proposed n = proposed == 0 || is_toward default proposed n
 
 abbrev pub may_have_sizes : Terms → Option Sizes → Bool
 may_have_sizes terms None = true
-may_have_sizes terms (Some said) = is_size terms.called_size said.called && is_size terms.calling_size said.calling
+may_have_sizes terms (Some said) =
+    is_size terms.defaults.size terms.called_size said.called
+    && is_size terms.defaults.size terms.calling_size said.calling
 
 abbrev pub may_have_windows : Terms → Option Windows → Bool
 may_have_windows terms None = true
 may_have_windows terms (Some said) =
-    is_toward 2 terms.called_window said.called && is_toward 2 terms.calling_window said.calling
+    is_toward terms.defaults.window terms.called_window said.called
+    && is_toward terms.defaults.window terms.calling_window said.calling
 
 abbrev pub may_answer : Terms → Said → Bool
 may_answer terms said = may_have_sizes terms said.sizes && may_have_windows terms said.windows

@@ -71,25 +71,28 @@ fn called_limits(terms: Terms, said: Said) -> Limits
     }
 }
 
-/// What is answered lies between what was proposed and what is usual.
-fn is_toward(usual: u16, proposed: u16, n: u16) -> bool
-    ensures { result ≡ definition.is_toward usual proposed n }
+/// What is answered lies between what was proposed and the default.
+fn is_toward(default: u16, proposed: u16, n: u16) -> bool
+    ensures { result ≡ definition.is_toward default proposed n }
 {
-    (usual <= n && n <= proposed) || (proposed <= n && n <= usual)
+    (default <= n && n <= proposed) || (proposed <= n && n <= default)
 }
 
-fn is_size(proposed: u16, n: u16) -> bool
-    ensures { result ≡ definition.is_size proposed n }
+fn is_size(default: u16, proposed: u16, n: u16) -> bool
+    ensures { result ≡ definition.is_size default proposed n }
 {
-    proposed == 0 || is_toward(128, proposed, n)
+    proposed == 0 || is_toward(default, proposed, n)
 }
 
 fn may_have_sizes(terms: Terms, said: Option<Sizes>) -> bool
     ensures { result ≡ definition.may_have_sizes terms said }
 {
     match said {
-        Some(sizes) => is_size(terms.called_size, sizes.called)
-            && is_size(terms.calling_size, sizes.calling),
+        Some(sizes) => {
+            let default = terms.defaults.size;
+            is_size(default, terms.called_size, sizes.called)
+                && is_size(default, terms.calling_size, sizes.calling)
+        }
         None => true,
     }
 }
@@ -98,8 +101,11 @@ fn may_have_windows(terms: Terms, said: Option<Windows>) -> bool
     ensures { result ≡ definition.may_have_windows terms said }
 {
     match said {
-        Some(windows) => is_toward(2, terms.called_window.into(), windows.called.into())
-            && is_toward(2, terms.calling_window.into(), windows.calling.into()),
+        Some(windows) => {
+            let default = terms.defaults.window.into();
+            is_toward(default, terms.called_window.into(), windows.called.into())
+                && is_toward(default, terms.calling_window.into(), windows.calling.into())
+        }
         None => true,
     }
 }

@@ -14,9 +14,17 @@ pub struct Windows {
     pub called: u8,
 }
 
-/// What a call proposes.
+/// What the network has where nothing is said (sections 6.9 and 6.10): packet sizes in octets, and windows.
+#[derive(Clone, Copy, PartialEq, Eq)]
+pub struct Defaults {
+    pub size: u16,
+    pub window: u8,
+}
+
+/// What a call proposes, and toward what an answer may change it.
 #[derive(Clone, Copy, PartialEq, Eq)]
 pub struct Terms {
+    pub defaults: Defaults,
     pub calling_size: u16,
     pub called_size: u16,
     pub calling_window: u8,

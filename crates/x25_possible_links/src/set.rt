@@ -1,5 +1,5 @@
 //! The places in which an end of a link may be, frame by frame.
-ghost use Rattle.std.specs.Prelude.{◌≡◌, ◌<◌, drop, length, IfSome};
+ghost use Rattle.std.specs.Prelude.{◌≡◌, ◌<◌, ◌∷◌, [], drop, length, IfSome};
 ghost use Rattle.x25_possible_links.specs.code.Steps as definition;
 ghost use Rattle.x25_possible_links.specs.code.Steps.{IsInSession, IsSmall, IsStep, IsTaken};
 ghost use Rattle.x25_possible_links.specs.declared.stand.Stand.TheVariants.{Up};
@@ -156,6 +156,24 @@ impl LinkSet {
         });
         LinkSet {
             way,
+            spots,
+            spare: Spare { list: Spots::new() },
+            is_blind: false,
+        }
+    }
+
+    /// The end is in a session with such numbers, and nothing is on the way to it.
+    pub fn standing(k: Numbers) -> LinkSet
+        ensures { result ≡ definition.begun_as (Up k ∷ []) }
+    {
+        let at = 0;
+        let mut spots = Spots::new();
+        spots.push(Spot {
+            stand: Stand::Up(k),
+            at,
+        });
+        LinkSet {
+            way: ArrayVec::new(),
             spots,
             spare: Spare { list: Spots::new() },
             is_blind: false,

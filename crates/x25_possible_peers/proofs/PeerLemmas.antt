@@ -172,7 +172,7 @@ some_size p = go (2 ^ p == 0) refl
         none e h = omega (arith, e, h)
     go false is = refl
 
-size_is : (p n : ℕ) → is_size (2 ^ p) (2 ^ n) ≡ params_toward 7 p n
+size_is : (p n : ℕ) → is_size 128 (2 ^ p) (2 ^ n) ≡ params_toward 7 p n
 size_is p n = ap (λ c. c || is_toward 128 (2 ^ p) (2 ^ n)) (some_size p) ∙ ap₂ (λ c d. c || d) (within_is 7 p n) (within_is p 7 n)
 
 toward_itself : (usual p : ℕ) → params_toward usual p p ≡ true

@@ -1,8 +1,12 @@
 //! Sets of states behind tapes.
 use x25_bits::Role;
-use x25_possible::{Packet, Said, Set, Terms, Told};
+use x25_possible::{Defaults, Packet, Said, Set, Terms, Told};
 
 static USUAL: Terms = Terms {
+    defaults: Defaults {
+        size: 128,
+        window: 2,
+    },
     calling_size: 128,
     called_size: 128,
     calling_window: 2,

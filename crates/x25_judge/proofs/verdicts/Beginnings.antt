@@ -21,10 +21,13 @@ use Rattle.std.proofs.lemmas.List.Folds.{list_any-append}
 use Rattle.x25_possible_links.proofs.Covers.{Covers, Here, Asked, Later, Begins}
 use Rattle.x25_judge.proofs.{verdicts.Octets.{HasRoom, each_room, keeps_room}, verdicts.Silences.{no_numbers, saw}}
 use Rattle.x25_judge.proofs.verdicts.Silent.{Fits, IsWithin, comes_on, settled_comes, up_below, settled_within, upward_within}
-use Rattle.x25_judge.proofs.{verdicts.Following.{owed_first}, verdicts.Innocents.{sent_end}, verdicts.Manners.{IsFair, minds_has}}
+use Rattle.x25_judge.proofs.verdicts.TakenUp.{down_if_over, ends_watch, over_on}
+use Rattle.x25_judge.specs.{declared.midst.Watch.TheVariants.{Over}, laws.Tapes.{takes_up}}
+use Rattle.x25_judge.proofs.{verdicts.Following.{owed_first}, verdicts.Innocents.{sent_end, shown_end}, verdicts.Manners.{IsFair, minds_has}}
 use Rattle.x25_judge.specs.Links as links
 use Rattle.x25_possible_links.specs.laws.Places as place
 use Rattle.x25_possible_links.specs.code.Steps.{set_of}
+use Rattle.x25_possible.specs.declared.packet.Defaults.{Defaults}
 
 -- ---- a place from which a session may begin
 
@@ -299,20 +302,21 @@ not_up : (s : Stand) → is_of_order (Some (links.broken s Sabm)) ≡ true
 not_up Out = refl
 not_up s = refl
 
-heard_by : (from : Role) (j : Judge) (line octets : List ℕ) (frame : PlainFrame) → Shows line from octets frame
+heard_by : (from : Role) (j : Judge) (line octets : List ℕ) (frame : PlainFrame) → Shows line from octets frame → takes_up j from frame ≡ false
     → (own_of (other from) (answer_to j line).next).set ≡ shows_to (links.shown frame (differs (own_of from j).held frame)) (own_of (other from) j).set
-heard_by Dte j line octets frame shows = ap (λ (e : End). e.set) (goes j line Dte octets frame shows).opposite
-heard_by Dce j line octets frame shows = ap (λ (e : End). e.set) (goes j line Dce octets frame shows).opposite
+heard_by Dte j line octets frame shows down = (shown_end Dce j line octets frame shows down).places
+heard_by Dce j line octets frame shows down = (shown_end Dte j line octets frame shows down).places
 
 begun_by : (j : Judge) (r : Role) (s : LinkSet) → (own_of r j).set ≡ s → Has s (At fresh) [] → (s.is_blind ≡ false → IsNew s)
-    → (own_of r j).set.is_blind ≡ false → HasRoom (own_of r j).held → IsBegun j r
-begun_by j r s e h new sees room = record {
+    → (own_of r j).set.is_blind ≡ false → HasRoom (own_of r j).held → (own_of r j).watch ≡ Over → IsBegun j r
+begun_by j r s e h new sees room over = record {
   up = subst (λ (t : LinkSet). (q : Spot) × IsIn q t.spots.items × (is_below fresh (come t q) ≡ true)) (sym e)
       (h.0, h.1, below_is _ (holds_come h.0.stand (drop h.0.at s.way.items) h.2));
   new = subst (λ (t : LinkSet). (q : Spot) → IsIn q t.spots.items → is_new (come t q) ≡ true) (sym e)
       (λ q is. fits_is_new (come s q) (new (ap (λ (t : LinkSet). t.is_blind) (sym e) ∙ sees) q is));
   octets = room.octets;
   known = room.known;
+  over = over;
 }
 
 -- ---- octets of both ends keep their room
@@ -362,10 +366,10 @@ lines_stay : (j : Judge) (lines : List (List ℕ)) → AreRoomy j → AreRoomy (
 lines_stay j [] h = h
 lines_stay j (line ∷ lines) h = lines_stay (answer_to j line).next lines (line_stays j line h)
 
-begins_so : (window : ℕ) (reading : Reading) (strictness : Strictness) → AreRoomy (judge_begins window reading strictness)
+begins_so : (window : ℕ) (defaults : Defaults) (reading : Reading) (strictness : Strictness) → AreRoomy (judge_begins window defaults reading strictness)
 unfolding no_octets
-begins_so window reading strictness Dte = record { octets = refl; known = refl }
-begins_so window reading strictness Dce = record { octets = refl; known = refl }
+begins_so window defaults reading strictness Dte = record { octets = refl; known = refl }
+begins_so window defaults reading strictness Dce = record { octets = refl; known = refl }
 
 -- ---- the law
 
@@ -392,16 +396,28 @@ begin_both j from end asks accepts asked accepted p f stays first second asks_we
     j2 : Judge
     j2 = (answer_to j1 accepts).next
 
+    asks_down : takes_up j from (sabm p) ≡ false
+    asks_down = down_if_over j from (sabm p) refl
+
+    accepts_down : takes_up j1 (other from) (ua f) ≡ false
+    accepts_down = down_if_over j1 (other from) (ua f) refl
+
+    asker_over : (own_of from j2).watch ≡ Over
+    asker_over = over_on j1 accepts accepted from (other from) (ua f) second (ends_watch j asks asked from (sabm p) first refl)
+
+    answerer_over : (own_of (other from) j2).watch ≡ Over
+    answerer_over = ends_watch j1 accepts accepted (other from) (ua f) second refl
+
     still : AreRoomy j2
     still = line_stays j1 accepts (line_stays j asks stays)
 
     asked_is : (own_of from j2).set ≡ shows_to Ua (sends_to Sabm (own_of from j).set).set
     asked_is =
         subst (λ (r : Role). (own_of r j2).set ≡ shows_to Ua (own_of r j1).set) (other_twice from)
-        (heard_by (other from) j1 accepts accepted (ua f) second) ∙ ap (shows_to Ua) (sent_end from j asks asked (sabm p) first).places
+        (heard_by (other from) j1 accepts accepted (ua f) second accepts_down) ∙ ap (shows_to Ua) (sent_end from j asks asked (sabm p) first asks_down).places
 
     shown_is : (own_of (other from) j1).set ≡ shows_to Sabm (own_of (other from) j).set
-    shown_is = heard_by from j asks asked (sabm p) first
+    shown_is = heard_by from j asks asked (sabm p) first asks_down
 
     untold : (sends_to Ua (shows_to Sabm (own_of (other from) j).set)).told ≡ Nothing
     untold =
@@ -413,27 +429,27 @@ begin_both j from end asks accepts asked accepted p f stays first second asks_we
         begun_by j2 from _ asked_is (asker set)
         (λ s. asker_new set free (not_told j from (sabm p) Sabm (λ d. refl) asks_well not_up not_up)
         (saw (sends_to Sabm set).set.is_blind (shows_to Ua (sends_to Sabm set).set).is_blind (blind_shows (sends_to Sabm set).set Ua) s) s) sees
-        (still from)
+        (still from) asker_over
 
     by_answerer : has_number (own_of (other from) j).set.way.items ≡ false → (own_of (other from) j2).set.is_blind ≡ false → IsBegun j2 (other from)
     by_answerer free sees =
         let set = (own_of (other from) j).set in
         begun_by j2 (other from) _
-        ((sent_end (other from) j1 accepts accepted (ua f) second).places ∙ ap (λ (s : LinkSet). (sends_to Ua s).set) shown_is)
+        ((sent_end (other from) j1 accepts accepted (ua f) second accepts_down).places ∙ ap (λ (s : LinkSet). (sends_to Ua s).set) shown_is)
         (answerer set untold) (λ s. answerer_new set free
         (saw (shows_to Sabm set).is_blind (sends_to Ua (shows_to Sabm set)).set.is_blind (blind_sends (shows_to Sabm set) Ua) s) s untold) sees
-        (still (other from))
+        (still (other from)) answerer_over
 
 after_on : (j : Judge) (xs ys : List (List ℕ)) → after j (xs ++ ys) ≡ after (after j xs) ys
 after_on j [] ys = refl
 after_on j (x ∷ xs) ys = after_on (answer_to j x).next xs ys
 
 pub set_ups_begin : SetUpsBegin
-set_ups_begin window reading strictness lines from end asks accepts asked accepted p f first second asks_well quiet clear room =
-    let j = after (judge_begins window reading strictness) lines in
-    let all = after_on (judge_begins window reading strictness) lines (asks ∷ accepts ∷ []) in
+set_ups_begin window defaults reading strictness lines from end asks accepts asked accepted p f first second asks_well quiet clear room =
+    let j = after (judge_begins window defaults reading strictness) lines in
+    let all = after_on (judge_begins window defaults reading strictness) lines (asks ∷ accepts ∷ []) in
     subst (λ k. IsBegun k end) (sym all)
-    (begin_both j from end asks accepts asked accepted p f (lines_stay (judge_begins window reading strictness) lines (begins_so window reading strictness))
+    (begin_both j from end asks accepts asked accepted p f (lines_stay (judge_begins window defaults reading strictness) lines (begins_so window defaults reading strictness))
     first second asks_well
-    (subst (λ k. is_of_order (rule_of k (other from) (ua f)) ≡ false) (after_on (judge_begins window reading strictness) lines (asks ∷ [])) quiet) clear
+    (subst (λ k. is_of_order (rule_of k (other from) (ua f)) ≡ false) (after_on (judge_begins window defaults reading strictness) lines (asks ∷ [])) quiet) clear
     (subst (λ k. (own_of end k).set.is_blind ≡ false) all room))

@@ -1,7 +1,7 @@
 -- What no run of an end that keeps the rules explains is told, and the first rule of order is told of that alone.
 use Rattle.x25_judge.proofs.verdicts.Names.{◌≡◌, ℕ, Bool, true, false, [], ◌∷◌, None, refl, sym, ap, ◌∙◌, subst, is_some, both_ways, Role, PlainFrame, info}
 use Rattle.x25_judge.proofs.verdicts.Names.{differs, own_of, seen_by, Judge, Minding, Sent, is_of_order, rule_of, GuiltyAreTold, ToldAreGuilty, begun_as}
-use Rattle.x25_judge.proofs.{verdicts.Names.{played, sends_to, Frame, Info, LinkSet, Told, Broken, Nothing, Skips, Stand, Free, Up}, verdicts.Tapes.{told_is}}
+use Rattle.x25_judge.proofs.{verdicts.Names.{played, sends_to, Frame, Info, LinkSet, Told, Broken, Nothing, Skips, Stand, Up}, verdicts.Tapes.{told_is}}
 use Rattle.x25_judge.proofs.{verdicts.Innocents.{none_of_order, seen_fair, sent_end}, verdicts.Manners.{minds_has}}
 use Rattle.x25_judge.proofs.verdicts.{Lines.{IsTold, first_keeps}, Minded.{Tells, asks_tells, first_brings, number_tells, tells_of}}
 use Rattle.x25_judge.specs.Links as links
@@ -55,25 +55,25 @@ untold from j frame none = go _ refl
 -- ---- the laws
 
 pub guilty_are_told : GuiltyAreTold
-guilty_are_told of j tape s way line octets frame is h well shows sees none =
+guilty_are_told of j begun tape s way line octets frame is h well shows down sees none =
     tells_of of j frame (frame_tells j.window _ _ frame (differs (own_of of j).held frame) _ not_nothing refl)
   where
     x : Frame
     x = links.shown frame (differs (own_of of j).held frame)
 
-    all : sends_to x (own_of of j).set ≡ sends_to x (played (begun_as (Free ∷ [])) tape)
-    all = told_is of j tape x is
+    all : sends_to x (own_of of j).set ≡ sends_to x (played (begun_as begun) tape)
+    all = told_is of j begun tape x is
 
-    room : (sends_to x (played (begun_as (Free ∷ [])) tape)).set.is_blind ≡ false
-    room = sym (ap (λ t. t.set.is_blind) all) ∙ sym (ap (λ (m : LinkSet). m.is_blind) (sent_end of j line octets frame shows).places) ∙ sees
+    room : (sends_to x (played (begun_as begun) tape)).set.is_blind ≡ false
+    room = sym (ap (λ t. t.set.is_blind) all) ∙ sym (ap (λ (m : LinkSet). m.is_blind) (sent_end of j line octets frame shows down).places) ∙ sees
 
     not_nothing : (sends_to x (own_of of j).set).told ≡ Nothing → ⊥
-    not_nothing e = sets.guilty_are_told (Free ∷ []) tape x s way h well room none (sym (ap (λ t. t.told) all) ∙ e)
+    not_nothing e = sets.guilty_are_told begun tape x s way h well room none (sym (ap (λ t. t.told) all) ∙ e)
 
 pub told_are_guilty : ToldAreGuilty
-told_are_guilty of j tape frame s way is order run well =
+told_are_guilty of j begun tape frame s way is order run well =
     both_ways (is_of_order (rule_of j of frame))
     (none_of_order of j frame
     (seen_fair of j frame
-    (ap (λ t. t.told) (told_is of j tape (links.shown frame (differs (own_of of j).held frame)) is)
-    ∙ sets.innocents_stay_untold (Free ∷ []) tape (links.shown frame (differs (own_of of j).held frame)) s way run well))) order
+    (ap (λ t. t.told) (told_is of j begun tape (links.shown frame (differs (own_of of j).held frame)) is)
+    ∙ sets.innocents_stay_untold begun tape (links.shown frame (differs (own_of of j).held frame)) s way run well))) order

@@ -14,6 +14,8 @@ use Rattle.std.proofs.Math.Bool.{or-true}
 use Rattle.x25_possible_links.specs.laws.Link.{hears, begins}
 use Rattle.x25_line.specs.laws.Said.{said as read_as}
 use Rattle.x25_possible_links.proofs.Covers.{Covers, Here, Asked, Later, Begins}
+use Rattle.x25_judge.proofs.verdicts.TakenUp.{apart_hears, down_if_over, says_apart, stays_apart}
+use Rattle.x25_judge.specs.laws.Tapes.{takes_up}
 use Rattle.x25_judge.proofs.{verdicts.Lines.{goes, past, told_of_order}, verdicts.Manners.{minds_fair}, verdicts.Silent.{heard_sent}}
 use Rattle.x25_judge.proofs.verdicts.Octets.{HasSent, HasRoom, IsHeld, begun_held, each_room, held_less, held_more, is_before, keeps_room, pushed_held, same_octets}
 use Rattle.x25_judge.proofs.verdicts.Following.{heard_keeps, IsPart, IsSame, IsSeen, Means, Says, front, means_on, means_same, numbers_of, says, sent_is, stand_of}
@@ -396,17 +398,24 @@ pub record IsEnd (set : LinkSet) (held : Held) (e : End) : Type 0 where
 same_end : (e f : End) → e ≡ f → IsEnd f.set f.held e
 same_end e f is = record { places = ap (λ (e : End). e.set) is; octets = ap (λ (e : End). e.held) is }
 
-pub sent_end : (from : Role) (j : Judge) (line octets : List ℕ) (frame : PlainFrame) → Shows line from octets frame
+-- the end, where the link isn't taken up
+same_up : (e f : End) (b : Bool) (up set : LinkSet) → e ≡ f → f.set ≡ (if b then up else set) → b ≡ false → IsEnd set f.held e
+same_up e f b up set is at down = record {
+  places = ap (λ (e : End). e.set) is ∙ (at ∙ ap (λ c. if c then up else set) down);
+  octets = ap (λ (e : End). e.held) is;
+}
+
+pub sent_end : (from : Role) (j : Judge) (line octets : List ℕ) (frame : PlainFrame) → Shows line from octets frame → takes_up j from frame ≡ false
     → IsEnd (sends_to (shown frame (differs (own_of from j).held frame)) (own_of from j).set).set
     (keeps (held_by (sends_to (shown frame (differs (own_of from j).held frame)) (own_of from j).set).told (own_of from j).held) frame)
     (own_of from (answer_to j line).next)
-sent_end from j line octets frame shows = same_end _ _ (goes j line from octets frame shows).own
+sent_end from j line octets frame shows down = same_up _ _ (takes_up j from frame) _ _ (goes j line from octets frame shows).own refl down
 
 pub shown_end : (from : Role) (j : Judge) (line octets : List ℕ) (frame : PlainFrame) → Shows line (other from) octets frame
-    → IsEnd (shows_to (shown frame (differs (own_of (other from) j).held frame)) (own_of from j).set) (own_of from j).held
+    → takes_up j (other from) frame ≡ false → IsEnd (shows_to (shown frame (differs (own_of (other from) j).held frame)) (own_of from j).set) (own_of from j).held
     (own_of from (answer_to j line).next)
-shown_end Dte j line octets frame shows = same_end _ _ (goes j line Dce octets frame shows).opposite
-shown_end Dce j line octets frame shows = same_end _ _ (goes j line Dte octets frame shows).opposite
+shown_end Dte j line octets frame shows down = same_up _ _ (takes_up j Dce frame) _ _ (goes j line Dce octets frame shows).opposite refl down
+shown_end Dce j line octets frame shows down = same_up _ _ (takes_up j Dte frame) _ _ (goes j line Dte octets frame shows).opposite refl down
 
 pub missed_end : (from : Role) (j : Judge) (line octets : List ℕ) → IsDamaged line from octets
     → IsEnd (sends_to Unread (own_of from j).set).set (forgets_each (own_of from j).set.spots.items (own_of from j).held)
@@ -483,20 +492,21 @@ at_first = record {
 }
 
 standing : (from : Role) (j : Judge) (stand : session.Stand) (p : Peer) (way : Way) → MayStand from j stand p way → FollowsOf (own_of from j) stand p way
-standing Dte _ _ _ _ (sessions.Starts window reading strictness) = at_first
-standing Dce _ _ _ _ (sessions.Starts window reading strictness) = at_first
+standing Dte _ _ _ _ (sessions.Starts window defaults reading strictness) = at_first
+standing Dce _ _ _ _ (sessions.Starts window defaults reading strictness) = at_first
 standing from _ _ _ _ (sessions.SetUp j b) = begun from j b
 standing from _ stand _ way (sessions.HandsDown j _ p _ packet h) = handed (standing from j stand p way h) packet
 standing from j _ p way (sessions.Leaves _ stand _ _ h) = left (standing from j stand p way h)
 standing from _ _ _ _ (sessions.Says j stand next p q way rest line octets frame shows may h) =
-    let g = sent_end from j line octets frame shows in
+    let over = says_apart (own_of from j).watch stand next p q way rest frame (differs (own_of from j).held frame) (stays_apart from j stand p way h) may in
+    let g = sent_end from j line octets frame shows (down_if_over j from frame over) in
     let was = standing from j stand p way h in
     by_end {e = own_of from (answer_to j line).next} (record {
       places = g.places;
       octets = g.octets ∙ ap (λ t. keeps (held_by t (own_of from j).held) frame) (says_untold was next q rest frame may);
     }) (says_on was next q rest frame may)
 standing from _ stand p _ (sessions.Shown j _ _ way line octets frame shows timely h) =
-    by_end (shown_end from j line octets frame shows)
+    by_end (shown_end from j line octets frame shows (apart_hears j from stand frame (stays_apart from j stand p way h)))
     (shown_on (standing from j stand p way h) _ (Some frame) (inl (differs (own_of (other from) j).held frame, refl)) timely)
 standing from _ _ _ _ (sessions.Garbles j stand next p q way rest line octets frame broken may h) =
     by_end (missed_end from j line octets broken) (garbles_on (standing from j stand p way h) next q rest frame may)

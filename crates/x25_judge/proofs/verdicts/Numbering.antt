@@ -6,6 +6,7 @@ use Rattle.x25_judge.proofs.verdicts.Names.{ReadsWhatIsSpelled, Peer, fresh_peer
 use Rattle.x25_judge.proofs.{verdicts.Names.{IsNumbered, SilenceMeansNumbers, SilenceMeansRules, more, Unread, Some, Ok}, verdicts.Innocents.{lost_end}}
 use Rattle.x25_judge.specs.laws.Explaining.{IsUntold, Begins, Says, Comes, Fails, IsKept, Fresh, HandsDown, Sends, Hears, Carries, Nothing, Next, Again, Beside}
 use Rattle.x25_judge.specs.laws.Explaining.{Passes}
+use Rattle.x25_judge.proofs.verdicts.TakenUp.{untold_over}
 use Rattle.x25_judge.proofs.verdicts.Silences.{Explains, Given, begun_knows, noted_line, notes_given, other_by, other_line, own_line, passes_line}
 
 -- what holds of such lines and of the end behind them
@@ -32,16 +33,17 @@ module _ (reads : ReadsWhatIsSpelled) (from : Role) (Damage : Type 0) (P : List 
   reached : (j : Judge) (lines : List (List ℕ)) → IsUntold Damage from j lines → (own_of from j).set.is_blind ≡ false → Reached from P j lines
   reached j lines (Begins k up) room = record { p = fresh_peer; holds = starts; knows = begun_knows j from (up from) room }
   reached k all (Says j lines line octets frame shows is quiet h) room =
-      let own = own_line from j line octets frame shows is quiet room in
+      let own = own_line from j line octets frame shows is (untold_over Damage from from j lines h) quiet room in
       let e = reached j lines h own.sees in
       let x = passes_line reads from j line octets frame e.p shows is own e.knows in
       record { p = x.q; holds = steps.own lines e.p x.q line octets frame shows e.knows.all x.sends x.shown e.holds; knows = x.knows }
   reached k all (Comes j lines line octets frame shows is h) room =
-      let e = reached j lines h (other_line from j line octets frame shows room).sees in
+      let over = untold_over Damage from from j lines h in
+      let e = reached j lines h (other_line from j line octets frame shows over room).sees in
       record {
         p = notes (Ok frame) e.p;
         holds = steps.opposite lines e.p line octets frame shows is e.holds;
-        knows = noted_line from j line octets frame e.p shows is room e.knows;
+        knows = noted_line from j line octets frame e.p shows is over room e.knows;
       }
   reached k all (Fails j lines line octets damage broken h) room =
       let o = other_by from j line Unread (lost_end from j line octets broken) room in

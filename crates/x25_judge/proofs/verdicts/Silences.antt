@@ -13,6 +13,8 @@ use Rattle.x25_judge.proofs.verdicts.Names.{blind_shows, counted_at, Acknowledge
 use Rattle.x25_possible_links.proofs.Stands.{IsNumbered as MayBeNumbered}
 use Rattle.x25_frame.specs.Spelling.{IsWithin as IsWithinLine, information_of}
 use Rattle.x25_line.specs.laws.{InWindow.{IsPrefix}, PeerClaims.{KeepsOrder, OnAnySilentTape}, PeerJoined.{JoinedOnce}}
+use Rattle.x25_judge.proofs.verdicts.TakenUp.{over_hears, over_stays_down, watched_over}
+use Rattle.x25_judge.specs.declared.midst.Watch.TheVariants.{Over}
 use Rattle.x25_judge.proofs.{verdicts.Following.{numbers_of, sent_is}, verdicts.Guilty.{untold}, verdicts.Innocents.{IsEnd, sent_end, shown_end}}
 use Rattle.x25_judge.proofs.verdicts.Lines.{other_twice, none_told}
 use Rattle.x25_judge.proofs.verdicts.Octets.{AreKnown, IsHeld, begun_held, is_before, last_of, old_octets, pushed_held, sent_held, sent_known}
@@ -261,12 +263,13 @@ pub record OwnLine (from : Role) (j : Judge) (line : List ℕ) (frame : PlainFra
       → Explains (own_of from (answer_to j line).next) p
 
 pub own_line : (from : Role) (j : Judge) (line octets : List ℕ) (frame : PlainFrame) → Shows line from octets frame → IsNumbered frame
-    → (answer_to j line).is_faulty ≡ false → (own_of from (answer_to j line).next).set.is_blind ≡ false → OwnLine from j line frame
-own_line from j line octets frame shows is quiet room =
+    → (own_of from j).watch ≡ Over → (answer_to j line).is_faulty ≡ false → (own_of from (answer_to j line).next).set.is_blind ≡ false
+    → OwnLine from j line frame
+own_line from j line octets frame shows is over quiet room =
     let set = (own_of from j).set in
     let h = (own_of from j).held in
     let x = shown frame (differs h frame) in
-    let g = sent_end from j line octets frame shows in
+    let g = sent_end from j line octets frame shows (over_stays_down j from frame over) in
     let told = untold from j frame (none_told j line from octets frame shows quiet) in
     let now = sym (ap (λ (s : LinkSet). s.is_blind) g.places) ∙ room in
     record {
@@ -297,9 +300,10 @@ other_by from j line y g room =
     }
 
 pub other_line : (from : Role) (j : Judge) (line octets : List ℕ) (frame : PlainFrame) → Shows line (other from) octets frame
-    → (own_of from (answer_to j line).next).set.is_blind ≡ false → OtherLine from j line (shown frame (differs (own_of (other from) j).held frame))
-other_line from j line octets frame shows room =
-    other_by from j line (shown frame (differs (own_of (other from) j).held frame)) (shown_end from j line octets frame shows) room
+    → (own_of from j).watch ≡ Over → (own_of from (answer_to j line).next).set.is_blind ≡ false → OtherLine from j line (shown frame (differs (own_of (other from) j).held frame))
+other_line from j line octets frame shows over room =
+    other_by from j line (shown frame (differs (own_of (other from) j).held frame))
+    (shown_end from j line octets frame shows (over_hears j from frame over)) room
 
 -- what it hears and takes of the other end
 noted : (frame : PlainFrame) (d : Bool) (p : Peer) → IsNumbered frame → heard true true (numbers_of p) (shown frame d) ≡ numbers_of (notes (Ok frame) p)
@@ -325,10 +329,10 @@ notes_given (Tells (Some c) nr) p = taking_given (c.ns == length p.taken % 8) c.
 notes_given s p = refl
 
 pub noted_line : (from : Role) (j : Judge) (line octets : List ℕ) (frame : PlainFrame) (p : Peer) → Shows line (other from) octets frame
-    → IsNumbered frame → (own_of from (answer_to j line).next).set.is_blind ≡ false → Explains (own_of from j) p
+    → IsNumbered frame → (own_of from j).watch ≡ Over → (own_of from (answer_to j line).next).set.is_blind ≡ false → Explains (own_of from j) p
     → Explains (own_of from (answer_to j line).next) (notes (Ok frame) p)
-noted_line from j line octets frame p shows is room e =
-    (other_line from j line octets frame shows room).on p (notes (Ok frame) p)
+noted_line from j line octets frame p shows is over room e =
+    (other_line from j line octets frame shows over room).on p (notes (Ok frame) p)
     (sym (noted frame (differs (own_of (other from) j).held frame) p is)) (notes_given (said (Ok frame)) p) e
 
 -- a line of the end, of which nothing is told
@@ -362,17 +366,18 @@ explained reads c longest w (Rests v front rear h) room =
     let e = explained reads c longest v h room in record { p = e.p; silent = e.silent; given = e.given; knows = e.knows }
 explained reads c longest w (Says v line octets frame rest front shows is h) room =
     let here = subst (λ r. Shows line r octets frame) (sym (other_twice c.role)) shows in
-    let e = explained reads c longest v h (other_line (other c.role) v.judge line octets frame here room).sees in
+    let over = watched_over _ _ _ c (other c.role) v h in
+    let e = explained reads c longest v h (other_line (other c.role) v.judge line octets frame here over room).sees in
     let read : frame_of c.role c.longest octets ≡ Ok frame = ap (λ n. frame_of c.role n octets) longest ∙ shows.reads in
     record {
       p = notes (frame_of c.role c.longest octets) e.p;
       silent = tape.Shows (joined v e.p) octets rest front e.silent;
       given = ap (λ x. (notes x e.p).given) read ∙ notes_given (said (Ok frame)) e.p ∙ e.given;
       knows = subst (λ x. Explains (own_of (other c.role) (answer_to v.judge line).next) (notes x e.p)) (sym read)
-          (noted_line (other c.role) v.judge line octets frame e.p here is room e.knows);
+          (noted_line (other c.role) v.judge line octets frame e.p here is over room e.knows);
     }
 explained reads c longest w (Comes v line octets frame shows is quiet lags h) room =
-    let own = own_line (other c.role) v.judge line octets frame shows is quiet room in
+    let own = own_line (other c.role) v.judge line octets frame shows is (watched_over _ _ _ c (other c.role) v h) quiet room in
     let e = explained reads c longest v h own.sees in
     let read : frame_of (other c.role) c.longest octets ≡ Ok frame = ap (λ n. frame_of (other c.role) n octets) longest ∙ shows.reads in
     let x = passes_line reads (other c.role) v.judge line octets frame e.p shows is own e.knows in

@@ -96,7 +96,8 @@ after_frames (f ∷ fs) j = after_frames fs (told_frame j f.0 [] f.1 (seen_by j 
 
 abbrev pub made_at : At → List Sent → Judge
 made_at at frames = after_frames frames
-    (begins_at at 7 (record { long = false; wide = false }) (record { unjudged = true; manners = true }))
+    (begins_at at 7 (record { size = 128; window = 2 }) (record { long = false; wide = false })
+    (record { unjudged = true; manners = true }))
 
 abbrev pub rule_of : Judge → Role → PlainFrame → Option Rule
 rule_of j from frame = (remark_of j from frame (seen_by j from frame)).rule

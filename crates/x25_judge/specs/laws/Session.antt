@@ -5,7 +5,8 @@ use Rattle.x25_bits.specs.declared.role.Role.{Role}
 use Rattle.x25_decode.specs.Decoding.{n1, sent_in}
 use Rattle.x25_frame.specs.{Frame.{PlainFrame, info, rr, rnr, rej, dm, frmr}, Reading.{frame_of}}
 use Rattle.x25_judge.specs.Judge.{own_of, remark_of, seen_by}
-use Rattle.x25_judge.specs.declared.{judge.Judge.{Judge}, rule.Rule.{Rule}, rule.Rule.TheVariants.{Differs, Packet}}
+use Rattle.x25_judge.specs.declared.{judge.Judge.{Judge}, midst.Watch.TheVariants.{Over}, rule.Rule.{Rule}}
+use Rattle.x25_judge.specs.declared.rule.Rule.TheVariants.{Differs, Packet}
 use Rattle.x25_judge.specs.declared.rule.Rule.TheVariants.{NoFrame, UaUnasked, NotUp, Unsent, Falls, OverWindow}
 use Rattle.x25_line.specs.laws.Stations.{is_visible}
 use Rattle.x25_possible.specs.laws.Possible.{IsIn}
@@ -35,6 +36,7 @@ pub record IsBegun (j : Judge) (from : Role) : Type 0 where
   pub new : (q : Spot) → IsIn q (own_of from j).set.spots.items → is_new (come (own_of from j).set q) ≡ true
   pub octets : length (own_of from j).held.octets ≡ 8
   pub known : length (own_of from j).held.known ≡ 8
+  pub over : (own_of from j).watch ≡ Over
 
 -- what may be UA is on the way, or numbers are
 abbrev pub has_answer : List Frame → Bool

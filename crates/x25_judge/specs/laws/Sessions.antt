@@ -13,6 +13,7 @@ use Rattle.x25_link.specs.Hearing.{other}
 use Rattle.x25_line.specs.laws.PeerSessions.{Stand, Out, Asking, In}
 use Rattle.x25_text.specs.declared.text.TheConstants.{ROOM}
 use Rattle.x25_judge.specs.laws.Session.{IsBegun, Shows, IsDamaged, IsTimely, Way}
+use Rattle.x25_possible.specs.declared.packet.Defaults.{Defaults}
 
 -- ---- what is on the way to it
 
@@ -70,8 +71,8 @@ pub data MaySay (stand : Stand) (p : Peer) (way : Way) : PlainFrame → Stand �
 -- The end `from` may stand so where the judge is behind such lines, and this is on the way to it.
 pub data MayStand (from : Role) : Judge → Stand → Peer → Way → Type 0 where
   -- nothing was shown or set up
-  Starts : (window : ℕ) (reading : Reading) (strictness : Strictness)
-      → MayStand from (begins window reading strictness) Out fresh_peer []
+  Starts : (window : ℕ) (defaults : Defaults) (reading : Reading) (strictness : Strictness)
+      → MayStand from (begins window defaults reading strictness) Out fresh_peer []
   -- or the trace has shown a set-up
   SetUp : (j : Judge) → IsBegun j from → MayStand from j In fresh_peer []
   -- it is handed down a packet

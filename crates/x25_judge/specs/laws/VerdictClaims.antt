@@ -3,7 +3,7 @@ use Rattle.std.specs.Prelude.{◌≡◌, ◌⊎◌, ℕ, ◌≤◌, Bool, true, 
 use Rattle.x25_bits.specs.declared.role.Role.{Role}
 use Rattle.x25_decode.specs.Decoding.{n1}
 use Rattle.x25_frame.specs.Frame.{PlainFrame, info, sabm, ua}
-use Rattle.x25_judge.specs.{Held.{differs}, Judge.{answer_to, begins, other_of, own_of, seen_by}, Links.{place, shown}}
+use Rattle.x25_judge.specs.{Judge.{answer_to, begins, other_of, own_of, seen_by}, Links.{place}}
 use Rattle.x25_decode.specs.declared.answer.Reading.{Reading}
 use Rattle.x25_judge.specs.Manners.{goes_on, may_go_back, seen_place}
 use Rattle.x25_judge.specs.declared.{judge.Judge.{Judge}, judge.Strictness.{Strictness}, manners.Manners.{Manners}}
@@ -11,18 +11,22 @@ use Rattle.x25_judge.specs.declared.manners.Place.{Place}
 use Rattle.x25_possible.specs.laws.Possible.{IsUnexplained, Item, Own, Stands}
 use Rattle.x25_possible_links.specs.code.Steps.{numbers}
 use Rattle.x25_possible_links.specs.laws.{Link.{State, link_rules}, Sets.{IsRoomy, IsTimely}}
-use Rattle.x25_possible_links.specs.declared.{frame.Frame.{Frame}, stand.Stand.TheVariants.{Free}}
-use Rattle.x25_line.specs.laws.{InWindow.{IsPrefix}, Peer.{Peer}, PeerSessions.{Stand}}
+use Rattle.x25_possible_links.specs.declared.frame.Frame.{Frame}
+use Rattle.x25_line.specs.laws.{InWindow.{IsPrefix}, Peer.{Peer}}
+use Rattle.x25_line.specs.laws.PeerSessions as sessions
+use Rattle.x25_possible_links.specs.declared.stand.Stand.{Stand}
 use Rattle.x25_link.specs.{Hearing.{other}, Station.{LinkSettings}}
-use Rattle.x25_judge.specs.laws.{Explaining.{IsKept, IsUntold, Carries}, Sessions.{MaySay, MayStand}, Tapes.{IsTape}}
+use Rattle.x25_judge.specs.laws.{Explaining.{IsKept, IsUntold, Carries}, Sessions.{MaySay, MayStand}}
+use Rattle.x25_judge.specs.laws.Tapes.{IsTape, seen_as, takes_up}
 use Rattle.x25_judge.specs.laws.Session.{IsBegun, Shows, IsNumbered, has_answer, has_number, is_final, is_of_order}
 use Rattle.x25_judge.specs.laws.{Session.{is_up, rule_of, Way}, Watching.{Watched, IsSilent, IsAny}}
 use Rattle.x25_packet_judge.specs.Numbers.{apart}
+use Rattle.x25_possible.specs.declared.packet.Defaults.{Defaults}
 
 -- no rule of order is told of what an end sends that keeps the rules, over any number of set-ups
 abbrev pub NoSessionIsAccused : Type 0
 NoSessionIsAccused =
-    (from : Role) (j : Judge) (stand next : Stand) (p q : Peer) (way rest : Way) (line octets : List ℕ)
+    (from : Role) (j : Judge) (stand next : sessions.Stand) (p q : Peer) (way rest : Way) (line octets : List ℕ)
     (frame : PlainFrame) → MayStand from j stand p way → Shows line from octets frame
     → MaySay stand p way frame next q rest → is_of_order (rule_of j from frame) ≡ false
 
@@ -66,14 +70,16 @@ IsClear j from end =
 -- session of each begins, but for what of before is on the way.
 abbrev pub SetUpsBegin : Type 0
 SetUpsBegin =
-    (window : ℕ) (reading : Reading) (strictness : Strictness) (lines : List (List ℕ)) (from end : Role)
-    (asks accepts asked accepted : List ℕ) (p f : Bool)
+    (window : ℕ) (defaults : Defaults) (reading : Reading) (strictness : Strictness)
+    (lines : List (List ℕ)) (from end : Role) (asks accepts asked accepted : List ℕ) (p f : Bool)
     → Shows asks from asked (sabm p) → Shows accepts (other from) accepted (ua f)
-    → is_of_order (rule_of (after (begins window reading strictness) lines) from (sabm p)) ≡ false
-    → is_of_order (rule_of (after (begins window reading strictness) (lines ++ asks ∷ [])) (other from) (ua f)) ≡ false
-    → IsClear (after (begins window reading strictness) lines) from end
-    → (own_of end (after (begins window reading strictness) (lines ++ asks ∷ accepts ∷ []))).set.is_blind ≡ false
-    → IsBegun (after (begins window reading strictness) (lines ++ asks ∷ accepts ∷ [])) end
+    → is_of_order (rule_of (after (begins window defaults reading strictness) lines) from (sabm p)) ≡ false
+    → is_of_order (rule_of (after (begins window defaults reading strictness) (lines ++ asks ∷ []))
+    (other from) (ua f)) ≡ false
+    → IsClear (after (begins window defaults reading strictness) lines) from end
+    → (own_of end (after (begins window defaults reading strictness)
+    (lines ++ asks ∷ accepts ∷ []))).set.is_blind ≡ false
+    → IsBegun (after (begins window defaults reading strictness) (lines ++ asks ∷ accepts ∷ [])) end
 
 -- ---- what is told
 
@@ -81,21 +87,20 @@ SetUpsBegin =
 -- told, or that numbers are left out.
 abbrev pub GuiltyAreTold : Type 0
 GuiltyAreTold =
-    (of : Role) (j : Judge) (tape : List (Item Frame)) (s : State) (way : List Frame) (line octets : List ℕ)
-    (frame : PlainFrame) → IsTape of j tape → (run : Stands (link_rules (Free ∷ [])) tape s way)
-    → IsTimely run ⊎ IsRoomy (Free ∷ []) tape → Shows line of octets frame
-    → (own_of of (answer_to j line).next).set.is_blind ≡ false
-    → IsUnexplained (link_rules (Free ∷ [])) (Own (shown frame (differs (own_of of j).held frame)) ∷ tape)
-    → is_some (rule_of j of frame) ≡ true
+    (of : Role) (j : Judge) (begun : List Stand) (tape : List (Item Frame)) (s : State) (way : List Frame)
+    (line octets : List ℕ) (frame : PlainFrame) → IsTape of j begun tape
+    → (run : Stands (link_rules begun) tape s way) → IsTimely run ⊎ IsRoomy begun tape → Shows line of octets frame
+    → takes_up j of frame ≡ false → (own_of of (answer_to j line).next).set.is_blind ≡ false
+    → IsUnexplained (link_rules begun) (Own (seen_as j of frame) ∷ tape) → is_some (rule_of j of frame) ≡ true
 
 -- And where a rule of order is told for the first time, no run does in which nothing comes too late; and none at all
 -- where there was room on the way.
 abbrev pub ToldAreGuilty : Type 0
 ToldAreGuilty =
-    (of : Role) (j : Judge) (tape : List (Item Frame)) (frame : PlainFrame) (s : State) (way : List Frame)
-    → IsTape of j tape → is_of_order (rule_of j of frame) ≡ true
-    → (run : Stands (link_rules (Free ∷ [])) (Own (shown frame (differs (own_of of j).held frame)) ∷ tape) s way)
-    → IsTimely run ⊎ IsRoomy (Free ∷ []) tape → ⊥
+    (of : Role) (j : Judge) (begun : List Stand) (tape : List (Item Frame)) (frame : PlainFrame) (s : State)
+    (way : List Frame) → IsTape of j begun tape → is_of_order (rule_of j of frame) ≡ true
+    → (run : Stands (link_rules begun) (Own (seen_as j of frame) ∷ tape) s way) → IsTimely run ⊎ IsRoomy begun tape
+    → ⊥
 
 -- V(S) can't stand at the N(S), nor be set back to it
 pub record IsOutOfPlace (ns : ℕ) (p : Bool) (m : Manners) (at : Place) : Type 0 where

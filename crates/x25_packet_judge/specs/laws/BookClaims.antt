@@ -13,7 +13,8 @@ use Rattle.x25_packet_judge.specs.declared.packet_rule.PacketRule.TheVariants as
 use Rattle.x25_possible.specs.Channel.{channel_rules, is_polite, sends_as}
 use Rattle.x25_possible.specs.laws.{Possible.{IsIn, IsUnexplained, Item, Own, Other, Stands}, Sets.{Fits}}
 use Rattle.x25_possible.specs.code.Steps.{behind, is_known, may_send, sends_to, shows_to}
-use Rattle.x25_possible.specs.declared.packet.{Packet.{Packet}, Packet.TheVariants.{Elsewhere, Restart, RestartConf}}
+use Rattle.x25_possible.specs.declared.packet.{Defaults.{Defaults}, Packet.{Packet}}
+use Rattle.x25_possible.specs.declared.packet.Packet.TheVariants.{Elsewhere, Restart, RestartConf}
 use Rattle.x25_possible.specs.declared.{phase.Phase.{Phase}, phase.Phase.TheVariants.{Idle}, set.Set.{Set}}
 use Rattle.x25_possible.specs.declared.spots.Spot.{Spot}
 
@@ -49,7 +50,7 @@ is_manners (Some rule) = is_of_manners rule
 
 -- the set of its sender behind it
 abbrev pub moved : Role → ℕ → PlainPacket → Book → Set
-moved from channel packet b = (sends_to (item_of packet) (asked_of from channel packet b)).set
+moved from channel packet b = (sends_to (item_of b.defaults packet) (asked_of from channel packet b)).set
 
 -- What is told of a packet, by the set of its sender. A rule of order is told exactly where no run of an end that keeps
 -- the rules explains the tape that the set fits, as long as the set is known behind it.
@@ -58,15 +59,17 @@ pub record BooksTellExactly : Type 0 where
       (tape : List (Item Packet))
       → awaits from packet b ≡ false
       → Fits begun tape (asked_of from channel packet b) → is_order (rule_told from channel packet b) ≡ true
-      → IsUnexplained (channel_rules (asked_of from channel packet b).role begun) (Own (item_of packet) ∷ tape)
+      → IsUnexplained (channel_rules (asked_of from channel packet b).role begun)
+      (Own (item_of b.defaults packet) ∷ tape)
   pub untold : (b : Book) (from : Role) (channel : ℕ) (packet : PlainPacket) (begun : List Phase)
       (tape : List (Item Packet)) → awaits from packet b ≡ false
       → Fits begun tape (asked_of from channel packet b) → is_order (rule_told from channel packet b) ≡ false
       → is_known (moved from channel packet b) ≡ true
-      → IsUnexplained (channel_rules (asked_of from channel packet b).role begun) (Own (item_of packet) ∷ tape) → ⊥
+      → IsUnexplained (channel_rules (asked_of from channel packet b).role begun)
+      (Own (item_of b.defaults packet) ∷ tape) → ⊥
   pub manners : (b : Book) (from : Role) (channel : ℕ) (packet : PlainPacket) (q : Spot) → awaits from packet b ≡ false
       → is_manners (rule_told from channel packet b) ≡ true → IsIn q (asked_of from channel packet b).spots.items
-      → may_send q.phase (item_of packet) ≡ true → is_polite q.phase (item_of packet) ≡ false
+      → may_send q.phase (item_of b.defaults packet) ≡ true → is_polite q.phase (item_of b.defaults packet) ≡ false
   pub unknown : (b : Book) (from : Role) (channel : ℕ) (packet : PlainPacket) → awaits from packet b ≡ false
       → is_known (asked_of from channel packet b) ≡ false → rule_told from channel packet b ≡ None
   pub early : (b : Book) (from : Role) (channel : ℕ) (packet : PlainPacket) → awaits from packet b ≡ true
@@ -95,18 +98,19 @@ abbrev pub is_on : ℕ → ℕ → PlainPacket → Bool
 is_on channel of packet = is_of_all packet || channel % 4096 == of % 4096
 
 -- as RESTART's own channel has it
-abbrev pub of_restarts : PlainPacket → Packet
-of_restarts packet = if is_of_all packet then item_of packet else Elsewhere
+abbrev pub of_restarts : Defaults → PlainPacket → Packet
+of_restarts d packet = if is_of_all packet then item_of d packet else Elsewhere
 
 -- Of each end and channel the book has the set that its own tape gives, whatever goes on other channels.
 pub record BooksFollowTapes : Type 0 where
   pub channels : (b : Book) (role from : Role) (channel of : ℕ) (packet : PlainPacket)
       → set_of role channel (takes from of packet b).book
-      ≡ (if is_on channel of packet then behind_item (seen_by role from (item_of packet)) (set_of role channel b)
+      ≡ (if is_on channel of packet
+      then behind_item (seen_by role from (item_of b.defaults packet)) (set_of role channel b)
       else set_of role channel b)
   pub restarts : (b : Book) (role from : Role) (of : ℕ) (packet : PlainPacket) → is_quiet from b ≡ false
       → end_of role (takes from of packet b).book.restarts
-      ≡ behind_item (seen_by role from (of_restarts packet)) (end_of role b.restarts)
+      ≡ behind_item (seen_by role from (of_restarts b.defaults packet)) (end_of role b.restarts)
   pub spoken : (b : Book) (role from : Role) (of : ℕ) (packet : PlainPacket) → is_quiet role b ≡ false
       → is_quiet role (takes from of packet b).book ≡ false
 
@@ -122,15 +126,17 @@ abbrev pub behind_all : List Spoken → Book → Book
 behind_all [] b = b
 behind_all (p ∷ ps) b = (takes p.from p.channel p.packet (behind_all ps b)).book
 
-abbrev pub tape_on : Role → ℕ → List Spoken → List (Item Packet) → List (Item Packet)
-tape_on role channel [] tape = tape
-tape_on role channel (p ∷ ps) tape =
-    if is_on channel p.channel p.packet then seen_by role p.from (item_of p.packet) ∷ tape_on role channel ps tape
-    else tape_on role channel ps tape
+-- on a network with these defaults
+abbrev pub tape_on : Defaults → Role → ℕ → List Spoken → List (Item Packet) → List (Item Packet)
+tape_on d role channel [] tape = tape
+tape_on d role channel (p ∷ ps) tape =
+    if is_on channel p.channel p.packet then seen_by role p.from (item_of d p.packet) ∷ tape_on d role channel ps tape
+    else tape_on d role channel ps tape
 
-abbrev pub tape_of_restarts : Role → List Spoken → List (Item Packet) → List (Item Packet)
-tape_of_restarts role [] tape = tape
-tape_of_restarts role (p ∷ ps) tape = seen_by role p.from (of_restarts p.packet) ∷ tape_of_restarts role ps tape
+abbrev pub tape_of_restarts : Defaults → Role → List Spoken → List (Item Packet) → List (Item Packet)
+tape_of_restarts d role [] tape = tape
+tape_of_restarts d role (p ∷ ps) tape =
+    seen_by role p.from (of_restarts d p.packet) ∷ tape_of_restarts d role ps tape
 
 -- Since an end was restarted these packets were seen, on a channel and of restarts, and both ends have sent one.
 pub record IsBehind (role : Role) (channel : ℕ) (tape restarts : List (Item Packet)) (b : Book) : Type 0 where
@@ -149,18 +155,18 @@ MaySend role tape x = (s : Phase) × ((way : List Packet) × Stands (channel_rul
 pub record InnocentTapesStayUntold : Type 0 where
   pub sends : (b : Book) (from : Role) (channel : ℕ) (tape restarts : List (Item Packet)) (ps : List Spoken)
       (packet : PlainPacket) → IsBehind from channel tape restarts b → is_of_all packet ≡ false
-      → MaySend from (tape_on from channel ps tape) (item_of packet)
-      → MaySend from (tape_of_restarts from ps restarts) Elsewhere
+      → MaySend from (tape_on b.defaults from channel ps tape) (item_of b.defaults packet)
+      → MaySend from (tape_of_restarts b.defaults from ps restarts) Elsewhere
       → is_order (rule_told from channel packet (behind_all ps b)) ≡ false
   pub restarts : (b : Book) (from : Role) (channel of : ℕ) (tape restarts : List (Item Packet)) (ps : List Spoken)
       (packet : PlainPacket) → IsBehind from channel tape restarts b → is_of_all packet ≡ true
-      → MaySend from (tape_of_restarts from ps restarts) (item_of packet)
+      → MaySend from (tape_of_restarts b.defaults from ps restarts) (item_of b.defaults packet)
       → is_order (rule_told from of packet (behind_all ps b)) ≡ false
   pub polite : (b : Book) (from : Role) (channel : ℕ) (tape restarts : List (Item Packet)) (ps : List Spoken)
       (packet : PlainPacket) (s r : Phase) (way : List Packet) (t : ℕ) → IsBehind from channel tape restarts b
       → is_of_all packet ≡ false
-      → Stands (channel_rules from (Idle ∷ [])) (tape_on from channel ps tape) s way
-      → sends_as t s (item_of packet) ≡ Some r → is_polite s (item_of packet) ≡ true
+      → Stands (channel_rules from (Idle ∷ [])) (tape_on b.defaults from channel ps tape) s way
+      → sends_as t s (item_of b.defaults packet) ≡ Some r → is_polite s (item_of b.defaults packet) ≡ true
       → is_manners (rule_told from channel packet (behind_all ps b)) ≡ false
 
 -- Behind a set-up of the link one end restarts, and the other one confirms it: all channels begin so, and restarts.

@@ -9,7 +9,7 @@ use Rattle.x25_possible.specs.laws.Possible.{Item, Own, Other}
 use Rattle.x25_possible.specs.declared.packet.Packet.{Packet}
 use Rattle.x25_possible.specs.declared.packet.Packet.TheVariants.{Accept, Clear, ClearConf, Restart, RestartConf, Data}
 use Rattle.x25_possible.specs.declared.packet.Packet.TheVariants.{Rr, Rnr, Interrupt, InterruptConf, Reset}
-use Rattle.x25_possible.specs.declared.packet.Terms.{Terms}
+use Rattle.x25_possible.specs.declared.{packet.Defaults.{Defaults}, packet.Terms.{Terms}}
 use Rattle.x25_possible.specs.declared.phase.Limits.{Limits}
 use Rattle.x25_possible.specs.declared.phase.Phase.{Phase}
 use Rattle.x25_possible.specs.declared.phase.Phase.TheVariants.{Idle, Calls, WasCalled, Talks, Resets, WasReset}
@@ -28,10 +28,16 @@ use Rattle.x25_possible.specs.declared.spots.Spot.{Spot}
 abbrev pub same_limits : Limits → Limits → Bool
 same_limits a b = a.most == b.most && a.window == b.window
 
-abbrev pub same_terms : Terms → Terms → Bool
-same_terms a b =
+abbrev pub same_defaults : Defaults → Defaults → Bool
+same_defaults a b = a.size == b.size && a.window == b.window
+
+abbrev pub same_numbers : Terms → Terms → Bool
+same_numbers a b =
     a.calling_size == b.calling_size && (a.called_size == b.called_size && (a.calling_window == b.calling_window
     && a.called_window == b.called_window))
+
+abbrev pub same_terms : Terms → Terms → Bool
+same_terms a b = same_defaults a.defaults b.defaults && same_numbers a b
 
 abbrev pub is_same : Phase → Phase → Bool
 is_same Idle Idle = true

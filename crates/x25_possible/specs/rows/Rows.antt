@@ -17,7 +17,13 @@ use Rattle.x25_possible.specs.declared.phase.Phase.TheVariants.{Idle}
 use Rattle.x25_possible.specs.declared.set.Told.TheVariants.{Nothing}
 
 abbrev pub usual : Terms
-usual = record { calling_size = 128; called_size = 128; calling_window = 2; called_window = 2 }
+usual = record {
+  defaults = record { size = 128; window = 2 };
+  calling_size = 128;
+  called_size = 128;
+  calling_window = 2;
+  called_window = 2;
+}
 
 abbrev pub as_proposed : Said
 as_proposed = record { sizes = None; windows = None }

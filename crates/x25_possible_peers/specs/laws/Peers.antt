@@ -38,6 +38,7 @@ use Rattle.x25_handshakes.specs.laws.Calls.{Stage, Unused, Waiting, Offered, Cro
 
 abbrev pub terms_of : Params → Terms
 terms_of p = record {
+  defaults = record { size = 128; window = 2 };
   calling_size = 2 ^ p.size_calling;
   called_size = 2 ^ p.size_called;
   calling_window = p.win_calling;

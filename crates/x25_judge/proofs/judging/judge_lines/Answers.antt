@@ -6,17 +6,17 @@ use Rattle.x25_judge.proofs.judging.judge_lines.Goals as goal
 
 pub returns-in_err-held-clause-runs : goal.returns-in_err-held-clause-runs
 returns-in_err-held-clause-runs g c =
-    let p = program c.args.loose (begins_at c.args.at c.args.window c.args.reading c.args.strictness) in
+    let p = program c.args.loose (begins_at c.args.at c.args.window c.args.defaults c.args.reading c.args.strictness) in
     none_ran g.R.Source g.W.Sink p c.args.reader.now c.args.writer.now c.from_residual-in_err-held.result c.from_residual-in_err-held.ensures.1
 
 pub returns-in_err-answerer-clause-runs : goal.returns-in_err-answerer-clause-runs
 returns-in_err-answerer-clause-runs g c =
-    let p = program c.args.loose (begins_at c.args.at c.args.window c.args.reading c.args.strictness) in
+    let p = program c.args.loose (begins_at c.args.at c.args.window c.args.defaults c.args.reading c.args.strictness) in
     none_ran g.R.Source g.W.Sink p c.args.reader.now c.args.writer.now c.from_residual-in_err-answerer.result c.from_residual-in_err-answerer.ensures.1
 
 pub returns-clause-runs : goal.returns-clause-runs
 returns-clause-runs g c =
-    let j = begins_at c.args.at c.args.window c.args.reading c.args.strictness in
+    let j = begins_at c.args.at c.args.window c.args.defaults c.args.reading c.args.strictness in
     let written = g.W.Sink.contents c.args.writer.now in
     let made = c.in_ok-answerer.ensures in
     record {

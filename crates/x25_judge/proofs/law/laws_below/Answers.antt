@@ -20,7 +20,15 @@ returns c =
           take_out = law.take_out;
           disconnect_out = law.disconnect_out;
         };
-        set_up = record { waits = rows.waits; sets_up = rows.sets_up; connects = rows.connects; timer = rows.timer; disconnects = rows.disconnects };
+        set_up = record {
+          waits = rows.waits;
+          sets_up = rows.sets_up;
+          connects = rows.connects;
+          timer = rows.timer;
+          disconnects = rows.disconnects;
+          closes = rows.closes;
+          timer_closes = rows.timer_closes;
+        };
         take_tells = notes.take;
         timer_tells = notes.timer;
         disconnect_tells = notes.disconnect;
