@@ -1,12 +1,17 @@
 -- A list of calls, of which the first with a leg is changed, or each one.
 use Rattle.std.proofs.Common.{◌≡◌, ◌∙◌, ℕ, zero, suc, ◌+◌, ◌<◌, ◌≤◌, List, [], ◌∷◌, length, map, drop, Option, Some, None, slice_set, refl, sym, ap}
-use Rattle.std.proofs.Common.{arith}
-use Rattle.std.specs.{List.{Contains}, Prelude.{slice_index_or}}
+use Rattle.std.proofs.Common.{◌++◌, take, true, subst, arith}
+use Rattle.std.specs.Prelude.{slice_index_or, slice_get, IfNone}
 use Rattle.x25_crossing.specs.Crossing.{PlainCrossing}
 use Rattle.x25_crossing.specs.declared.side.Side.{Side}
-use Rattle.x25_switch.specs.Calls.{PlainCall, with_crossing, further, place_by, place_of, leg_of, changed_nth, changed_at}
+use Rattle.x25_crossing.specs.Asking.{is_over}
+use Rattle.x25_switch.specs.Calls.{PlainCall, with_crossing, further, place_by, place_of, leg_of, changed_nth, changed_at, vacated, called_on, legs_in}
+use Rattle.x25_switch.specs.Calls.{AreApart, Holds, Sweeps, None_is, One_is}
+use Rattle.x25_switch.specs.Switch.{new_call}
+use Rattle.x25_switch.specs.code.Asked.{NotMade}
 use Rattle.x25_switch.specs.code.Plain.{plain, plains}
 use Rattle.x25_switch.specs.declared.call.Call.{Call}
+use Rattle.x25_switch.proofs.ApartLemmas.{called_apart, more_apart, not_made_apart}
 
 -- so many places further
 abbrev pub after : ℕ → Option (ℕ × Side) → Option (ℕ × Side)
@@ -103,16 +108,76 @@ all_mapped f (suc n) (x ∷ xs) few = ap (λ (ps : List PlainCall). plain x ∷ 
 
 -- ---- one of them
 
-index_plains : (xs : List Call) (n : ℕ) (d : Call) → slice_index_or (plains xs) n (plain d) ≡ plain (slice_index_or xs n d)
-index_plains [] n d = refl
-index_plains (x ∷ xs) zero d = refl
-index_plains (x ∷ xs) (suc n) d = index_plains xs n d
+pub get_plain : (xs : List Call) (n : ℕ) (d : Call) → n < length xs → d ≡ slice_index_or xs n d → slice_get (plains xs) n ≡ Some (plain d)
+get_plain [] n d low at = absurd (omega (arith, low))
+get_plain (x ∷ xs) zero d low at = ap (λ (e : Call). Some (plain e)) (sym at)
+get_plain (x ∷ xs) (suc n) d low at = get_plain xs n d (omega (arith, low)) at
 
-length_plains : (xs : List Call) → length (plains xs) ≡ length xs
-length_plains [] = refl
-length_plains (x ∷ xs) = let h = length_plains xs in omega (arith, h)
+pub set_plains : (xs : List Call) (n : ℕ) (y : Call) → plains (slice_set xs n y) ≡ slice_set (plains xs) n (plain y)
+set_plains [] zero y = refl
+set_plains [] (suc n) y = refl
+set_plains (x ∷ xs) zero y = refl
+set_plains (x ∷ xs) (suc n) y = ap (λ (ps : List PlainCall). plain x ∷ ps) (set_plains xs n y)
 
-pub contains_at : (xs : List Call) (n : ℕ) (d : Call) → n < length xs → d ≡ slice_index_or xs n d → Contains (plains xs) (plain d)
-contains_at xs n d low at =
-    let same = length_plains xs in
-    (n, omega (arith, low, same), index_plains xs n d ∙ sym (ap plain at))
+pub set_same : (xs : List Call) (n : ℕ) (y d : Call) → n < length xs → d ≡ slice_index_or xs n d → plain y ≡ plain d
+    → plains (slice_set xs n y) ≡ plains xs
+set_same [] n y d low at h = absurd (omega (arith, low))
+set_same (x ∷ xs) zero y d low at h = ap (λ (p : PlainCall). p ∷ plains xs) (h ∙ ap plain at)
+set_same (x ∷ xs) (suc n) y d low at h = ap (λ (ps : List PlainCall). plain x ∷ ps) (set_same xs n y d (omega (arith, low)) at h)
+
+pub as_none : {A P : Type 0} (o : Option A) → P → IfNone o P
+as_none None p = p
+as_none (Some a) p = tt
+
+-- one that is over is taken out
+one_kept : (x : PlainCall) (old new : List PlainCall) → Sweeps old new → Sweeps (x ∷ old) (x ∷ new)
+one_kept x old new (None_is same) = None_is (ap (λ (ps : List PlainCall). x ∷ ps) same)
+one_kept x old new (One_is front back c is_over was is) =
+    One_is (x ∷ front) back c is_over (ap (λ (ps : List PlainCall). x ∷ ps) was) (ap (λ (ps : List PlainCall). x ∷ ps) is)
+
+pub taken_out : (xs : List Call) (n : ℕ) → Holds (λ (c : PlainCall). is_over c.crossing ≡ true) (slice_get (plains xs) n)
+    → Sweeps (plains xs) (plains (take n xs ++ drop (suc n) xs))
+taken_out [] n h = absurd (h)
+taken_out (x ∷ xs) zero h = One_is [] (plains xs) (plain x) h refl refl
+taken_out (x ∷ xs) (suc n) h = one_kept (plain x) (plains xs) (plains (take n xs ++ drop (suc n) xs)) (taken_out xs n h)
+
+-- ---- a call is made, or not
+
+pub made_there : (line channel asked n : ℕ) (xs : List Call) (cs : List PlainCall) (y d : Call) → channel ≡ asked
+    → plains xs ≡ vacated line channel cs → n < length xs → d ≡ slice_index_or xs n d → plain y ≡ called_on line channel (plain d)
+    → (call : PlainCall) × (slice_get (vacated line asked cs) n ≡ Some call)
+    × (plains (slice_set xs n y) ≡ slice_set (vacated line asked cs) n (called_on line asked call))
+made_there line channel asked n xs cs y d same is low at h =
+    let to : plains xs ≡ vacated line asked cs = is ∙ ap (λ (k : ℕ). vacated line k cs) same in (
+      plain d,
+      ap (λ (ps : List PlainCall). slice_get ps n) (sym to) ∙ get_plain xs n d low at,
+      set_plains xs n y ∙ ap (λ (ps : List PlainCall). slice_set ps n (plain y)) to
+          ∙ ap (λ (p : PlainCall). slice_set (vacated line asked cs) n p) (h ∙ ap (λ (k : ℕ). called_on line k (plain d)) same),
+    )
+
+pub made_apart : (line channel n : ℕ) (xs : List Call) (y d : Call) → n < length xs → d ≡ slice_index_or xs n d
+    → plain y ≡ called_on line channel (plain d) → legs_in line channel (plains xs) ≡ 0 → AreApart (plains xs) → AreApart (plains (slice_set xs n y))
+made_apart line channel n xs y d low at h none apart =
+    subst AreApart (sym (set_plains xs n y ∙ ap (λ (p : PlainCall). slice_set (plains xs) n p) h))
+    (called_apart line channel n (plains xs) (plain d) (get_plain xs n d low at) none apart)
+
+pub not_made_there : (number n : ℕ) (xs : List Call) (y d : Call) → n < length xs → d ≡ slice_index_or xs n d → NotMade number (plain d) (plain y)
+    → (call left : PlainCall) × (slice_get (plains xs) n ≡ Some call) × NotMade number call left × (plains (slice_set xs n y) ≡ slice_set (plains xs) n left)
+not_made_there number n xs y d low at not = (plain d, plain y, get_plain xs n d low at, not, set_plains xs n y)
+
+pub not_made_leaves_apart : (number n : ℕ) (xs : List Call) (y d : Call) → n < length xs → d ≡ slice_index_or xs n d → NotMade number (plain d) (plain y)
+    → AreApart (plains xs) → AreApart (plains (slice_set xs n y))
+not_made_leaves_apart number n xs y d low at not apart =
+    subst AreApart (sym (set_plains xs n y)) (not_made_apart number n (plains xs) (plain d) (plain y) (get_plain xs n d low at) not apart)
+
+-- ---- a call comes
+
+plains_more : (xs : List Call) (x : Call) → plains (xs ++ x ∷ []) ≡ plains xs ++ plain x ∷ []
+plains_more [] x = refl
+plains_more (y ∷ xs) x = ap (λ (ps : List PlainCall). plain y ∷ ps) (plains_more xs x)
+
+pub pushed_apart : (octets line channel : ℕ) (xs : List Call) (x : Call) → plain x ≡ new_call octets line channel
+    → legs_in line channel (plains xs) ≡ 0 → AreApart (plains xs) → AreApart (plains (xs ++ x ∷ []))
+pushed_apart octets line channel xs x is none apart =
+    subst AreApart (sym (plains_more xs x ∙ ap (λ (p : PlainCall). plains xs ++ p ∷ []) is))
+    (more_apart octets line channel (plains xs) none apart)

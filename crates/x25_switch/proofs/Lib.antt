@@ -1,2 +1,4 @@
-mod CallLemmas
+pub mod ApartLemmas
+pub mod CallLemmas
 mod HeedLemmas
+mod RunLemmas

@@ -3,3 +3,4 @@ pub mod Calls
 pub mod Switch
 pub mod Request
 pub mod code
+pub mod laws

@@ -3,6 +3,7 @@
 
 mod call;
 mod calls;
+mod law;
 mod leg;
 mod refusal;
 mod request;
@@ -10,6 +11,7 @@ mod round;
 mod switch;
 mod telling;
 
+pub use law::calls_run_by_events;
 pub use leg::{Kind, ask};
 pub use round::Round;
 pub use switch::Switch;

@@ -24,4 +24,15 @@ impl Round {
             place: 0,
         }
     }
+
+    /// This was asked for, at a place of a call: what is refused isn't asked again.
+    pub(crate) fn went(&mut self, call: usize, place: usize, is_refused: bool)
+        ensures { self.new.line ≡ self.old.line }
+    {
+        self.call = call;
+        self.place = place;
+        if is_refused {
+            self.place = place.saturating_add(1);
+        }
+    }
 }

@@ -1,19 +1,20 @@
 ghost use Rattle.std.specs.Prelude.{◌≡◌, ◌<◌, ◌≤◌, false, IfNone, IfSome, vec_len, vec_capacity};
 ghost use Rattle.x25_switch.specs.Switch.{is_clearing};
-ghost use Rattle.x25_switch.specs.code.Asked.{IsAsked, IsCleared, IsMade, IsWanted};
-ghost use Rattle.x25_switch.specs.code.Plain.{plain};
+ghost use Rattle.x25_switch.specs.Calls.{AreApart};
+ghost use Rattle.x25_switch.specs.code.Asked.{IsAsked, IsCleared};
+ghost use Rattle.x25_switch.specs.code.Plain.{plain, plains};
 
-use crate::call::{Call, End, at};
+use crate::call::{Call, End};
 use crate::calls;
-use crate::leg::{Kind, ask, command_to};
+use crate::leg::command_to;
 use crate::refusal::{Refusal, refused_at, refused_on};
 use crate::request::Request;
 use crate::round::Round;
 use crate::telling::told_of;
 use std::alloc::{AllocError, Global};
-use x25_crossing::{Crossing, Side, Told, clear_goes_on};
+use x25_crossing::{Crossing, Told, clear_goes_on};
 use x25_layer::Params;
-use x25_routes::{RouteError, Routes};
+use x25_routes::Routes;
 use x25_station::{
     Awaits, Cmd, Entry, Lent, Role, Station, StationError, Step, Told as StationTold,
 };
@@ -32,14 +33,7 @@ pub struct Switch {
     ghost few: { vec_len calls ≤ most },
     ghost refusal_places: { vec_capacity refusals ≡ most },
     ghost few_refusals: { vec_len refusals ≤ most },
-}
-
-// The channel of the call that was asked for.
-fn channel_of(step: &Step) -> u16 {
-    match step.entries.as_slice().first() {
-        Some(Entry::Asked { channel, .. }) => *channel,
-        _ => 0,
-    }
+    ghost apart: { AreApart (plains calls.items) },
 }
 
 fn is_clearing(awaits: Awaits) -> bool
@@ -56,9 +50,8 @@ impl Switch {
     ghost use Rattle.x25_station.specs.Station.{Station as State};
     ghost use Rattle.x25_station.specs.code.FitsStation.{FitsStation};
     ghost use Rattle.x25_station.specs.code.PlainEntry.{plain_entry, plain_told};
-    ghost use Rattle.x25_switch.specs.Calls.{lost_call};
+    ghost use Rattle.x25_switch.specs.Calls.{legs_in, lingered_call, lost_call, vacated};
     ghost use Rattle.x25_switch.specs.Switch.{Hears, Heeds, HeedsEntry, HeedsNotice, new_call};
-    ghost use Rattle.x25_switch.specs.code.Plain.{plains};
 
     /// No route, between lines of the numbers from 0 up to but not including `lines`, and no call: at most so many at
     /// a time, each with room for so many octets of messages each way. Err: no memory.
@@ -95,15 +88,6 @@ impl Switch {
         ensures few { result ≤ self.now.most }
     {
         self.calls.len()
-    }
-
-    // A call that is over is let go.
-    fn sweep(&mut self)
-        ensures most { self.new.most ≡ self.old.most }
-    {
-        if let Some(index) = calls::over(self.calls.as_slice()) {
-            self.calls.remove(index);
-        }
     }
 
     // A call that came isn't to be cleared any more.
@@ -153,8 +137,9 @@ impl Switch {
         })
     }
 
-    // A call came.
+    // A call came, on a channel of a line on which no leg stands.
     fn take(&mut self, near: End, lent: &Lent, params: Params)
+        requires { legs_in near.line near.channel (plains self.old.calls.items) ≡ 0 }
         ensures taken { (plains self.new.calls.items ≡ plains self.old.calls.items) ⊎ (plains self.new.calls.items
             ≡ plains self.old.calls.items ++ new_call self.old.octets near.line near.channel ∷ []) }
         ensures most { self.new.most ≡ self.old.most }
@@ -190,6 +175,7 @@ impl Switch {
     {
         self.forget(end.line, end.channel);
         if let StationTold::Incoming { params } = *told {
+            self.vacate(end);
             self.take(end, lent, params);
             return;
         }
@@ -209,6 +195,17 @@ impl Switch {
             Ok(()) => {}
             Err(AllocError) => {}
         }
+    }
+
+    // The leg that stands on a channel is lost.
+    fn vacate(&mut self, end: End)
+        ensures vacated { plains self.new.calls.items ≡ vacated end.line end.channel (plains self.old.calls.items) }
+        ensures none { legs_in end.line end.channel (plains self.new.calls.items) ≡ 0 }
+        ensures refusals { self.new.refusals ≡ self.old.refusals }
+        ensures most { self.new.most ≡ self.old.most }
+        ensures octets { self.new.octets ≡ self.old.octets }
+    {
+        calls::vacate(&mut self.calls, end.line, end.channel);
     }
 
     // What is told at each leg on a line.
@@ -246,9 +243,10 @@ impl Switch {
                 };
                 self.lose(line, told);
             }
-            Entry::LinkDown(_) | Entry::RestartAsked { .. } | Entry::RestartDone => {
-                self.lose(line, Told::Lost);
-            }
+            Entry::LinkUp | Entry::LinkDown(_) | Entry::RestartAsked { .. } | Entry::RestartDone =>
+                {
+                    self.lose(line, Told::Lost);
+                }
             _ => {}
         }
     }
@@ -273,7 +271,9 @@ impl Switch {
     /// Says that some time has passed: what waits for a leg that is to be cleared is dropped at the second time that
     /// this is said.
     pub fn linger(&mut self)
+        ensures lingered { plains self.new.calls.items ≡ map lingered_call (plains self.old.calls.items) }
         ensures most { self.new.most ≡ self.old.most }
+        ensures octets { self.new.octets ≡ self.old.octets }
     {
         calls::linger(&mut self.calls);
     }
@@ -288,10 +288,13 @@ impl Switch {
         step: &mut Step,
     ) -> Option<Result<(), StationError>>
         ensures asked { IfSome result (λ answer.
-            IsAsked role (plains self.old.calls.items) station.old station.new step.new answer) }
+            IsAsked round.old.line role (plains self.old.calls.items) (plains self.new.calls.items)
+            station.old station.new step.new answer) }
         ensures stays { IfNone result (station.new ≡ station.old) }
+        ensures same { IfNone result (plains self.new.calls.items ≡ plains self.old.calls.items) }
         ensures line { round.new.line ≡ round.old.line }
         ensures most { self.new.most ≡ self.old.most }
+        ensures octets { self.new.octets ≡ self.old.octets }
     {
         if let Some(index) = refused_on(self.refusals.as_slice(), round.line) {
             if !round.has_refused {
@@ -299,19 +302,19 @@ impl Switch {
             }
         }
         if let Some(index) = calls::made_on(self.calls.as_slice(), round.line) {
-            return Some(call_by(&mut self.calls[index], round.line, station, step));
+            return Some(calls::make(&mut self.calls, index, round.line, station, step));
         }
-        let (index, place) = calls::wanting(self.calls.as_slice(), *round, role)?;
-        let answer = ask_of(
-            &mut self.calls[index],
+        let (index, want) = calls::wanting(self.calls.as_slice(), *round, role)?;
+        let answer = calls::ask(
+            &mut self.calls,
             index,
-            place,
-            round,
+            want,
+            round.line,
             role,
             station,
             step,
         )?;
-        self.sweep();
+        round.went(index, want.place, answer.is_err());
         Some(answer)
     }
 
@@ -325,11 +328,17 @@ impl Switch {
         step: &mut Step,
     ) -> Result<(), StationError>
         requires { index < vec_len self.old.refusals }
-        ensures cleared { IsCleared station.old station.new step.new result }
+        ensures cleared { IsCleared round.old.line (plains self.old.calls.items) (plains self.new.calls.items)
+            station.old station.new step.new result }
         ensures line { round.new.line ≡ round.old.line }
         ensures most { self.new.most ≡ self.old.most }
+        ensures octets { self.new.octets ≡ self.old.octets }
     {
         let refusal = self.refusals[index];
+        self.vacate(End {
+            line: round.line,
+            channel: refusal.channel,
+        });
         let command = Cmd::Clear {
             channel: refusal.channel,
             cause: clear_goes_on(role, refusal.cause),
@@ -351,60 +360,5 @@ fn is_full(answer: &Result<(), StationError>) -> bool {
     match answer {
         Ok(()) => false,
         Err(error) => error.number() == 10,
-    }
-}
-
-// Makes a call on a line.
-fn call_by(
-    call: &mut Call,
-    line: u8,
-    station: &mut Station,
-    step: &mut Step,
-) -> Result<(), StationError>
-    ensures { IsMade station.old station.new step.new result }
-{
-    let answer = command_to(station, call.request.command(), step);
-    match answer {
-        Ok(()) => call.called(line, channel_of(step)),
-        Err(error) => call.not_called(error.number()),
-    }
-    answer
-}
-
-// Asks for what a call wants at a place.
-fn ask_of(
-    call: &mut Call,
-    index: usize,
-    place: usize,
-    round: &mut Round,
-    role: Role,
-    station: &mut Station,
-    step: &mut Step,
-) -> Option<Result<(), StationError>>
-    ensures wanted { IfSome result (λ answer.
-        IsWanted role (plain call.old) station.old station.new step.new answer) }
-    ensures stays { IfNone result (station.new ≡ station.old) }
-    ensures line { round.new.line ≡ round.old.line }
-{
-    let (side, kind) = at(place);
-    let channel = call.end(side).channel;
-    let answer = ask(&mut call.crossing, side, kind, role, channel, station, step)?;
-    round.call = index;
-    round.place = place;
-    if let Err(error) = answer {
-        round.place = place.saturating_add(1);
-        give_up(call, side, kind, error.number());
-    }
-    Some(answer)
-}
-
-// A message that a line can't take ends the call: it is too long there, or D is asked for and may not be.
-fn give_up(call: &mut Call, side: Side, kind: Kind, number: u8) {
-    if kind == Kind::Message && (number == 32 || number == 34) {
-        let told = Told::Refused {
-            cause: 17,
-            diagnostic: 39,
-        };
-        let _ = call.crossing.told(side, told);
     }
 }

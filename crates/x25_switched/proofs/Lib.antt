@@ -1,2 +1,3 @@
 pub mod SwitchLemmas
+pub mod BookedLemmas
 pub mod rows

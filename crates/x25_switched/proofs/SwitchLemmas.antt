@@ -49,7 +49,9 @@ layer_append (x ∷ xs) ys = ap (λ es. in_layer x ++ es) (layer_append xs ys) �
 -- of what each stretch has
 pub record Grows (a b : Handed) : Type 0 where
   pub up : IsPrefix a.up b.up
+  pub down : IsPrefix a.down b.down
   pub int_up : IsPrefix a.int_up b.int_up
+  pub int_down : IsPrefix a.int_down b.int_down
 
 more_up : (k : ℕ) (m : Name) (es fs : List Entry) → (under k m (es ++ fs)).up ≡ (under k m es).up ++ (under k m fs).up
 more_up k m [] fs = refl
@@ -63,9 +65,29 @@ more_int_up k m (e ∷ es) fs =
     ap (λ xs. (if both (k == e.channel) (same_name m e.name) then says e.said else nothing_handed).int_up ++ xs) (more_int_up k m es fs)
     ∙ sym (append_assoc (if both (k == e.channel) (same_name m e.name) then says e.said else nothing_handed).int_up (under k m es).int_up (under k m fs).int_up)
 
+more_down : (k : ℕ) (m : Name) (es fs : List Entry) → (under k m (es ++ fs)).down ≡ (under k m es).down ++ (under k m fs).down
+more_down k m [] fs = refl
+more_down k m (e ∷ es) fs =
+    ap (λ xs. (if both (k == e.channel) (same_name m e.name) then says e.said else nothing_handed).down ++ xs) (more_down k m es fs)
+    ∙ sym (append_assoc (if both (k == e.channel) (same_name m e.name) then says e.said else nothing_handed).down (under k m es).down (under k m fs).down)
+
+more_int_down : (k : ℕ) (m : Name) (es fs : List Entry) → (under k m (es ++ fs)).int_down ≡ (under k m es).int_down ++ (under k m fs).int_down
+more_int_down k m [] fs = refl
+more_int_down k m (e ∷ es) fs =
+    ap (λ xs. (if both (k == e.channel) (same_name m e.name) then says e.said else nothing_handed).int_down ++ xs) (more_int_down k m es fs)
+    ∙ sym (append_assoc (if both (k == e.channel) (same_name m e.name) then says e.said else nothing_handed).int_down (under k m es).int_down (under k m fs).int_down)
+
 grows_by : (leg : Leg) (old more : List StationEntry)
     → Grows (under leg.channel leg.name (layer_entries old)) (under leg.channel leg.name (layer_entries (old ++ more)))
 grows_by leg old more = record {
+  down = (
+    (under leg.channel leg.name (layer_entries more)).down,
+    sym (ap (λ es. (under leg.channel leg.name es).down) (layer_append old more) ∙ more_down leg.channel leg.name (layer_entries old) (layer_entries more)),
+  );
+  int_down = (
+    (under leg.channel leg.name (layer_entries more)).int_down,
+    sym (ap (λ es. (under leg.channel leg.name es).int_down) (layer_append old more) ∙ more_int_down leg.channel leg.name (layer_entries old) (layer_entries more)),
+  );
   up = (
     (under leg.channel leg.name (layer_entries more)).up,
     sym (ap (λ es. (under leg.channel leg.name es).up) (layer_append old more) ∙ more_up leg.channel leg.name (layer_entries old) (layer_entries more)),
@@ -77,7 +99,12 @@ grows_by leg old more = record {
 }
 
 stays : (a : Handed) → Grows a a
-stays a = record { up = prefix_refl a.up; int_up = prefix_refl a.int_up }
+stays a = record {
+  up = prefix_refl a.up;
+  down = prefix_refl a.down;
+  int_up = prefix_refl a.int_up;
+  int_down = prefix_refl a.int_down;
+}
 
 in_session_grows : (b : Bool) (leg : Leg) (o : Own) (s : Step) (old : Own) → (b ≡ true → o ≡ old)
     → Grows (under leg.channel leg.name (layer_entries old.entries)) (under leg.channel leg.name (layer_entries (if b then own_after o s else old).entries))
@@ -109,7 +136,7 @@ elsewhere_stays c leg w (Links v a) = stays (handed_in w leg)
 elsewhere_stays c leg w (Comes p octets rest a b e) = stays (handed_in w leg)
 elsewhere_stays c leg w (LayerMoves y passed packets all a b e) = stays (handed_in w leg)
 
-goes_grows : (c : Settings) (leg : Leg) (w v : BesideSessions) → Goes c w v → Grows (handed_in w leg) (handed_in v leg)
+pub goes_grows : (c : Settings) (leg : Leg) (w v : BesideSessions) → Goes c w v → Grows (handed_in w leg) (handed_in v leg)
 goes_grows c leg w v (Here does) = station_grows c leg w does
 goes_grows c leg w v (There away) = elsewhere_stays c leg w away
 

@@ -1,6 +1,8 @@
+ghost use Rattle.x25_switched.specs.laws.Booked.{AllOfCallCameThrough, CallComesThrough, CallInterruptsComeThrough};
 ghost use Rattle.x25_switched.specs.laws.SwitchClaims.{ComesThrough, AllCameThrough, InterruptsComeThrough};
 ghost use Rattle.x25_switched.specs.rows.SwitchRows.{MessageGoesThrough};
 
+use x25_crossing::next_goes_out;
 use x25_peer::any_peer_keeps_stations_over_sessions;
 
 /// A switch between two lines, each with a station of the switch, a peer that keeps the rules of docs/PEER.md, and a
@@ -19,8 +21,19 @@ pub fn messages_come_through_the_switch()
     any_peer_keeps_stations_over_sessions();
 }
 
-/// A worked row of that: a message of 20 octets, in one packet, and an interrupt come by the near line. The message
-/// waits; the far line is set up again; and it comes through in packets of 16 octets, and so does the interrupt.
+/// So does what comes by a call of x25_crossing, whatever it is told, and whatever its stations accept: where at each
+/// moment the books of its legs have what the transcripts of the stations have under the names of the two stretches.
+pub fn calls_come_through()
+    ensures through { CallComesThrough }
+    ensures all { AllOfCallCameThrough }
+    ensures interrupts { CallInterruptsComeThrough }
+{
+    messages_come_through_the_switch();
+    next_goes_out();
+}
+
+/// A worked row of the first law: a message of 20 octets, in one packet, and an interrupt come by the near line. The
+/// message waits; the far line is set up again; and it comes through in packets of 16 octets, as does the interrupt.
 pub fn messages_go_through_switches()
     ensures through { MessageGoesThrough }
 {}

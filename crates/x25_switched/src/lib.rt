@@ -5,4 +5,4 @@
 
 mod law;
 
-pub use law::{messages_come_through_the_switch, messages_go_through_switches};
+pub use law::{calls_come_through, messages_come_through_the_switch, messages_go_through_switches};

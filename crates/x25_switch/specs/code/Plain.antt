@@ -5,7 +5,7 @@ use Rattle.x25_switch.specs.Calls.{PlainCall}
 use Rattle.x25_switch.specs.declared.call.Call.{Call}
 
 abbrev pub plain : Call → PlainCall
-plain c = record { near = c.near; far = c.far; crossing = plain_crossing c.crossing }
+plain c = record { near = c.near; far = c.far; crossing = plain_crossing c.crossing; lingers = c.lingers }
 
 abbrev pub plains : List Call → List PlainCall
 plains cs = map plain cs

@@ -1,8 +1,9 @@
-use Rattle.std.proofs.Common.{◌∙◌, ◌<◌, ◌≤◌, length, sym, ap, arith}
+use Rattle.std.proofs.Common.{◌∙◌, ◌<◌, ◌≤◌, length, sym, ap, subst, arith}
 use Rattle.x25_crossing.specs.Told.{plain_told}
-use Rattle.x25_switch.specs.code.Plain.{plain}
-use Rattle.x25_switch.specs.Calls.{lost_call}
+use Rattle.x25_switch.specs.code.Plain.{plain, plains}
+use Rattle.x25_switch.specs.Calls.{AreApart, lost_call}
 use Rattle.x25_switch.specs.declared.call.Call.{Call}
+use Rattle.x25_switch.proofs.ApartLemmas.{lost_apart}
 use Rattle.x25_switch.proofs.CallLemmas.{all_mapped, changed_more}
 use Rattle.x25_switch.proofs.calls.lose.Goals as goal
 
@@ -27,3 +28,7 @@ returns-clause-lost c =
     let same = kept.2 in
     let few : length c.loop-index.calls.items ≤ c.loop-index.index = omega (arith, test, same) in
     sym (all_mapped f c.loop-index.index c.loop-index.calls.items few) ∙ kept.0
+
+pub returns-clause-apart : goal.returns-clause-apart
+returns-clause-apart c = λ apart.
+    subst AreApart (sym (returns-clause-lost c)) (lost_apart (plain_told c.args.told) c.args.line (plains c.args.calls.now.items) apart)

@@ -5,6 +5,7 @@ use Rattle.x25_crossing.specs.Told.{plain_told, told_at, lacks_at}
 use Rattle.x25_switch.specs.code.Plain.{plain, plains}
 use Rattle.x25_switch.specs.Calls.{place_of, with_crossing}
 use Rattle.x25_switch.specs.declared.call.Call.{Call}
+use Rattle.x25_switch.proofs.ApartLemmas.{tell_apart}
 use Rattle.x25_switch.proofs.CallLemmas.{changed_there}
 use Rattle.x25_switch.proofs.calls.tell.Goals as goal
 
@@ -29,3 +30,8 @@ returns-clause-lacks c =
     on_err_weaker c.told.result (λ h. changed_there (λ side x. lacks_at side x) c.args.line c.args.channel c.in-Some.index c.in-Some.side
     c.args.calls.now.items _ d low place c.index_mut.ensures.value (ap (λ (x : PlainCrossing). with_crossing x (plain d)) h))
     c.told.ensures.lacks
+
+pub returns-clause-apart : goal.returns-clause-apart
+returns-clause-apart c =
+    tell_apart c.told.result c.args.line c.args.channel (plain_told c.args.told) (plains c.args.calls.now.items) _ (returns-clause-told c)
+    (returns-clause-lacks c)
