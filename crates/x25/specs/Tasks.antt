@@ -19,6 +19,7 @@ use Rattle.x25_judge.specs.declared.doubt.At as judge
 use Rattle.x25_judge.specs.declared.doubt.At.TheVariants as judge_at
 use Rattle.x25_pipe.specs.code.Stream as piping
 use Rattle.x25_pipe.specs.code.TimedStream.{timed_program}
+use Rattle.x25_records.specs.code.Stream as recording
 use Rattle.x25_settings.specs.declared.options.At.{At}
 use Rattle.x25_settings.specs.declared.options.At.TheVariants as at
 use Rattle.x25_settings.specs.declared.options.End.{End}
@@ -30,6 +31,7 @@ use Rattle.x25_settings.specs.declared.options.StationOptions.{StationOptions}
 use Rattle.x25_settings.specs.declared.words.Asked.{Asked}
 use Rattle.x25_settings.specs.declared.words.Task.{Task}
 use Rattle.x25_settings.specs.declared.words.Task.TheVariants.{Decode, Vectors, Sim, Station, Judge, Deframe, Frame}
+use Rattle.x25_settings.specs.declared.words.Task.TheVariants.{Tabs}
 use Rattle.x25_sim.specs.code.Stream as simulating
 use Rattle.x25_sim.specs.declared.stage.Shown.{Shown}
 use Rattle.x25_sim.specs.laws.WritesRun.{WritesRun}
@@ -70,18 +72,19 @@ times_in end given = record {
   t21 = unwrap_or given.t21 (standard end).t21;
   t22 = unwrap_or given.t22 (standard end).t22;
   t23 = unwrap_or given.t23 (standard end).t23;
+  t25 = unwrap_or given.t25 (standard end).t25;
   t26 = unwrap_or given.t26 (standard end).t26;
 }
 
 -- one station, with a clock or without
-abbrev pub clock_program : Settings → Role → Option GivenTimes → Program
-clock_program c end None = piping.program c
-clock_program c end (Some given) = timed_program c (times_in end given)
+abbrev pub clock_program : Settings → Role → Option GivenTimes → Bool → Program
+clock_program c end None loose = piping.program c loose
+clock_program c end (Some given) loose = timed_program c (times_in end given) loose
 
 abbrev pub place_program : Place → Program
 place_program p =
     clock_program (settings_from (role_in p.end) (settings_in p.station p.station.incoming p.station.outgoing))
-    (role_in p.end) p.clock
+    (role_in p.end) p.clock p.loose
 
 -- the program that does a task; `vectors` reads nothing
 abbrev pub program_of : Task → Program
@@ -93,10 +96,11 @@ program_of Vectors = record {
 }
 program_of (Sim s) = simulating.program (settings_in s.station 0 0) s.down (shown_in s) s.loose
 program_of (Station p) = place_program p
-program_of (Judge g) = judging.program g.loose (begins_at (at_in g.at) g.k (record { long = g.long; wide = g.wide })
-    (record { unjudged = g.strict; manners = g.manners }))
+program_of (Judge g) = judging.program g.loose (begins_at (at_in g.at) g.k (record { size = g.size; window = g.window })
+    (record { long = g.long; wide = g.wide }) (record { unjudged = g.strict; manners = g.manners }))
 program_of (Deframe end) = deframing.program (role_in end)
 program_of (Frame loose) = framing.program loose
+program_of Tabs = recording.program
 
 -- what holds of what was written for a script; of the other tasks nothing is said
 abbrev pub WritesScript : Task → List ℕ → Option (List ℕ) → Option (List ℕ) → Type 0
@@ -108,6 +112,7 @@ WritesScript (Station p) script old now = ⊤
 WritesScript (Judge g) script old now = ⊤
 WritesScript (Deframe end) script old now = ⊤
 WritesScript (Frame loose) script old now = ⊤
+WritesScript Tabs script old now = ⊤
 
 -- a task that asks for memory before it reads and writes alone
 abbrev pub is_plain : Task → Bool
@@ -118,6 +123,7 @@ is_plain (Station p) = false
 is_plain (Judge g) = true
 is_plain (Deframe end) = true
 is_plain (Frame loose) = false
+is_plain Tabs = false
 
 -- The task is done: the status is its own, 0 or 1, and what is written its text of all that was read.
 abbrev pub IsDone : Task → ℕ → Option (List ℕ) → Option (List ℕ) → Option (List ℕ) → Type 0

@@ -1,7 +1,8 @@
-//! What is said on standard error of the lines of a script that are none, and of those that are refused.
+//! What is said on standard error of lines of a script or of a station that are none, and of those that are refused.
 use crate::nearest::Nearest;
 use std::alloc::Global;
 use std::str;
+use x25_settings::{End, Task};
 use x25_sim::Reporter;
 
 /// A word that says what a line asks for, and the form of such a line.
@@ -26,7 +27,7 @@ static OF_A_USER: [Form; 15] = [
     },
     Form {
         word: "with",
-        form: "END with FAC HEX [d] call .., accept .. or clear .. (with --wide)",
+        form: "END with FAC HEX [d] REST (with --wide; REST is call .., accept .. or clear ..)",
     },
     Form {
         word: "send",
@@ -175,6 +176,11 @@ fn are_octets(word: &str) -> bool {
 /// What a field of a form is, where the word in its place is none.
 fn wanted(field: &str, word: &str) -> Option<&'static str> {
     match field {
+        "CALLED" | "CALLING" | "CH" | "Q" | "HEX" | "FAC" | "END" | "DIR" | "PLACE" | "N"
+            if word.is_empty() => { Some("after a blank too many") }
+        "END" if word != "dte" && word != "dce" => Some("dte or dce"),
+        "DIR" if word != ">" && word != "<" => Some("> or <"),
+        "Q" if word != "0" && word != "1" => Some("0 or 1"),
         "N" if word == "0" || !is_number(word) => Some("a number from 1 to 65535"),
         "CH" | "PLACE" if !is_number(word) => Some("a number from 0 to 65535"),
         "HEX" | "FAC" if !are_octets(word) => Some("pairs of digits 0 to f, or -"),
@@ -182,21 +188,103 @@ fn wanted(field: &str, word: &str) -> Option<&'static str> {
     }
 }
 
-/// The first field of a form in whose place another word stands, and what it is.
+/// The first field of a form in whose place another word stands, or none, and what it is.
 fn misfit<'a>(form: &'a str, line: &str) -> Option<(&'a str, &'static str)> {
-    let fields = form.split(' ').filter(|field| *field != "[d]");
-    let words = line.split(' ').filter(|word| *word != "d");
-    for (field, word) in fields.zip(words) {
+    let (plain, note) = form.split_once(" (").unwrap_or((form, ""));
+    let (needed, more) = plain.split_once(" [SIZE").unwrap_or((plain, note));
+    let mut words = line.split(' ').filter(|word| *word != "d");
+    for field in needed.split(' ').filter(|field| *field != "[d]") {
+        let Some(word) = words.next() else {
+            return Some((field, "missing"));
+        };
         if let Some(wanted) = wanted(field, word) {
             return Some((field, wanted));
         }
     }
-    None
+    if more.is_empty() && words.next().is_some() {
+        let last = needed.split(' ').filter(|field| *field != "[d]").last();
+        Some((last.unwrap_or(needed), "the last word"))
+    } else {
+        None
+    }
+}
+
+/// What may be wrong with a line whose first word asks for nothing.
+fn hint<'a>(line: &str) -> &'a str {
+    let (first, _) = line.split_once(' ').unwrap_or((line, ""));
+    let has_capital = first
+        .as_bytes()
+        .iter()
+        .any(|octet| octet.is_ascii_uppercase());
+    if line.starts_with('#') {
+        " (--loose takes comments)"
+    } else if line.starts_with(' ') {
+        " (a blank stands before it)"
+    } else if form_of(first, &OF_A_USER).is_some() {
+        " (dte or dce stands before it)"
+    } else if has_capital {
+        " (words are in lower case)"
+    } else {
+        ""
+    }
 }
 
 /// Whether a text has no control characters, and no mark of UTF-8 at its front.
 fn is_plain(text: &str) -> bool {
     !text.starts_with('\u{FEFF}') && text.as_bytes().iter().all(|octet| *octet >= b' ')
+}
+
+/// What the lines are of which it is said why they are refused.
+#[derive(Clone, Copy)]
+enum Told {
+    Nothing,
+    Script,
+    /// Lines of a station at an end, which has a clock or not.
+    Station(End, bool),
+}
+
+/// The lines of a task.
+fn told_of(task: Task) -> Told {
+    match task {
+        Task::Sim(_) => Told::Script,
+        Task::Station(place) if place.reasons => Told::Station(place.end, place.clock.is_some()),
+        _ => Told::Nothing,
+    }
+}
+
+/// Whether a word names the other end, or is the mark of what this end sends.
+fn is_of_other(end: End, word: &str) -> bool {
+    match end {
+        End::Dte => word == "dce",
+        End::Dce => word == "dte",
+    }
+}
+
+fn is_own_mark(end: End, word: &str) -> bool {
+    match end {
+        End::Dte => word == ">",
+        End::Dce => word == "<",
+    }
+}
+
+/// Why a line that may be one of another end, or of a script of both ends, is none of a station.
+fn strange_line<'a>(end: End, has_clock: bool, line: &str) -> Option<&'a str> {
+    let (first, rest) = line.split_once(' ').unwrap_or((line, ""));
+    let (second, _) = rest.split_once(' ').unwrap_or((rest, ""));
+    match first {
+        _ if is_of_other(end, first) => Some("is of the other end"),
+        "t1" if is_of_other(end, second) => Some("is of the other end"),
+        "deliver" | "lose" | "damage" | "drain" | "heal" => {
+            Some("is of `sim`: a station has no line between two ends")
+        }
+        "@" if has_clock => Some("says no time in milliseconds, or an earlier one than before"),
+        "@" => Some("says the time, which --clock reads"),
+        ">" | "<" if is_own_mark(end, first) => Some(
+            "is what this end sends, and no line that comes to it",
+        ),
+        ">" | "<" => Some("has no octets of a frame: pairs of digits 0 to f"),
+        _ => None,
+    }
 }
 
 /// Of how many lines it is said what is wrong.
@@ -206,14 +294,16 @@ const MOST_TOLD: u8 = 20;
 #[derive(Drop)]
 pub(crate) struct Explainer<'a, E> {
     rt: &'a E,
+    of: Told,
     told: u8,
     is_empty_told: bool,
 }
 
 impl<'a, E: Eprint + AllocGlobal> Explainer<'a, E> {
-    pub(crate) fn new(rt: &'a E) -> Explainer<'a, E> {
+    pub(crate) fn new(rt: &'a E, task: Task) -> Explainer<'a, E> {
         Explainer {
             rt,
+            of: told_of(task),
             told: 0,
             is_empty_told: false,
         }
@@ -221,6 +311,20 @@ impl<'a, E: Eprint + AllocGlobal> Explainer<'a, E> {
 
     /// Says what is wrong with a line of text.
     fn explain(&self, number: u64, line: &str) {
+        let strange = match self.of {
+            Told::Station(end, has_clock) => strange_line(end, has_clock, line),
+            _ => None,
+        };
+        match strange {
+            Some(why) => {
+                eprintln!(self.rt; "line {number}: '{line:.60}' {why}").ok();
+            }
+            None => self.explain_event(number, line),
+        }
+    }
+
+    /// Says what is wrong with an event.
+    fn explain_event(&self, number: u64, line: &str) {
         let (word, forms) = asking(line);
         if let Some(known) = form_of(word, forms) {
             let form = known.form;
@@ -236,17 +340,15 @@ impl<'a, E: Eprint + AllocGlobal> Explainer<'a, E> {
                 "line {number}: no such event '{line:.60}' (did you mean {near}?)"
             ).ok();
         } else {
-            let hint = if line.starts_with('#') {
-                " (--loose takes comments)"
-            } else {
-                ""
-            };
-            eprintln!(self.rt; "line {number}: no such event '{line:.60}'{hint}").ok();
+            eprintln!(self.rt; "line {number}: no such event '{line:.60}'{}", hint(line)).ok();
         }
     }
 
     /// Whether one line more may be told of; of the last one it says so.
     fn may_tell(&mut self) -> bool {
+        if matches!(self.of, Told::Nothing) {
+            return false;
+        }
         if self.told == MOST_TOLD {
             self.told += 1;
             eprintln!(self.rt; "no more is said of such lines").ok();
@@ -280,7 +382,7 @@ impl<'a, E: Eprint + AllocGlobal> Explainer<'a, E> {
 impl<'a, E: Eprint + AllocGlobal> Reporter for Explainer<'a, E> {
     fn report(&mut self, number: u64, line: Option<&[u8]>) {
         if line.is_some_and(|octets| octets.is_empty()) {
-            if !self.is_empty_told {
+            if !self.is_empty_told && !matches!(self.of, Told::Nothing) {
                 self.is_empty_told = true;
                 eprintln!(self.rt; "line {number}: empty (--loose takes empty lines)").ok();
             }

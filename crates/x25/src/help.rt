@@ -26,19 +26,23 @@ fn about<'a>(command: Command) -> &'a str {
         Command::Frame => {
             "Answer lines of a trace by octets of a synchronous line that carries their frames"
         }
+        Command::Tabs => {
+            "Answer lines of `decode`, `judge`, `sim` or `station` by records for programs, fields with tabs between"
+        }
     }
 }
 
 /// How it is used.
 fn usage<'a>(command: Command) -> &'a str {
     match command {
-        Command::Decode => "x25 decode [--long] [--loose] [--wide] [FILE]",
+        Command::Decode => "x25 decode [OPTIONS] [FILE]",
         Command::Vectors => "x25 vectors",
         Command::Sim => "x25 sim [OPTIONS] [FILE]",
         Command::Station => "x25 station END [OPTIONS] [FILE]",
         Command::Judge => "x25 judge [OPTIONS] [FILE]",
         Command::Deframe => "x25 deframe END [FILE]",
-        Command::Frame => "x25 frame [--loose] [FILE]",
+        Command::Frame => "x25 frame [OPTIONS] [FILE]",
+        Command::Tabs => "x25 tabs [FILE]",
     }
 }
 
@@ -68,6 +72,10 @@ Examples:
   x25 deframe dte < line.bin | grep -v '^#' | x25 decode
   grep '^>' trace | x25 frame | x25 deframe dte"
         }
+        Command::Tabs => {
+            "Examples:
+  x25 decode --wide < trace | x25 tabs | cut -f 5 | sort | uniq -c"
+        }
         _ => "",
     }
 }
@@ -79,19 +87,22 @@ fn help<'a>(command: Command, choice: Choice) -> &'a str {
             "Read the time in lines `@ MS`, in milliseconds, and ask for what is due then"
         }
         Choice::Down => "Begin with both links down, in place of just set up",
-        Choice::Events => "Tell each event behind what it made",
+        Choice::Events => "Write which event it was after what it made",
         Choice::Long => "Take up to 128 octets of user data in a CALL, in place of 16",
         Choice::Loose => {
             "Read a time and a tab before a line, comments (#), empty lines and CR LF too"
         }
         Choice::Manners => "Answer status 1 too where manners were broken",
+        Choice::Reasons => {
+            "Say on standard error why a line is refused: its number, and what that means"
+        }
         Choice::SaySizes => {
             "Say packet sizes and windows in each CALL and CALL ACCEPTED, also where they are the default"
         }
         Choice::Strict => {
             "Answer status 1 too where something wasn't judged, or missing frames may explain a rule"
         }
-        Choice::Tap => "Tell the frames of each step behind its entries, as lines for `decode`",
+        Choice::Tap => "Write the frames of each step after its entries, as lines for `decode`",
         Choice::Wide if matches!(command, Command::Sim | Command::Station) => {
             "Take packets in all the forms that X.25 lets equipment send"
         }
@@ -99,7 +110,7 @@ fn help<'a>(command: Command, choice: Choice) -> &'a str {
             "Read packets in all the forms that X.25 lets equipment send, and mark those by `~ wide`"
         }
         Choice::At => {
-            "What the trace may lack, as `!?` says: nothing (line), what the line lost before this end (dte, dce), \
+            "What the trace may lack: nothing (line), what the line lost before this end (dte, dce), \
             any frame (either) [default: either]"
         }
         Choice::Window => "The window of the link: 1 to 7 [default: 7]",
@@ -119,15 +130,23 @@ fn help<'a>(command: Command, choice: Choice) -> &'a str {
         Choice::Message => {
             "The most octets of a message, for which each call has memory: 1 to 65535 [default: 65535]"
         }
-        Choice::T1 => {
-            "With a clock, what T1 is, in milliseconds as all of these: 0 (never) to 86400000 [default: 3000]"
+        Choice::Size => {
+            "The network's packet size where a call names none, in octets: 16 to 4096 [default: 128]"
         }
-        Choice::T3 => "T3 [default: 60000]",
-        Choice::T20 => "T20, of a DCE T10 [default: 180000, of a DCE 60000]",
-        Choice::T21 => "T21, of a DCE T11 [default: 200000, of a DCE 180000]",
-        Choice::T22 => "T22, of a DCE T12 [default: 180000, of a DCE 60000]",
-        Choice::T23 => "T23, of a DCE T13 [default: 180000, of a DCE 60000]",
-        Choice::T26 => "T26, for the confirmation of an interrupt [default: 180000, of a DCE 0]",
+        Choice::PacketWindow => {
+            "The network's window of a channel where a call names none: 1 to 7 [default: 2]"
+        }
+        Choice::T1 => {
+            "With --clock, how long T1 is, in milliseconds: 0 (never) to 86400000 [default: 3000]; \
+            `x25 bridge` has seconds"
+        }
+        Choice::T3 => "T3, of a link at rest, in milliseconds as all of these [default: 60000]",
+        Choice::T20 => "T20, of a restart, at a DCE T10 [default: 180000, at a DCE 60000]",
+        Choice::T21 => "T21, of a call, at a DCE T11 [default: 200000, at a DCE 180000]",
+        Choice::T22 => "T22, of a reset, at a DCE T12 [default: 180000, at a DCE 60000]",
+        Choice::T23 => "T23, of a clearing, at a DCE T13 [default: 180000, at a DCE 60000]",
+        Choice::T25 => "T25, of a data packet that isn't acknowledged [default: 0]",
+        Choice::T26 => "T26, of an interrupt [default: 180000, at a DCE 0]",
     }
 }
 
@@ -141,6 +160,7 @@ fn value<'a>(choice: Choice) -> &'a str {
         | Choice::T21
         | Choice::T22
         | Choice::T23
+        | Choice::T25
         | Choice::T26 => "MS",
         _ => "N",
     }

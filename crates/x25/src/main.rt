@@ -67,7 +67,7 @@ fn run<E: Eprint + AllocGlobal, R: Source, W: Write>(
     ensures { Ends task result (R.remaining reader.old.source)
         (W.contents writer.old.writer) (W.contents writer.new.writer) }
 {
-    let result = perform(rt.alloc(), task, Explainer::new(rt), reader, writer);
+    let result = perform(rt.alloc(), task, Explainer::new(rt, task), reader, writer);
     if reader.is_capture() {
         eprintln!(rt;
             "this is a capture, and no lines: `x25 dump` reads it (tools/x25dump.py)"

@@ -12,8 +12,9 @@ use std::alloc::Global;
 use x25_bit_line::{deframe, frame};
 use x25_decode::{Reading, decode_lines, vectors};
 use x25_io::{Fault, Sink, Source};
-use x25_judge::{At, Strictness, judge_lines};
+use x25_judge::{At, Defaults, Strictness, judge_lines};
 use x25_pipe::{Role, Times, station, timed_station};
+use x25_records::write_records;
 use x25_settings::{At as Where, End, GivenTimes, Place, Simulation, StationOptions, Task};
 use x25_sim::{Cfg, Ranges, Reporter, Shown, sim};
 
@@ -70,14 +71,16 @@ fn times_of(end: Role, given: GivenTimes) -> Times
         t21: given.t21.unwrap_or(usual.t21),
         t22: given.t22.unwrap_or(usual.t22),
         t23: given.t23.unwrap_or(usual.t23),
+        t25: given.t25.unwrap_or(usual.t25),
         t26: given.t26.unwrap_or(usual.t26),
     }
 }
 
 /// Runs one station as the words of the command line ask for.
-fn answer_lines<R: Source, W: Sink>(
+fn answer_lines<P: Reporter, R: Source, W: Sink>(
     alloc: Global,
     place: Place,
+    reporter: P,
     reader: &mut R,
     writer: &mut W,
 ) -> Result<u8, Fault>
@@ -88,8 +91,20 @@ fn answer_lines<R: Source, W: Sink>(
     let options = place.station;
     let cfg = settings_of(options, options.incoming, options.outgoing);
     match place.clock {
-        None => station(alloc, end, cfg, reader, writer),
-        Some(given) => timed_station(alloc, end, cfg, times_of(end, given), reader, writer),
+        None => station(alloc, end, cfg, place.loose, reporter, reader, writer),
+        Some(given) => {
+            let times = times_of(end, given);
+            timed_station(
+                alloc,
+                end,
+                cfg,
+                times,
+                place.loose,
+                reporter,
+                reader,
+                writer,
+            )
+        }
     }
 }
 
@@ -156,12 +171,16 @@ pub(crate) fn perform<P: Reporter, R: Source, W: Sink>(
             writer,
         ),
         Task::Sim(simulation) => simulate(alloc, simulation, reporter, reader, writer),
-        Task::Station(place) => answer_lines(alloc, place, reader, writer),
+        Task::Station(place) => answer_lines(alloc, place, reporter, reader, writer),
         Task::Vectors => vectors(alloc, writer),
         Task::Judge(judging) => judge_lines(
             alloc,
             at_of(judging.at),
             judging.k,
+            Defaults {
+                size: judging.size,
+                window: judging.window,
+            },
             Reading {
                 long: judging.long,
                 wide: judging.wide,
@@ -176,5 +195,6 @@ pub(crate) fn perform<P: Reporter, R: Source, W: Sink>(
         ),
         Task::Deframe(end) => deframe(alloc, role_of(end), reader, writer),
         Task::Frame { loose } => frame(alloc, loose, reader, writer),
+        Task::Tabs => write_records(alloc, reader, writer),
     }
 }

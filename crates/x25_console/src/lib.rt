@@ -5,7 +5,9 @@
 #![tactic(auto)]
 
 mod commands;
+mod reporter;
 mod telling;
 
 pub use commands::{given_beside, read_octets, read_user, station_command};
+pub use reporter::{Reporter, Silent};
 pub use telling::{tell, tell_entries, tell_frame, tell_nothing, tell_refusal};

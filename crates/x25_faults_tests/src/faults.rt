@@ -1,6 +1,6 @@
 //! A read or a write that fails: it is told, and what was written is a beginning of all.
 use crate::devices::{FailingReader, FailingWriter};
-use crate::runs::{DECODE, DEFRAME, FRAME, Run, SIM, STATION, does};
+use crate::runs::{DECODE, DEFRAME, FRAME, Run, SIM, STATION, TABS, does};
 use std::alloc::Global;
 use x25_io::{Device, Fault};
 
@@ -44,7 +44,7 @@ fn tells_the_read_that_fails(rt: HostRuntime) {
 }
 
 /// Runs that write what they tell in one block, the most octets of a write, and how many octets it has.
-static WRITES: [(Run, usize); 3] = [(DECODE, 9), (SIM, 9), (FRAME, 3)];
+static WRITES: [(Run, usize); 4] = [(DECODE, 9), (SIM, 9), (FRAME, 3), (TABS, 9)];
 
 // What a run ends with whose write fails that has so many before it, whether it wrote a beginning, and how many octets.
 fn writes(

@@ -1,5 +1,5 @@
-//! Tests of `x25_io`, and of `decode`, `sim`, `station`, `deframe` and `frame` over readers and writers that fail, or
-//! that take and give a few octets at a time; `tests/golden` has worked traces, scripts and sessions.
+//! Tests of `x25_io`, and of `decode`, `sim`, `station`, `deframe`, `frame` and `tabs` over readers and writers that
+//! fail, or that take and give a few octets at a time; `tests/golden` has worked traces, scripts and sessions.
 #![tactic(auto)]
 
 #[cfg(test)]

@@ -1,14 +1,15 @@
 //! Octets that come and go a few at a time.
 use crate::devices::{FailingReader, FailingWriter};
-use crate::runs::{DECODE, DEFRAME, FRAME, Run, SIM, STATION, Task, does};
+use crate::runs::{DECODE, DEFRAME, FRAME, Run, SIM, STATION, TABS, Task, does};
 use std::alloc::Global;
 use x25_bit_line::Role;
 use x25_io::Fault;
 
-static RUNS: [Run; 15] = [
+static RUNS: [Run; 16] = [
     DECODE,
     SIM,
     STATION,
+    TABS,
     DEFRAME,
     // A flag, the stuffed bits of a SABM, a flag, and six 0 bits; of the other end with six 1 bits behind it.
     (

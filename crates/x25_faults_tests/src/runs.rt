@@ -4,6 +4,7 @@ use x25_bit_line::{Role, deframe, frame};
 use x25_decode::{Reading, decode_lines};
 use x25_io::{Fault, Sink, Source};
 use x25_pipe::station;
+use x25_records::write_records;
 use x25_sim::{Cfg, Ranges, Shown, Silent, sim};
 
 #[derive(Clone, Copy)]
@@ -13,6 +14,7 @@ pub enum Task {
     Station,
     Deframe(Role),
     Frame,
+    Tabs,
 }
 
 /// A task, what it is given, what it writes for that, and its status then.
@@ -57,6 +59,13 @@ pub const FRAME: Run = (
     0,
 );
 
+pub const TABS: Run = (
+    Task::Tabs,
+    b"> SABM cmd P=1\ndte linkup\n? 60\n",
+    b"\t>\tSABM\tcmd P=1\t\t\t\t\n\tdte\t\t\tlinkup\t\t\t\n? 60\n",
+    0,
+);
+
 const AS_WRITTEN: Reading = Reading {
     long: false,
     wide: false,
@@ -91,8 +100,9 @@ pub fn does<R: Source, W: Sink>(
     match task {
         Task::Decode => decode_lines(alloc, AS_WRITTEN, false, reader, writer),
         Task::Sim => sim(alloc, false, USUAL, PLAIN, false, Silent, reader, writer),
-        Task::Station => station(alloc, Role::Dte, USUAL, reader, writer),
+        Task::Station => station(alloc, Role::Dte, USUAL, false, Silent, reader, writer),
         Task::Deframe(from) => deframe(alloc, from, reader, writer),
         Task::Frame => frame(alloc, false, reader, writer),
+        Task::Tabs => write_records(alloc, reader, writer),
     }
 }

@@ -3,7 +3,7 @@ use Rattle.std.proofs.Common.{◌≡◌, ◌∙◌, ℕ, Bool, true, false, List
 use Rattle.std.proofs.lemmas.List.{length-map}
 use Rattle.std.specs.Prelude.{cond, suc, IfOk}
 use Rattle.x25_settings.proofs.RangeLemmas.{number_range}
-use Rattle.x25_settings.specs.Items.{items}
+use Rattle.x25_settings.specs.Items.{is_chosen, items}
 use Rattle.x25_settings.specs.{Options.{command_in}, Words.{AreInRange, OptionsAreInRange, asked_behind, asked_by, asked_in, asks, asks_unless, clock_of, front_fault}}
 use Rattle.x25_settings.specs.Words.{deframed_at, end_of, fault_of, file_of, fit_ranges, placed_at, refused, station_of, task_of}
 use Rattle.x25_settings.specs.declared.options.{Command.{Command}, End.{End}}
@@ -52,6 +52,8 @@ station_fine words (Some end) = go (fit_ranges (station_of (items command.Statio
       end = end;
       station = station_of (items command.Station false words);
       clock = clock_of (items command.Station false words);
+      loose = is_chosen choice.Loose (items command.Station false words);
+      reasons = is_chosen choice.Reasons (items command.Station false words);
     }))) (Err OneWay))
     go true fits = (options_range command.Station words, fits)
     go false fits = tt

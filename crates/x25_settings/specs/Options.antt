@@ -10,7 +10,7 @@ use Rattle.x25_settings.specs.declared.options.Choice.{Choice}
 use Rattle.x25_settings.specs.declared.options.Choice.TheVariants as choice
 use Rattle.x25_settings.specs.declared.options.Command.{Command}
 use Rattle.x25_settings.specs.declared.options.Command.TheVariants.{Decode, Vectors, Sim, Station, Judge, Deframe}
-use Rattle.x25_settings.specs.declared.options.Command.TheVariants.{Frame}
+use Rattle.x25_settings.specs.declared.options.Command.TheVariants.{Frame, Tabs}
 use Rattle.x25_settings.specs.declared.options.End.{End}
 use Rattle.x25_settings.specs.declared.options.End.TheVariants.{Dte, Dce}
 
@@ -22,6 +22,7 @@ command_word Station = codes "station"
 command_word Judge = codes "judge"
 command_word Deframe = codes "deframe"
 command_word Frame = codes "frame"
+command_word Tabs = codes "tabs"
 
 abbrev pub word_of : Choice → List ℕ
 word_of choice.Clock = codes "--clock"
@@ -30,6 +31,7 @@ word_of choice.Events = codes "--events"
 word_of choice.Long = codes "--long"
 word_of choice.Loose = codes "--loose"
 word_of choice.Manners = codes "--manners"
+word_of choice.Reasons = codes "--reasons"
 word_of choice.SaySizes = codes "--say-sizes"
 word_of choice.Strict = codes "--strict"
 word_of choice.Tap = codes "--tap"
@@ -41,12 +43,15 @@ word_of choice.Channels = codes "--channels"
 word_of choice.Incoming = codes "--incoming"
 word_of choice.Outgoing = codes "--outgoing"
 word_of choice.Message = codes "--message"
+word_of choice.Size = codes "--size"
+word_of choice.PacketWindow = codes "--window"
 word_of choice.T1 = codes "--t1"
 word_of choice.T3 = codes "--t3"
 word_of choice.T20 = codes "--t20"
 word_of choice.T21 = codes "--t21"
 word_of choice.T22 = codes "--t22"
 word_of choice.T23 = codes "--t23"
+word_of choice.T25 = codes "--t25"
 word_of choice.T26 = codes "--t26"
 
 abbrev pub end_word : End → List ℕ
@@ -80,11 +85,12 @@ has Sim choice.Message = true
 has Sim x = false
 has Station choice.Down = false
 has Station choice.Events = false
-has Station choice.Loose = false
 has Station choice.Manners = false
 has Station choice.Strict = false
 has Station choice.Tap = false
 has Station choice.At = false
+has Station choice.Size = false
+has Station choice.PacketWindow = false
 has Station x = true
 has Judge choice.Long = true
 has Judge choice.Loose = true
@@ -93,10 +99,13 @@ has Judge choice.Strict = true
 has Judge choice.Wide = true
 has Judge choice.At = true
 has Judge choice.Window = true
+has Judge choice.Size = true
+has Judge choice.PacketWindow = true
 has Judge x = false
 has Deframe x = false
 has Frame choice.Loose = true
 has Frame x = false
+has Tabs x = false
 
 -- which is of one end, and which may read a file
 abbrev pub has_end : Command → Bool
@@ -115,6 +124,7 @@ is_time choice.T20 = true
 is_time choice.T21 = true
 is_time choice.T22 = true
 is_time choice.T23 = true
+is_time choice.T25 = true
 is_time choice.T26 = true
 is_time x = false
 
@@ -127,6 +137,8 @@ wants_value choice.Channels = true
 wants_value choice.Incoming = true
 wants_value choice.Outgoing = true
 wants_value choice.Message = true
+wants_value choice.Size = true
+wants_value choice.PacketWindow = true
 wants_value x = is_time x
 
 -- the least that a number may be: of channels that are one-way none; a time of 0 is for ever
@@ -135,6 +147,8 @@ least_of choice.Window = 1
 least_of choice.Tries = 1
 least_of choice.Channels = 1
 least_of choice.Message = 1
+least_of choice.Size = 16
+least_of choice.PacketWindow = 1
 least_of x = 0
 
 -- the most that it may be at a command; of a time, in milliseconds, a day
@@ -146,6 +160,8 @@ most_of command choice.Channels = 4095
 most_of command choice.Incoming = 4095
 most_of command choice.Outgoing = 4095
 most_of command choice.Message = 65535
+most_of command choice.Size = 4096
+most_of command choice.PacketWindow = 7
 most_of command x = 86400000
 
 -- what it is where no word says it
@@ -154,16 +170,19 @@ usual_of choice.Window = 7
 usual_of choice.Tries = 10
 usual_of choice.Channels = 1
 usual_of choice.Message = 65535
+usual_of choice.Size = 128
+usual_of choice.PacketWindow = 2
 usual_of x = 0
 
 abbrev pub commands : List Command
-commands = Decode ∷ Vectors ∷ Sim ∷ Station ∷ Judge ∷ Deframe ∷ Frame ∷ []
+commands = Decode ∷ Vectors ∷ Sim ∷ Station ∷ Judge ∷ Deframe ∷ Frame ∷ Tabs ∷ []
 
 abbrev pub choices : List Choice
-choices = choice.Clock ∷ choice.Down ∷ choice.Events ∷ choice.Long ∷ choice.Loose ∷ choice.Manners ∷ choice.SaySizes
-    ∷ choice.Strict ∷ choice.Tap ∷ choice.Wide ∷ choice.At ∷ choice.Window ∷ choice.Tries ∷ choice.Channels
-    ∷ choice.Incoming ∷ choice.Outgoing ∷ choice.Message ∷ choice.T1 ∷ choice.T3 ∷ choice.T20 ∷ choice.T21
-    ∷ choice.T22 ∷ choice.T23 ∷ choice.T26 ∷ []
+choices = choice.Clock ∷ choice.Down ∷ choice.Events ∷ choice.Long ∷ choice.Loose ∷ choice.Manners
+    ∷ choice.Reasons ∷ choice.SaySizes ∷ choice.Strict ∷ choice.Tap ∷ choice.Wide ∷ choice.At ∷ choice.Window
+    ∷ choice.Tries ∷ choice.Channels ∷ choice.Incoming ∷ choice.Outgoing ∷ choice.Message ∷ choice.Size
+    ∷ choice.PacketWindow ∷ choice.T1 ∷ choice.T3 ∷ choice.T20 ∷ choice.T21 ∷ choice.T22 ∷ choice.T23
+    ∷ choice.T25 ∷ choice.T26 ∷ []
 
 -- what has a word
 abbrev pub command_in : List ℕ → Option Command

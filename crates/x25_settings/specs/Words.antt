@@ -21,6 +21,7 @@ use Rattle.x25_settings.specs.declared.words.Asked.{Asked}
 use Rattle.x25_settings.specs.declared.words.Refusal.{Refusal}
 use Rattle.x25_settings.specs.declared.words.Task.{Task}
 use Rattle.x25_settings.specs.declared.words.Task.TheVariants.{Decode, Vectors, Sim, Station, Judge, Deframe, Frame}
+use Rattle.x25_settings.specs.declared.words.Task.TheVariants.{Tabs}
 use Rattle.x25_settings.specs.declared.words.Why.{Why}
 use Rattle.x25_settings.specs.declared.words.Why.TheVariants as why
 use Rattle.x25_settings.specs.Items.{asks_help, asks_version, fault_in, is_chosen, item_of, items, operand_of}
@@ -62,6 +63,7 @@ times_of list = record {
   t21 = given_of choice.T21 list;
   t22 = given_of choice.T22 list;
   t23 = given_of choice.T23 list;
+  t25 = given_of choice.T25 list;
   t26 = given_of choice.T26 list;
 }
 
@@ -90,7 +92,14 @@ fit_ranges s = nat_le (s.incoming + s.outgoing) s.channels
 abbrev pub placed_at : List (ℕ × Item) → Option End → Result Task Why
 placed_at list None = Err why.NoEnd
 placed_at list (Some end) = if fit_ranges (station_of list)
-    then Ok (Station (record { end = end; station = station_of list; clock = clock_of list })) else Err why.OneWay
+    then Ok (Station (record {
+      end = end;
+      station = station_of list;
+      clock = clock_of list;
+      loose = is_chosen choice.Loose list;
+      reasons = is_chosen choice.Reasons list;
+    }))
+    else Err why.OneWay
 
 abbrev pub deframed_at : Option End → Result Task Why
 deframed_at None = Err why.NoEnd
@@ -119,10 +128,13 @@ task_of command.Judge list = Ok (Judge (record {
   strict = is_chosen choice.Strict list;
   wide = is_chosen choice.Wide list;
   k = number_of choice.Window list;
+  size = number_of choice.Size list;
+  window = number_of choice.PacketWindow list;
   at = site_of (item_of choice.At list);
 }))
 task_of command.Deframe list = deframed_at (end_of list)
 task_of command.Frame list = Ok (Frame (is_chosen choice.Loose list))
+task_of command.Tabs list = Ok Tabs
 
 abbrev pub fault_of : Command → List (ℕ × Item) → Option (ℕ × Why)
 fault_of command list = fault_in (is_chosen choice.Clock list) (has_end command) (has_file command) list
@@ -178,3 +190,4 @@ AreInRange (Station p) = OptionsAreInRange command.Station p.station × (fit_ran
 AreInRange (Judge g) = IsInRange command.Judge choice.Window g.k
 AreInRange (Deframe end) = Unit {0}
 AreInRange (Frame loose) = Unit {0}
+AreInRange Tabs = Unit {0}

@@ -74,6 +74,7 @@ pub struct GivenTimes {
     pub t21: Option<u32>,
     pub t22: Option<u32>,
     pub t23: Option<u32>,
+    pub t25: Option<u32>,
     pub t26: Option<u32>,
 }
 
@@ -85,6 +86,10 @@ pub struct Place {
     pub station: StationOptions,
     /// The station has a clock, and what its timers are.
     pub clock: Option<GivenTimes>,
+    /// Times, comments, empty lines and carriage returns are read.
+    pub loose: bool,
+    /// Of what is refused the reason is said.
+    pub reasons: bool,
 }
 
 /// Where a trace was made: on the line, in front of an end, or at an end that isn't known.
@@ -111,6 +116,9 @@ pub struct Judging {
     pub wide: bool,
     /// The window of the link, 1 to 7.
     pub k: u8,
+    /// The network's packet size, in octets, 16 to 4096, and its window, 1 to 7, where a call says nothing.
+    pub size: u16,
+    pub window: u8,
     /// Where the trace was made.
     pub at: At,
 }
@@ -125,6 +133,7 @@ pub enum Command {
     Judge,
     Deframe,
     Frame,
+    Tabs,
 }
 
 /// An option of a command.
@@ -136,6 +145,7 @@ pub enum Choice {
     Long,
     Loose,
     Manners,
+    Reasons,
     SaySizes,
     Strict,
     Tap,
@@ -147,18 +157,21 @@ pub enum Choice {
     Incoming,
     Outgoing,
     Message,
+    Size,
+    PacketWindow,
     T1,
     T3,
     T20,
     T21,
     T22,
     T23,
+    T25,
     T26,
 }
 
 impl Command {
     /// All of them.
-    pub const ALL: [Command; 7] = [
+    pub const ALL: [Command; 8] = [
         Command::Decode,
         Command::Vectors,
         Command::Sim,
@@ -166,6 +179,7 @@ impl Command {
         Command::Judge,
         Command::Deframe,
         Command::Frame,
+        Command::Tabs,
     ];
 
     /// Its word.
@@ -180,6 +194,7 @@ impl Command {
             Command::Judge => "judge",
             Command::Deframe => "deframe",
             Command::Frame => "frame",
+            Command::Tabs => "tabs",
         }
     }
 
@@ -195,9 +210,10 @@ impl Command {
             ),
             Choice::Loose => matches!(
                 self,
-                Command::Decode | Command::Sim | Command::Judge | Command::Frame
+                Command::Decode | Command::Sim | Command::Station | Command::Judge | Command::Frame
             ),
-            Choice::Manners | Choice::Strict | Choice::At => matches!(self, Command::Judge),
+            Choice::Manners | Choice::Strict | Choice::At | Choice::Size | Choice::PacketWindow =>
+                matches!(self, Command::Judge),
             Choice::Window => matches!(self, Command::Sim | Command::Station | Command::Judge),
             Choice::SaySizes | Choice::Tries | Choice::Channels | Choice::Message => {
                 matches!(self, Command::Sim | Command::Station)
@@ -223,13 +239,14 @@ impl Command {
 
 impl Choice {
     /// All of them.
-    pub const ALL: [Choice; 24] = [
+    pub const ALL: [Choice; 28] = [
         Choice::Clock,
         Choice::Down,
         Choice::Events,
         Choice::Long,
         Choice::Loose,
         Choice::Manners,
+        Choice::Reasons,
         Choice::SaySizes,
         Choice::Strict,
         Choice::Tap,
@@ -241,12 +258,15 @@ impl Choice {
         Choice::Incoming,
         Choice::Outgoing,
         Choice::Message,
+        Choice::Size,
+        Choice::PacketWindow,
         Choice::T1,
         Choice::T3,
         Choice::T20,
         Choice::T21,
         Choice::T22,
         Choice::T23,
+        Choice::T25,
         Choice::T26,
     ];
 
@@ -261,6 +281,7 @@ impl Choice {
             Choice::Long => "--long",
             Choice::Loose => "--loose",
             Choice::Manners => "--manners",
+            Choice::Reasons => "--reasons",
             Choice::SaySizes => "--say-sizes",
             Choice::Strict => "--strict",
             Choice::Tap => "--tap",
@@ -272,12 +293,15 @@ impl Choice {
             Choice::Incoming => "--incoming",
             Choice::Outgoing => "--outgoing",
             Choice::Message => "--message",
+            Choice::Size => "--size",
+            Choice::PacketWindow => "--window",
             Choice::T1 => "--t1",
             Choice::T3 => "--t3",
             Choice::T20 => "--t20",
             Choice::T21 => "--t21",
             Choice::T22 => "--t22",
             Choice::T23 => "--t23",
+            Choice::T25 => "--t25",
             Choice::T26 => "--t26",
         }
     }
@@ -294,6 +318,7 @@ impl Choice {
                 | Choice::T21
                 | Choice::T22
                 | Choice::T23
+                | Choice::T25
                 | Choice::T26
         )
     }
@@ -309,7 +334,9 @@ impl Choice {
             | Choice::Channels
             | Choice::Incoming
             | Choice::Outgoing
-            | Choice::Message => true,
+            | Choice::Message
+            | Choice::Size
+            | Choice::PacketWindow => true,
             _ => self.is_time(),
         }
     }
@@ -319,7 +346,12 @@ impl Choice {
         ensures { result ≡ least_of self }
     {
         match self {
-            Choice::Window | Choice::Tries | Choice::Channels | Choice::Message => 1,
+            Choice::Window
+            | Choice::Tries
+            | Choice::Channels
+            | Choice::Message
+            | Choice::PacketWindow => 1,
+            Choice::Size => 16,
             _ => 0,
         }
     }
@@ -330,11 +362,12 @@ impl Choice {
         ensures within { result ≤ most_of Station self }
     {
         match self {
-            Choice::Window => 7,
+            Choice::Window | Choice::PacketWindow => 7,
             Choice::Tries => 255,
             Choice::Channels if matches!(command, Command::Sim) => 16,
             Choice::Channels | Choice::Incoming | Choice::Outgoing => 4095,
             Choice::Message => 65_535,
+            Choice::Size => 4096,
             _ => 86_400_000,
         }
     }
@@ -348,6 +381,8 @@ impl Choice {
             Choice::Tries => 10,
             Choice::Channels => 1,
             Choice::Message => 65_535,
+            Choice::Size => 128,
+            Choice::PacketWindow => 2,
             _ => 0,
         }
     }

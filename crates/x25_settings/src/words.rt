@@ -28,6 +28,7 @@ pub enum Task {
         /// Times, comments, empty lines and carriage returns are read.
         loose: bool,
     },
+    Tabs,
 }
 
 /// What the words ask for.
@@ -119,6 +120,7 @@ fn clock_of<S: AsStr>(command: Command, words: &[S]) -> Option<GivenTimes>
         t21: given(command, words, Choice::T21),
         t22: given(command, words, Choice::T22),
         t23: given(command, words, Choice::T23),
+        t25: given(command, words, Choice::T25),
         t26: given(command, words, Choice::T26),
     })
 }
@@ -159,6 +161,8 @@ fn station<S: AsStr>(command: Command, words: &[S]) -> Result<Task, Why>
             end,
             station,
             clock,
+            loose: is_chosen(command, words, Choice::Loose),
+            reasons: is_chosen(command, words, Choice::Reasons),
         }))
     } else {
         Err(Why::OneWay)
@@ -191,12 +195,15 @@ fn task_of<S: AsStr>(command: Command, words: &[S]) -> Result<Task, Why>
             strict: is_chosen(command, words, Choice::Strict),
             wide: is_chosen(command, words, Choice::Wide),
             k: number_of(command, words, Choice::Window) as u8,
+            size: number_of(command, words, Choice::Size) as u16,
+            window: number_of(command, words, Choice::PacketWindow) as u8,
             at: place_of(command, words),
         }),
         Command::Deframe => Task::Deframe(end_of(command, words).ok_or(Why::NoEnd)?),
         Command::Frame => Task::Frame {
             loose: is_chosen(command, words, Choice::Loose),
         },
+        Command::Tabs => Task::Tabs,
     })
 }
 

@@ -28,6 +28,8 @@ const PLAIN_JUDGING: Judging = Judging {
     strict: false,
     wide: false,
     k: 7,
+    size: 128,
+    window: 2,
     at: At::Either,
 };
 
@@ -53,6 +55,8 @@ fn place(end: End, station: StationOptions) -> Task {
         end,
         station,
         clock: None,
+        loose: false,
+        reasons: false,
     })
 }
 
@@ -63,6 +67,7 @@ const USUAL_TIMES: GivenTimes = GivenTimes {
     t21: None,
     t22: None,
     t23: None,
+    t25: None,
     t26: None,
 };
 
@@ -72,12 +77,14 @@ fn timed(end: End, times: GivenTimes) -> Task {
         end,
         station: DEFAULTS,
         clock: Some(times),
+        loose: false,
+        reasons: false,
     })
 }
 
 #[test]
 fn takes_plain_words_alone(rt: HostRuntime) {
-    let plain: [(&[&str], Task); 40] = [
+    let plain: [(&[&str], Task); 44] = [
         (&["decode"], Task::Decode(PLAIN_DECODING)),
         (
             &["decode", "--long"],
@@ -181,6 +188,7 @@ fn takes_plain_words_alone(rt: HostRuntime) {
         (&["deframe", "dte"], Task::Deframe(End::Dte)),
         (&["deframe", "dce"], Task::Deframe(End::Dce)),
         (&["frame"], Task::Frame { loose: false }),
+        (&["tabs"], Task::Tabs),
         (&["frame", "--loose"], Task::Frame { loose: true }),
         (
             &["decode", "--loose", "--wide"],
@@ -223,6 +231,14 @@ fn takes_plain_words_alone(rt: HostRuntime) {
             }),
         ),
         (
+            &["judge", "--window=7", "--size", "1024"],
+            Task::Judge(Judging {
+                size: 1024,
+                window: 7,
+                ..PLAIN_JUDGING
+            }),
+        ),
+        (
             &["judge", "--wide"],
             Task::Judge(Judging {
                 wide: true,
@@ -249,6 +265,26 @@ fn takes_plain_words_alone(rt: HostRuntime) {
         (&["judge", "--at", "dce"], judging_at(At::Dce)),
         (&["judge", "--at", "line"], judging_at(At::Line)),
         (&["station", "dte"], place(End::Dte, DEFAULTS)),
+        (
+            &["station", "--loose", "dte"],
+            Task::Station(Place {
+                end: End::Dte,
+                station: DEFAULTS,
+                clock: None,
+                loose: true,
+                reasons: false,
+            }),
+        ),
+        (
+            &["station", "dce", "--reasons"],
+            Task::Station(Place {
+                end: End::Dce,
+                station: DEFAULTS,
+                clock: None,
+                loose: false,
+                reasons: true,
+            }),
+        ),
         (
             &["station", "dte", "--say-sizes"],
             place(
@@ -345,8 +381,8 @@ fn takes_plain_words_alone(rt: HostRuntime) {
         ),
         (
             &[
-                "station", "dte", "--clock", "--t26", "26", "--t23", "23", "--t22", "22", "--t21",
-                "21", "--t20", "20",
+                "station", "dte", "--clock", "--t26", "26", "--t25", "25", "--t23", "23", "--t22",
+                "22", "--t21", "21", "--t20", "20",
             ],
             timed(
                 End::Dte,
@@ -355,6 +391,7 @@ fn takes_plain_words_alone(rt: HostRuntime) {
                     t21: Some(21),
                     t22: Some(22),
                     t23: Some(23),
+                    t25: Some(25),
                     t26: Some(26),
                     ..USUAL_TIMES
                 },
@@ -426,7 +463,7 @@ fn says_why_it_takes_no_other_words(rt: HostRuntime) {
         Some(Command::Station),
     );
     let (judge, deframe) = (Some(Command::Judge), Some(Command::Deframe));
-    let rows: [(&[&str], Option<Command>, usize, Why); 68] = [
+    let rows: [(&[&str], Option<Command>, usize, Why); 74] = [
         (&[], None, 0, Why::NoCommand),
         (&["dec"], None, 0, Why::UnknownCommand),
         (&["--", "decode"], None, 0, Why::UnknownCommand),
@@ -454,9 +491,16 @@ fn says_why_it_takes_no_other_words(rt: HostRuntime) {
         (&["sim", "--incoming", "0"], sim, 1, Why::NotHere),
         (&["sim", "--clock"], sim, 1, Why::NotHere),
         (&["sim", "--strict"], sim, 1, Why::NotHere),
-        (&["station", "dte", "--loose"], station, 2, Why::NotHere),
+        (&["deframe", "dte", "--loose"], deframe, 2, Why::NotHere),
         (&["station", "dte", "--at", "dte"], station, 2, Why::NotHere),
         (&["judge", "--message", "1"], judge, 1, Why::NotHere),
+        (&["decode", "--size", "256"], decode, 1, Why::NotHere),
+        (
+            &["station", "dte", "--window", "3"],
+            station,
+            2,
+            Why::NotHere,
+        ),
         (&["judge", "--clock"], judge, 1, Why::NotHere),
         (&["deframe", "dte", "--long"], deframe, 2, Why::NotHere),
         (&["frame", "--long"], Some(Command::Frame), 1, Why::NotHere),
@@ -513,6 +557,10 @@ fn says_why_it_takes_no_other_words(rt: HostRuntime) {
             3,
             Why::Number(0, 86_400_000),
         ),
+        (&["judge", "--size", "15"], judge, 1, Why::Number(16, 4096)),
+        (&["judge", "--size=8192"], judge, 1, Why::Number(16, 4096)),
+        (&["judge", "--window", "0"], judge, 1, Why::Number(1, 7)),
+        (&["judge", "--window", "8"], judge, 1, Why::Number(1, 7)),
         (&["judge", "--at", "DTE"], judge, 1, Why::Place),
         (&["judge", "--at="], judge, 1, Why::Place),
         (&["station"], station, 1, Why::NoEnd),

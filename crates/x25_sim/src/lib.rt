@@ -5,7 +5,6 @@
 #![tactic(auto)]
 
 mod law;
-mod reporter;
 mod running;
 mod simulator;
 mod stage;
@@ -15,8 +14,8 @@ pub use law::{
     heal_is_the_schedule, scripts_are_runs, scripts_keep_order, scripts_meet_in_sessions,
     scripts_move,
 };
-pub use reporter::{Reporter, Silent};
 pub use running::sim;
 pub use stage::Shown;
+pub use x25_console::{Reporter, Silent};
 pub use x25_io::{Device, Failed, Fault, Sink, Source};
 pub use x25_station::{Cfg, Ranges};

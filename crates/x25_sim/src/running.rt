@@ -9,10 +9,10 @@ ghost use Rattle.x25_sim.specs.code.Stream.{program};
 ghost use Rattle.x25_sim.specs.laws.WritesRun.{WritesRun};
 
 use crate::law::{scripts_keep_order, scripts_meet_in_sessions};
-use crate::reporter::Reporter;
 use crate::simulator::Simulator;
 use crate::stage::{Shown, Stage};
 use std::alloc::Global;
+use x25_console::Reporter;
 use x25_io::{Fault, HeldLine, LineByLine, Loosely, Piece, Sink, Source, take_text};
 use x25_station::Cfg;
 

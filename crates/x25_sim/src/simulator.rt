@@ -1,7 +1,6 @@
 //! A script, line by line.
-use crate::reporter::Reporter;
 use crate::stage::{Stage, away_from};
-use x25_console::{given_beside, read_octets, read_user, station_command};
+use x25_console::{Reporter, given_beside, read_octets, read_user, station_command};
 use x25_io::{Fault, LineTaker, Sink};
 use x25_script::{Command, HexDigits, Role, ScriptTaker, read_line};
 use x25_world::Event;

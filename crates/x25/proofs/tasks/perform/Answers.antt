@@ -92,3 +92,9 @@ returns-in-Frame-clause-runs g c = rw c.in-Frame.is c.frame.ensures
 
 pub returns-in-Frame-clause-claims : goal.returns-in-Frame-clause-claims
 returns-in-Frame-clause-claims g c = rw c.in-Frame.is (nothing c.frame.result _)
+
+pub returns-in-Tabs-clause-runs : goal.returns-in-Tabs-clause-runs
+returns-in-Tabs-clause-runs g c = rw c.in-Tabs.is c.write_records.ensures
+
+pub returns-in-Tabs-clause-claims : goal.returns-in-Tabs-clause-claims
+returns-in-Tabs-clause-claims g c = rw c.in-Tabs.is (nothing c.write_records.result _)

@@ -1,9 +1,9 @@
-//! Who is told which lines of a script ask for nothing, or for what is refused.
+//! Who is told which lines ask for nothing, or for what is refused.
 
-/// Is told of the lines that are none, and of refusals. What it is told of, and what becomes of that, changes nothing
-/// of a run.
+/// Is told of the lines that ask for nothing, and of refusals. What it is told of, and what becomes of that, changes
+/// nothing of a run.
 pub trait Reporter: Drop {
-    /// The line of that number, counted from 1, is none of a script; `None` where it is longer than any that is held.
+    /// The line of that number, counted from 1, asks for nothing; `None` where it is longer than any that is held.
     fn report(&mut self, number: u64, line: Option<&[u8]>);
 
     /// What the line of that number asks for is refused, by the number of an error.
