@@ -99,6 +99,7 @@ judge-runs: build/x25
 	python3 tests/tap_runs.py --program build/x25
 	python3 tests/odd_runs.py --program build/x25
 	python3 tests/link_runs.py --program build/x25
+	python3 tests/midst_runs.py --program build/x25
 	python3 tests/again_runs.py --program build/x25
 	python3 tests/order_runs.py --program build/x25
 	python3 tests/rules_runs.py --program build/x25

@@ -1,12 +1,14 @@
 #!/usr/bin/env python3
-"""Times two stations in memory from C (`bench/two_stations.c`) and from Python: what a message takes of a processor, sent, delivered, read and
-acknowledged, and how often the one takes the time of the other. Each is the least of nine runs.
+"""Times two stations in memory from C (`bench/two_stations.c`) and from Python: what a message
+takes of a processor, sent, delivered, read and acknowledged, and how often the one takes the time
+of the other. Each is the least of nine runs.
 
     c.py [COUNT]
     c.py --python COUNT LENGTH      sends messages from Python alone
 
-It compiles the program over `build/libx25.a`, and takes Python's binding over `build/libx25.so`; `make lib` leaves both there.
-`bench/station.py` has the same in Rattle. Allocations and instructions are counted by valgrind, where that is there.
+It compiles the program over `build/libx25.a`, and takes Python's binding over `build/libx25.so`;
+`make lib` leaves both there. `bench/station.py` has the same in Rattle. Allocations and
+instructions are counted by valgrind, where that is there.
 """
 import os
 import shutil
@@ -24,7 +26,8 @@ LENGTHS, READS, RUNS, CHANNELS = (3, 128, 1000, 4000), 1000, 9, (1, 16, 4095)
 
 
 def talk(answer, near, far):
-    """Delivers all frames, and those that are answered, until there is none; answers what was told."""
+    """Delivers all frames, and those that are answered, until there is none; answers what was
+    told."""
     events = answer.events
     while answer.frames:
         answer, near, far = far.receive_all(answer.frames), far, near
@@ -54,27 +57,41 @@ def least(run, *words):
 
 
 def each_takes(*words, more=()):
-    """The instructions that a message of 1,000 octets takes of these words, which are followed by a count, a length and more."""
+    """The instructions that a message of 1,000 octets takes of these words, which are followed by
+    a count, a length and more."""
     few, many = (instructions([*words, str(count), "1000", *more]) for count in (100, 300))
     return (many - few) / 200
 
 
 def main(count):
     program = os.path.join(TOP, "build", "two_stations_c")
-    source, library = os.path.join(TOP, "bench", "two_stations.c"), os.path.join(TOP, "build", "libx25.a")
+    source, library = (
+        os.path.join(TOP, "bench", "two_stations.c"), os.path.join(TOP, "build", "libx25.a")
+    )
     subprocess.run(["cc", "-O2", f"-I{TOP}/include", source, library, "-o", program], check=True)
     for length in LENGTHS:
         one = least(processor_time, [program, str(count), str(length)]) / count
-        more = least(processor_time, [program, str(count // 10), str(length), str(READS)]) * 10 / count
+        more = least(
+            processor_time, [program, str(count // 10), str(length), str(READS)]
+        ) * 10 / count
         other = least(python, max(count // 20, 1), length) / max(count // 20, 1)
-        print(f"messages of {length} octets: {1e6 * one:.2f} us from C, of it {1e6 * (more - one) / (READS - 1):.3f} us to read it; "
-              f"{1e6 * other:.1f} us from Python, {other / one:.1f} times as long")
+        print(
+            f"messages of {length} octets: {1e6 * one:.2f} us from C, of it "
+            f"{1e6 * (more - one) / (READS - 1):.3f} us to read it; "
+            f"{1e6 * other:.1f} us from Python, {other / one:.1f} times as long"
+        )
     if shutil.which("valgrind"):
         os.environ["PYTHONHASHSEED"] = "0"
         one, other = each_takes(program), each_takes(sys.executable, __file__, "--python")
-        print(f"messages of 1000 octets: {one:,.0f} instructions from C, {other:,.0f} from Python, {other / one:.1f} times as many")
+        print(
+            f"messages of 1000 octets: {one:,.0f} instructions from C, {other:,.0f} from Python, "
+            f"{other / one:.1f} times as many"
+        )
         for channels in CHANNELS:
-            print(f"on one of {channels} channels: {each_takes(program, more=('1', str(channels))):,.0f} instructions")
+            print(
+                f"on one of {channels} channels: "
+                f"{each_takes(program, more=('1', str(channels))):,.0f} instructions"
+            )
     rates(program, "message", count)
 
 

@@ -1,11 +1,14 @@
 #!/usr/bin/env python3
-"""Counts what a line of a script takes `build/x25 sim`: instructions, and loads that can't be forwarded from the stores just before them.
+"""Counts what a line of a script takes `build/x25 sim`: instructions, and loads that can't be
+forwarded from the stores just before them.
 
     instructions.py [PROGRAM [--functions]]
 
-A load waits for a store that it overlaps and that doesn't hold all of it, some 12 cycles. Here it counts where that is the last such store of the 40
-before it, at most 120 instructions ago. Each figure is that of a script of twice as many rounds less that of the script, by the line, so that what is
-done once isn't in it. With `--functions` the loads are also told by function. It needs valgrind, and for the functions objdump.
+A load waits for a store that it overlaps and that doesn't hold all of it, some 12 cycles. Here it
+counts where that is the last such store of the 40 before it, at most 120 instructions ago. Each
+figure is that of a script of twice as many rounds less that of the script, by the line, so that
+what is done once isn't in it. With `--functions` the loads are also told by function. It needs
+valgrind, and for the functions objdump.
 """
 import bisect
 import collections
@@ -32,7 +35,8 @@ KINDS = {
 
 
 class Loads:
-    """The loads of a run that couldn't be forwarded, by the address of the instruction, counted as the run goes on."""
+    """The loads of a run that couldn't be forwarded, by the address of the instruction, counted as
+    the run goes on."""
 
     def __init__(self):
         self.stores = collections.deque(maxlen=STORES)
@@ -40,7 +44,8 @@ class Loads:
         self.instructions, self.address = 0, 0
 
     def take(self, line):
-        """Takes a line of what valgrind's lackey says of memory: an instruction, a load, a store, or one that is both."""
+        """Takes a line of what valgrind's lackey says of memory: an instruction, a load, a store,
+        or one that is both."""
         kind = line[:3]
         if kind not in ("I  ", " L ", " S ", " M "):
             return
@@ -55,7 +60,8 @@ class Loads:
             self.stores.append((self.instructions, start, end))
 
     def is_held_back(self, start, end):
-        """Whether the last store that overlaps these octets is near, and doesn't hold all of them."""
+        """Whether the last store that overlaps these octets is near, and doesn't hold all of
+        them."""
         for at, first, last in reversed(self.stores):
             if self.instructions - at > REACH:
                 return False
@@ -83,8 +89,14 @@ class Functions:
     """Which function of the program an address of a run lies in."""
 
     def __init__(self):
-        listed = subprocess.run(["nm", "-C", "--defined-only", program], check=True, stdout=subprocess.PIPE, text=True).stdout
-        rows = sorted((int(words[0], 16), words[2]) for words in (line.split(" ", 2) for line in listed.splitlines()) if words[1] in "tT")
+        listed = subprocess.run(
+            ["nm", "-C", "--defined-only", program], check=True, stdout=subprocess.PIPE, text=True
+        ).stdout
+        rows = sorted(
+            (int(words[0], 16), words[2])
+            for words in (line.split(" ", 2) for line in listed.splitlines())
+            if words[1] in "tT"
+        )
         self.starts, self.names = [row[0] for row in rows], [row[1] for row in rows]
 
     def name(self, address):
@@ -121,7 +133,10 @@ def main():
             few, many = (counted(kind, count, path) for count in (rounds, 2 * rounds))
             lines = many[0] - few[0]
             more = many[2] - few[2]
-            print(f"{kind}: {(many[1] - few[1]) / lines:,.0f} instructions and {sum(more.values()) / lines:.1f} loads not forwarded a line")
+            print(
+                f"{kind}: {(many[1] - few[1]) / lines:,.0f} instructions and "
+                f"{sum(more.values()) / lines:.1f} loads not forwarded a line"
+            )
             if "--functions" in sys.argv:
                 tell_functions(more, lines)
 

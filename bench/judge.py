@@ -1,10 +1,11 @@
 #!/usr/bin/env python3
-"""Counts the instructions that a line of a trace takes `build/x25 judge`, and `decode` beside it, by callgrind.
+"""Counts the instructions that a line of a trace takes `build/x25 judge`, and `decode` beside it,
+by callgrind.
 
     judge.py [PROGRAM]
 
-The traces are what `sim --tap` puts on the line for scripts of the race, at most 5,000 frames of each; and as many of its mix, which are of no session.
-What an empty input takes isn't in a figure.
+The traces are what `sim --tap` puts on the line for scripts of the race, at most 5,000 frames of
+each; and as many of its mix, which are of no session. What an empty input takes isn't in a figure.
 """
 import os
 import subprocess
@@ -29,7 +30,11 @@ KINDS = {
 
 def frames(channels, one, times):
     """The lines of a trace: the frames that a script puts on the line."""
-    made = subprocess.run([program, *SIM, "--channels", str(channels), "--tap"], input=script(channels, one, times).encode(), stdout=subprocess.PIPE)
+    made = subprocess.run(
+        [program, *SIM, "--channels", str(channels), "--tap"],
+        input=script(channels, one, times).encode(),
+        stdout=subprocess.PIPE,
+    )
     return [line for line in made.stdout.splitlines(True) if line[:2] in (b"> ", b"< ")][:5_000]
 
 
@@ -46,8 +51,12 @@ def taken(task, trace):
 
 def told(name, trace):
     """Writes the line of a trace."""
-    judge, decode = (taken(task, trace) / len(trace) for task in (["judge", "--at", "line"], ["decode"]))
-    print(f"{name:24s} judge {judge:6,.0f} a line, decode {decode:5,.0f}: {judge / decode:.2f} times")
+    judge, decode = (
+        taken(task, trace) / len(trace) for task in (["judge", "--at", "line"], ["decode"])
+    )
+    print(
+        f"{name:24s} judge {judge:6,.0f} a line, decode {decode:5,.0f}: {judge / decode:.2f} times"
+    )
 
 
 for name, (channels, one, times) in KINDS.items():

@@ -1,5 +1,6 @@
 #!/usr/bin/env python3
-"""Writes a trace for `x25 decode`: I frames with DATA packets of 0 to 128 octets, RR frames, and faults.
+"""Writes a trace for `x25 decode`: I frames with DATA packets of 0 to 128 octets, RR frames, and
+faults.
 
     make_trace.py LINES [SEED]
 

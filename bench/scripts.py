@@ -68,11 +68,17 @@ def script(channels, one, times, begun=""):
 
 
 def round_of_16():
-    sends = (f"{end} send {channel} 0 {user(64)}\n" for channel in range(1, 17) for end in ("dte", "dce"))
+    sends = (
+        f"{end} send {channel} 0 {user(64)}\n"
+        for channel in range(1, 17)
+        for end in ("dte", "dce")
+    )
     return "".join(sends) + "drain 200\n"
 
 
 def of_losses(lines):
     """A script of so many lines by `tools/losses.py`, on three channels."""
-    writer = [sys.executable, os.path.join(TOP, "tools", "losses.py"), "1", str(lines), "--channels", "3"]
+    writer = [
+        sys.executable, os.path.join(TOP, "tools", "losses.py"), "1", str(lines), "--channels", "3"
+    ]
     return subprocess.run(writer, check=True, stdout=subprocess.PIPE, text=True).stdout

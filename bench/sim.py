@@ -1,11 +1,12 @@
 #!/usr/bin/env python3
-"""Times `build/x25 sim` on scripts of several kinds: processor time (user and system), lines of the script a second of it, time on
-the clock, and peak memory.
+"""Times `build/x25 sim` on scripts of several kinds: processor time (user and system), lines of
+the script a second of it, time on the clock, and peak memory.
 
     sim.py [LINES [RUNS [PROGRAM]]]
 
-The kinds: a random script that `tools/losses.py` writes; one that leaves its frames on the line; and such a one whose last third loses
-them from the middle of the line, or damages the one in the middle (of a longer line the furthest that a line of a script can name).
+The kinds: a random script that `tools/losses.py` writes; one that leaves its frames on the line;
+and such a one whose last third loses them from the middle of the line, or damages the one in the
+middle (of a longer line the furthest that a line of a script can name).
 """
 import os
 import sys
@@ -25,7 +26,8 @@ FURTHEST = 65_535
 
 
 def frames_left(count):
-    """A script of about so many lines, and how many frames it leaves on the line to the DTE: answers to polls, one of POLLS delivered."""
+    """A script of about so many lines, and how many frames it leaves on the line to the DTE:
+    answers to polls, one of POLLS delivered."""
     rounds = max(1, count // (2 * POLLS + 2))
     polled = "t1 dte\ndeliver >\n" * POLLS + "deliver <\nlose > 0\n"
     return SET_UP_OF_THREE + "dte send 3 0 61\nlose > 0\n" + polled * rounds, rounds * (POLLS - 1)
@@ -55,8 +57,11 @@ for kind, script_of in KINDS.items():
         script.write(text.encode())
         for _ in range(runs):
             # Status 1: some lines of a random script are refused.
-            used, seconds, peak = timed([program, *SIM_OF_THREE], script, statuses=(0, 1) if kind == "random" else (0,))
+            used, seconds, peak = timed(
+                [program, *SIM_OF_THREE], script, statuses=(0, 1) if kind == "random" else (0,)
+            )
             print(
-                f"{kind}: {count:,} lines, {used:.3f} s of processor time, {count / used:,.0f} lines a second; "
+                f"{kind}: {count:,} lines, {used:.3f} s of processor time, {count / used:,.0f} "
+                "lines a second; "
                 f"{seconds:.3f} s on the clock; peak memory {peak / 1024:.1f} MB"
             )

@@ -1,4 +1,5 @@
-"""Runs a program and says what it used: processor time, time on the clock and peak memory; or how often it takes memory."""
+"""Runs a program and says what it used: processor time, time on the clock and peak memory; or how
+often it takes memory."""
 import os
 import re
 import shutil
@@ -17,10 +18,13 @@ def peak_memory(pid):
 
 
 def timed(words, file, statuses=(0,)):
-    """Runs the words on the file: the seconds of processor time, those on the clock, and the peak memory in kB."""
+    """Runs the words on the file: the seconds of processor time, those on the clock, and the peak
+    memory in kB."""
     file.seek(0)
     start = time.perf_counter()
-    child = subprocess.Popen(words, stdin=file, stdout=subprocess.DEVNULL, stderr=subprocess.DEVNULL)
+    child = subprocess.Popen(
+        words, stdin=file, stdout=subprocess.DEVNULL, stderr=subprocess.DEVNULL
+    )
     peak = 0
     while True:
         peak = max(peak, peak_memory(child.pid))
@@ -46,23 +50,32 @@ def processor_time(words):
 
 def allocations(words, given=b"", statuses=(0,)):
     """How often a run of the words on these octets takes memory, by valgrind."""
-    done = subprocess.run(["valgrind", *words], input=given, stdout=subprocess.DEVNULL, stderr=subprocess.PIPE)
+    done = subprocess.run(
+        ["valgrind", *words], input=given, stdout=subprocess.DEVNULL, stderr=subprocess.PIPE
+    )
     if done.returncode not in statuses:
         sys.exit(f"{words[0]} ended with status {done.returncode}")
-    return int(re.search(rb"total heap usage: ([\d,]+) allocs", done.stderr).group(1).replace(b",", b""))
+    return int(
+        re.search(rb"total heap usage: ([\d,]+) allocs", done.stderr).group(1).replace(b",", b"")
+    )
 
 
 def instructions(words, given=subprocess.DEVNULL, statuses=(0,)):
     """How many instructions a run of the words takes on this file, by callgrind."""
-    done = subprocess.run(["valgrind", "--tool=callgrind", "--callgrind-out-file=/dev/null", *words],
-                          stdin=given, stdout=subprocess.DEVNULL, stderr=subprocess.PIPE)
+    done = subprocess.run(
+        ["valgrind", "--tool=callgrind", "--callgrind-out-file=/dev/null", *words],
+        stdin=given,
+        stdout=subprocess.DEVNULL,
+        stderr=subprocess.PIPE,
+    )
     if done.returncode not in statuses:
         sys.exit(f"{words[0]} ended with status {done.returncode}")
     return int(re.search(rb"Collected : (\d+)", done.stderr).group(1))
 
 
 def rates(program, thing, count):
-    """Runs a program that is given a count and a length, and says how many things go through in a second, and what each takes."""
+    """Runs a program that is given a count and a length, and says how many things go through in a
+    second, and what each takes."""
     for length in (3, 128, 1024):
         start = time.perf_counter()
         subprocess.run([program, str(count), str(length)], stdout=subprocess.DEVNULL, check=True)
@@ -71,5 +84,8 @@ def rates(program, thing, count):
         if shutil.which("valgrind"):
             few, many = ([program, str(things), str(length)] for things in (1000, 2000))
             line += f", {(allocations(many) - allocations(few)) / 1000:.1f} allocations"
-            line += f" and {(instructions(many) - instructions(few)) / 1000:,.0f} instructions a {thing}"
+            line += (
+                f" and {(instructions(many) - instructions(few)) / 1000:,.0f} instructions a "
+                f"{thing}"
+            )
         print(line)

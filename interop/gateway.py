@@ -1,4 +1,5 @@
-"""Between a device of X.25 of a guest, whose packets come in datagrams, and connections of XOT: one for each circuit, as a router makes them."""
+"""Between a device of X.25 of a guest, whose packets come in datagrams, and connections of XOT:
+one for each circuit, as a router makes them."""
 
 import os
 import select
@@ -10,7 +11,8 @@ sys.path.append(os.path.join(os.path.dirname(os.path.dirname(os.path.abspath(__f
 
 from x25tools import wires  # noqa: E402
 
-# What the first octet of a frame of such a device says: that a packet follows, or that the link is to be set up, or is.
+# What the first octet of a frame of such a device says: that a packet follows, or that the link is
+# to be set up, or is.
 DATA, CONNECT = b"\0", b"\1"
 CALL, CLEAR, CLEAR_CONFIRMATION, RESTART, RESTART_CONFIRMATION = 0x0B, 0x13, 0x17, 0xFB, 0xFF
 OUT_OF_ORDER = 9
@@ -20,7 +22,8 @@ STATION = bytes([2, 0, 0, 0, 0, 2])
 
 
 class Gateway:
-    """`local` and `remote` are the ports of the datagrams, `listens` and `calls` those of XOT on this host."""
+    """`local` and `remote` are the ports of the datagrams, `listens` and `calls` those of XOT on
+    this host."""
 
     def __init__(self, local, remote, listens, calls):
         self._device = socket.socket(socket.AF_INET, socket.SOCK_DGRAM)
@@ -61,7 +64,9 @@ class Gateway:
                 self._drop(each)
             self._give(b"\x10\0" + bytes([RESTART_CONFIRMATION]))
         elif kind == CALL and channel not in self._circuits:
-            self._circuits[channel] = connection = socket.create_connection(("127.0.0.1", self._calls))
+            self._circuits[channel] = connection = socket.create_connection((
+                "127.0.0.1", self._calls
+            ))
             self._open[connection] = channel, b""
         if channel in self._circuits:
             self._circuits[channel].sendall(b"\0\0" + len(packet).to_bytes(2, "big") + packet)

@@ -7,13 +7,19 @@ import threading
 import time
 
 # What the guest's frames go to and come from: datagrams, each a frame of Ethernet.
-NETWORK = "dgram,id=n0,local.type=inet,local.host=127.0.0.1,local.port={},remote.type=inet,remote.host=127.0.0.1,remote.port={}"
+NETWORK = (
+    "dgram,id=n0,local.type=inet,local.host=127.0.0.1,local.port={},remote.type=inet,remote.host="
+    "127.0.0.1,remote.port={}"
+)
 # The firmware clears the screen, on the line of the guest's first word.
 ESCAPES = re.compile(r"\x1b(?:c|\[[?0-9;]*[A-Za-z])")
 
 
-# What the kernel says where it has gone wrong; some of it it survives, but nothing that it does later tells much.
-TROUBLE = re.compile(r"\bBUG: |\bOops\b|Kernel panic|self-detected stall|soft lockup|blocked for more than")
+# What the kernel says where it has gone wrong; some of it it survives, but nothing that it does
+# later tells much.
+TROUBLE = re.compile(
+    r"\bBUG: |\bOops\b|Kernel panic|self-detected stall|soft lockup|blocked for more than"
+)
 
 
 def is_trouble(line):
@@ -26,7 +32,15 @@ class Talker:
 
     def __init__(self, name, command, is_shown):
         self.name, self._is_shown = name, is_shown
-        self._child = subprocess.Popen(command, stdin=subprocess.PIPE, stdout=subprocess.PIPE, stderr=subprocess.STDOUT, text=True, errors="replace", bufsize=1)
+        self._child = subprocess.Popen(
+            command,
+            stdin=subprocess.PIPE,
+            stdout=subprocess.PIPE,
+            stderr=subprocess.STDOUT,
+            text=True,
+            errors="replace",
+            bufsize=1,
+        )
         self.said, self.has_ended = [], False
         self._changed = threading.Condition()
         self._thread = threading.Thread(target=self._listen, daemon=True)
@@ -61,7 +75,8 @@ class Talker:
         return len(self.said)
 
     def hear(self, since, beginning, seconds, count=1):
-        """The lines after a place that begin so, once there are so many; an error where they don't come."""
+        """The lines after a place that begin so, once there are so many; an error where they don't
+        come."""
         last = time.monotonic() + seconds
         with self._changed:
             while True:
@@ -70,7 +85,11 @@ class Talker:
                     return found
                 left = last - time.monotonic()
                 if left <= 0 or self.has_ended:
-                    raise Missing(f"{self.name} didn't say `{beginning}`" + (f" {count} times" if count > 1 else "") + f"; it said {[line[:60] for line in self.said[since:][-6:]]}")
+                    raise Missing(
+                        f"{self.name} didn't say `{beginning}`"
+                        + (f" {count} times" if count > 1 else "")
+                        + f"; it said {[line[:60] for line in self.said[since:][-6:]]}"
+                    )
                 self._changed.wait(left)
 
     def memory(self):
@@ -103,10 +122,27 @@ class Missing(Exception):
 
 
 def boot(folder, local, remote):
-    """The command that boots the guest of the folder that build.sh made; its network is the port `local` of this host, and sends to `remote`.
+    """The command that boots the guest of the folder that build.sh made; its network is the port
+    `local` of this host, and sends to `remote`.
 
     What its kernel says of errors, and where these came from, stands on the console, too.
     """
-    command = ["qemu-system-x86_64", "-M", "q35", "-accel", "tcg", "-m", "256", "-nographic", "-no-reboot"]
-    command += ["-kernel", f"{folder}/vmlinuz", "-initrd", f"{folder}/initrd.gz", "-append", "console=ttyS0 loglevel=5 panic=-1 no_timer_check"]
-    return command + ["-netdev", NETWORK.format(local, remote), "-device", "e1000,netdev=n0", "-serial", "mon:stdio"]
+    command = [
+        "qemu-system-x86_64", "-M", "q35", "-accel", "tcg", "-m", "256", "-nographic", "-no-reboot"
+    ]
+    command += [
+        "-kernel",
+        f"{folder}/vmlinuz",
+        "-initrd",
+        f"{folder}/initrd.gz",
+        "-append",
+        "console=ttyS0 loglevel=5 panic=-1 no_timer_check",
+    ]
+    return command + [
+        "-netdev",
+        NETWORK.format(local, remote),
+        "-device",
+        "e1000,netdev=n0",
+        "-serial",
+        "mon:stdio",
+    ]

@@ -1,12 +1,14 @@
 #!/usr/bin/env python3
-"""Plays `x25 station` against Linux's X.25, and writes the table of what came of it that docs/INTEROP.md keeps.
+"""Plays `x25 station` against Linux's X.25, and writes the table of what came of it that
+docs/INTEROP.md keeps.
 
     play.py FOLDER [--x25 PROGRAM] [--lose P ..] [--only WORD] [--show]
 
-FOLDER is the one that build.sh made. The guest is the DTE, the station the DCE, joined by tools/bridge.py over datagrams with frames
-of Ethernet. Each row is played once for each probability that a frame is lost, each way, and once over XOT, for which the guest has a
-device of tun and this host gateway.py; its cells are the seconds that it took. What is played is told on standard error. Exit status: 0,
-or 1 where a row failed.
+FOLDER is the one that build.sh made. The guest is the DTE, the station the DCE, joined by
+tools/bridge.py over datagrams with frames of Ethernet. Each row is played once for each
+probability that a frame is lost, each way, and once over XOT, for which the guest has a device of
+tun and this host gateway.py; its cells are the seconds that it took. What is played is told on
+standard error. Exit status: 0, or 1 where a row failed.
 """
 
 import argparse
@@ -27,15 +29,23 @@ XOT_PORTS, XOT = (5612, 5613), "XOT"
 T1 = 1.5
 SIZES = (1, 2, 100, 127, 128, 129, 255, 256, 257, 1000, 5000, 10_000)
 CHANNELS = 4
-# The facilities of the kernel's calls beside sizes and windows, each way that its sockets take: throughput class, reverse charging with fast
-# select (neither alone), address extensions of the calling and of the called end.
+# The facilities of the kernel's calls beside sizes and windows, each way that its sockets take:
+# throughput class, reverse charging with fast select (neither alone), address extensions of the
+# calling and of the called end.
 REVERSE = "81"
 OPTIONS = list(itertools.product(("0", "bb"), ("0", REVERSE), ("-", "12345"), ("-", "678")))
 # Those of calls by the station: reverse charging and fast select alone, too.
-GIVEN = list(itertools.product(("0", "bb"), ("0", "1", "80", REVERSE), (("-", "-"), ("12345", "678"))))
-# The addresses that the guest listens at: with nothing set, with the Q bit shown to its user, with these sizes and windows.
+GIVEN = list(
+    itertools.product(("0", "bb"), ("0", "1", "80", REVERSE), (("-", "-"), ("12345", "678")))
+)
+# The addresses that the guest listens at: with nothing set, with the Q bit shown to its user, with
+# these sizes and windows.
 PLAIN, QUALIFIED, LARGE = 222, 333, 444
-LISTENERS = (("", PLAIN, ""), ("qbit 1", QUALIFIED, "qbit 0"), ("facilities 8 8 3 3", LARGE, "facilities 0 0 0 0"))
+LISTENERS = (
+    ("", PLAIN, ""),
+    ("qbit 1", QUALIFIED, "qbit 0"),
+    ("facilities 8 8 3 3", LARGE, "facilities 0 0 0 0"),
+)
 
 
 def pattern(length, seed):
@@ -56,8 +66,14 @@ class Joined:
             words += ["--xot", f"127.0.0.1:{XOT_PORTS[0]}", "--xot-listen", str(XOT_PORTS[1])]
             self.gateway = Gateway(PORTS[1], PORTS[0], *XOT_PORTS)
         else:
-            words += ["--udp", f"{PORTS[1]}:{PORTS[0]}", "--lose", str(lose), "--seed", str(options.seed)]
-        self.ours = Talker("station", [sys.executable, "-u", os.path.join(ROOT, "tools", "bridge.py"), *words], options.show)
+            words += [
+                "--udp", f"{PORTS[1]}:{PORTS[0]}", "--lose", str(lose), "--seed", str(options.seed)
+            ]
+        self.ours = Talker(
+            "station",
+            [sys.executable, "-u", os.path.join(ROOT, "tools", "bridge.py"), *words],
+            options.show,
+        )
 
     def ask(self, command, answer):
         """Has our user ask for something; answers the first notice that begins so."""
@@ -72,7 +88,8 @@ class Joined:
         return self.guest.hear(since, answer, self.patience)[0]
 
     def heed(self, command, answer):
-        """Has the guest do something that our user is told of; answers the first notice that begins so."""
+        """Has the guest do something that our user is told of; answers the first notice that
+        begins so."""
         since = self.ours.mark()
         self.guest.tell(command)
         return self.ours.hear(since, answer, self.patience)[0]
@@ -81,7 +98,10 @@ class Joined:
         """Does something that both are told of; answers both lines."""
         since, there = self.ours.mark(), self.guest.mark()
         act()
-        return self.ours.hear(since, ours, self.patience)[0], self.guest.hear(there, guests, self.patience)[0]
+        return (
+            self.ours.hear(since, ours, self.patience)[0],
+            self.guest.hear(there, guests, self.patience)[0],
+        )
 
 
 # ---- the rows
@@ -113,13 +133,21 @@ def channel_of(notice):
 
 def call(it, words="", address=PLAIN, given="", data="c0ffee"):
     """Has us call the guest; answers channel, slot, and what both say of the call."""
-    ours, guests = it.both(lambda: it.ours.tell(f"dce {given}call {address} 111 {data}{words}"), "dce connected", "accepted")
+    ours, guests = it.both(
+        lambda: it.ours.tell(f"dce {given}call {address} 111 {data}{words}"),
+        "dce connected",
+        "accepted",
+    )
     return channel_of(ours), int(guests.split()[1]), ours, guests
 
 
 def clear(it, channel, slot):
     """Has us clear a circuit."""
-    it.both(lambda: it.ours.tell(f"dce clear {channel}"), f"dce cleardone ch={channel}", f"closed {slot} ")
+    it.both(
+        lambda: it.ours.tell(f"dce clear {channel}"),
+        f"dce cleardone ch={channel}",
+        f"closed {slot} ",
+    )
 
 
 def called(it):
@@ -135,7 +163,10 @@ def negotiated(it):
         channel, slot, ours, guests = call(it, " 8 8 3 3", address)
         clear(it, channel, slot)
         # The station leaves out what is the default.
-        if (ours.split(" ", 3) + ["size=7,7 win=2,2"])[3] != taken or guests.split(" ", 3)[3] != taken:
+        if (
+            (ours.split(" ", 3) + ["size=7,7 win=2,2"])[3] != taken
+            or guests.split(" ", 3)[3] != taken
+        ):
             raise Missing(f"the ends hold otherwise: {ours}, {guests}")
 
 
@@ -154,10 +185,13 @@ def calls(it):
 
 
 def facilities_of(throughput, reverse, calling, called):
-    """The facilities that a call of the kernel has with these options, those before sizes and windows, and those after them."""
+    """The facilities that a call of the kernel has with these options, those before sizes and
+    windows, and those after them."""
     before = f"01{reverse:>02}" if reverse != "0" else ""
     before += f"02{throughput}" if throughput != "0" else ""
-    extensions = [(code, digits) for code, digits in (("cb", calling), ("c9", called)) if digits != "-"]
+    extensions = [
+        (code, digits) for code, digits in (("cb", calling), ("c9", called)) if digits != "-"
+    ]
     after = "000f" if extensions else ""
     for code, digits in extensions:
         octets = digits + "0" * (len(digits) % 2)
@@ -171,7 +205,8 @@ def is_call(octets):
 
 
 def taken(it, options, data):
-    """Has the kernel call with these options; the call comes with their facilities, stands, and is cleared."""
+    """Has the kernel call with these options; the call comes with their facilities, stands, and is
+    cleared."""
     it.order(f"options {' '.join(options)}", "set")
     there = it.guest.mark()
     notice = it.heed(f"call 111 222 {data}", "dce incoming")
@@ -181,7 +216,10 @@ def taken(it, options, data):
     clear(it, channel, slot)
     # The bridge writes what came to the trace after the notice of it.
     call = [octets for octets in heard(it.trace) if is_call(octets)][-1]
-    if not all(field in call for field in facilities_of(*options)) or not notice.endswith(f" data={data}"):
+    if (
+        not all(field in call for field in facilities_of(*options))
+        or not notice.endswith(f" data={data}")
+    ):
         raise Missing(f"{call.hex()} was told as {notice}")
 
 
@@ -219,7 +257,11 @@ def giving_data(it):
     data = pattern(128, 7)
     channel, slot, _, _ = call(it, given="with 0180 - ", data=data)
     gives(it, slot, "0", "80", "-", "-", data)
-    it.both(lambda: it.ours.tell(f"dce with - {data} clear {channel}"), f"dce cleardone ch={channel}", f"closed {slot} ")
+    it.both(
+        lambda: it.ours.tell(f"dce with - {data} clear {channel}"),
+        f"dce cleardone ch={channel}",
+        f"closed {slot} ",
+    )
     it.order(f"options 0 {REVERSE} - -", "set")
     there = it.guest.mark()
     channel = channel_of(it.heed("call 111 222 aabb", "dce incoming"))
@@ -257,7 +299,9 @@ def at_once(it):
             it.ours.tell(f"dce send {channel} 0 {pattern(size, 16 * channel + seed)}")
     for channel, _ in opened:
         came = it.ours.hear(since, f"dce message ch={channel} ", it.patience, 3)
-        if [line.partition("data=")[2] for line in came] != [pattern(size, 16 * channel + seed) for seed in range(3)]:
+        if [line.partition("data=")[2] for line in came] != [
+            pattern(size, 16 * channel + seed) for seed in range(3)
+        ]:
             raise Missing(f"the messages of channel {channel} came back otherwise")
     for channel, slot in opened:
         clear(it, channel, slot)
@@ -325,7 +369,10 @@ def again(it):
     clear(it, channel, slot)
 
 
-ROWS = (set_up, called, negotiated, calls, equipped, fast_select, giving, giving_data, messages, at_once, q_bit, interrupts, resets)
+ROWS = (
+    set_up, called, negotiated, calls, equipped, fast_select, giving, giving_data, messages,
+    at_once, q_bit, interrupts, resets,
+)
 # Played where there is a link that may end, and where no frame of it is lost alone.
 LINK_ROWS, LAST_ROWS = (again,), (too_long,)
 
@@ -344,7 +391,9 @@ def frmrs(trace):
     """How many FRMR there are in a trace, by their control octets."""
     with open(trace) as file:
         frames = [line.split("\t")[1].split() for line in file]
-    return sum(1 for frame in frames if len(frame) == 2 and int(frame[1][2:4] or "0", 16) & 0xEF == 0x87)
+    return sum(
+        1 for frame in frames if len(frame) == 2 and int(frame[1][2:4] or "0", 16) & 0xEF == 0x87
+    )
 
 
 # What is counted of each probability, in the rows after those that are played.
@@ -354,7 +403,9 @@ COUNTED = ("frames sent, come", "frames lost out, in", "firings of T1 here", "FR
 def counted(it):
     """The cells of what is counted, once the bridge has ended."""
     said = " ".join(line.partition("frames: ")[2] for line in it.ours.said if "frames: " in line)
-    found = re.match(r"(\d+) sent, (\d+) came; (\d+) \+ (\d+) lost, .*; T1 fired (\d+) times", said)
+    found = re.match(
+        r"(\d+) sent, (\d+) came; (\d+) \+ (\d+) lost, .*; T1 fired (\d+) times", said
+    )
     if not found:
         return ["not told"] * 3 + [str(frmrs(it.trace))]
     sent, come, out, back, fired = (f"{int(number):,}" for number in found.groups())
@@ -366,7 +417,15 @@ def prepare(guest):
     begin = time.monotonic()
     guest.hear(0, "ready", 900)
     print(f"booted in {time.monotonic() - begin:.0f} s", file=sys.stderr, flush=True)
-    for command in ["echo 1", *(line for before, address, after in LISTENERS for line in (before, f"listen {address}", after) if line)]:
+    for command in [
+        "echo 1",
+        *(
+            line
+            for before, address, after in LISTENERS
+            for line in (before, f"listen {address}", after)
+            if line
+        ),
+    ]:
         since = guest.mark()
         guest.tell(command)
         guest.hear(since, "listening" if command.startswith("listen") else "set", 60)
@@ -378,7 +437,11 @@ def play(it, options):
     for row in ROWS + (LINK_ROWS if it.lose != XOT else ()) + (LAST_ROWS if not it.lose else ()):
         if row is set_up or not options.only or options.only in row.__name__:
             passed, cells[row.__doc__] = played(row, it)
-            print(f"{column(it.lose)}: {row.__doc__}: {cells[row.__doc__]}", file=sys.stderr, flush=True)
+            print(
+                f"{column(it.lose)}: {row.__doc__}: {cells[row.__doc__]}",
+                file=sys.stderr,
+                flush=True,
+            )
             if row is set_up and not passed:
                 break
     if it.lose == XOT:
@@ -413,12 +476,30 @@ def run(options):
 
 
 def main():
-    parser = argparse.ArgumentParser(description=__doc__, formatter_class=argparse.RawDescriptionHelpFormatter)
+    parser = argparse.ArgumentParser(
+        description=__doc__, formatter_class=argparse.RawDescriptionHelpFormatter
+    )
     parser.add_argument("folder")
-    parser.add_argument("--x25", default=os.path.join(ROOT, "build", "x25"), metavar="PROGRAM", help="the program (build/x25)")
-    parser.add_argument("--lose", type=float, nargs="*", default=[0, 0.05, 0.2], metavar="P", help="probabilities (0 0.05 0.2)")
-    parser.add_argument("--seed", type=int, default=1, metavar="N", help="what the losses come from (1)")
-    parser.add_argument("--only", metavar="WORD", help="the rows whose functions' names have this word")
+    parser.add_argument(
+        "--x25",
+        default=os.path.join(ROOT, "build", "x25"),
+        metavar="PROGRAM",
+        help="the program (build/x25)",
+    )
+    parser.add_argument(
+        "--lose",
+        type=float,
+        nargs="*",
+        default=[0, 0.05, 0.2],
+        metavar="P",
+        help="probabilities (0 0.05 0.2)",
+    )
+    parser.add_argument(
+        "--seed", type=int, default=1, metavar="N", help="what the losses come from (1)"
+    )
+    parser.add_argument(
+        "--only", metavar="WORD", help="the rows whose functions' names have this word"
+    )
     parser.add_argument("--show", action="store_true", help="show all that both ends say")
     return 0 if run(parser.parse_args()) else 1
 

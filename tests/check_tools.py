@@ -9,8 +9,8 @@ order. With --first-failure the first test that fails is the last one that is to
 
 Some are of the scripts of tools/, .ci/ and tests/, some of the documents, and those that need the
 program run it: the one that the variable X25 names, or else the one that was built last, build/x25
-or crates/x25/out/x25. Where that isn't there, or tshark, groff or another of the programs that some
-compare with, these tests are left out.
+or crates/x25/out/x25. Where that isn't there, or tshark, groff or another of the programs that
+some compare with, these tests are left out.
 
 Exit status: 0 all that ran pass, 1 one fails, 2 for bad words.
 """
@@ -30,6 +30,8 @@ from typing import Any, NamedTuple, Sequence
 
 FOLDER = os.path.join(os.path.dirname(os.path.abspath(__file__)), "tools")
 FIRST = ["edits", "sources", "golden", "crates", "said", "documents"]
+# Those that take longest begin after these.
+LONGEST = ["oracle", "silent", "judge", "peers", "bridge", "bridged", "pad", "xot_wire", "dump"]
 # How many of the tests that take longest are named.
 SLOWEST = 10
 
@@ -68,7 +70,12 @@ def names() -> list[str]:
     """The names of all files of tests, in the order in which they are told."""
     files = (os.path.splitext(file) for file in os.listdir(FOLDER) if file.startswith("test_"))
     found = sorted(name[len("test_") :] for name, ending in files if ending == ".py")
-    return sorted(found, key=lambda name: FIRST.index(name) if name in FIRST else len(FIRST))
+    return sorted(found, key=lambda name: place_of(name, FIRST))
+
+
+def place_of(name: str, some: Sequence[str]) -> int:
+    """The place of a name among some; after all of them where it isn't there."""
+    return some.index(name) if name in some else len(some)
 
 
 def alone(name: str, at_first_failure: bool) -> int:
@@ -85,10 +92,13 @@ def alone(name: str, at_first_failure: bool) -> int:
 
 
 def told_of(name: str, at_first_failure: bool) -> tuple[str, Told]:
-    """Runs a file in a process of its own; answers what is to be said of it, and what it came to."""
+    """Runs a file in a process of its own; answers what is to be said of it, and what it came
+    to."""
     command = [sys.executable, os.path.abspath(__file__), "--alone", name]
     command += ["--first-failure"] * at_first_failure
-    done = subprocess.run(command, stdin=subprocess.DEVNULL, capture_output=True, text=True, errors="replace")
+    done = subprocess.run(
+        command, stdin=subprocess.DEVNULL, capture_output=True, text=True, errors="replace"
+    )
     *said, last = done.stdout.splitlines() or [""]
     try:
         told = Told(*json.loads(last))
@@ -99,15 +109,19 @@ def told_of(name: str, at_first_failure: bool) -> tuple[str, Told]:
     return "\n".join([*said, done.stderr.strip("\n"), line] if told.failed else [line]), told
 
 
-def run(chosen: Sequence[str] = (), at_first_failure: bool = False, jobs: int = 0) -> tuple[int, int]:
+def run(
+    chosen: Sequence[str] = (), at_first_failure: bool = False, jobs: int = 0
+) -> tuple[int, int]:
     """Runs the tests; answers how many pass and how many fail. Those left out count as neither."""
     passed = failed = 0
     left_out: Counter[str] = Counter()
     seconds: dict[str, float] = {}
     with ThreadPoolExecutor(jobs or len(os.sched_getaffinity(0)) + 1) as pool:
-        files = [pool.submit(told_of, name, at_first_failure) for name in chosen or names()]
-        for file in files:
-            text, told = file.result()
+        told_in_order = chosen or names()
+        begun = sorted(told_in_order, key=lambda name: place_of(name, FIRST + LONGEST))
+        files = {name: pool.submit(told_of, name, at_first_failure) for name in begun}
+        for name in told_in_order:
+            text, told = files[name].result()
             print(text, flush=True)
             passed, failed = passed + told.passed, failed + told.failed
             left_out.update(told.left_out)
@@ -123,11 +137,27 @@ def run(chosen: Sequence[str] = (), at_first_failure: bool = False, jobs: int = 
 
 
 def main() -> int:
-    parser = argparse.ArgumentParser(description=__doc__, formatter_class=argparse.RawDescriptionHelpFormatter)
-    parser.add_argument("--first-failure", action="store_true", help="end at the first test that fails")
-    parser.add_argument("--jobs", type=int, default=0, metavar="N", help="how many files at once (processors and one)")
+    parser = argparse.ArgumentParser(
+        description=__doc__, formatter_class=argparse.RawDescriptionHelpFormatter
+    )
+    parser.add_argument(
+        "--first-failure", action="store_true", help="end at the first test that fails"
+    )
+    parser.add_argument(
+        "--jobs",
+        type=int,
+        default=0,
+        metavar="N",
+        help="how many files at once (processors and one)",
+    )
     parser.add_argument("--alone", metavar="NAME", help=argparse.SUPPRESS)
-    parser.add_argument("name", nargs="*", choices=[*names(), []], metavar="NAME", help="a file tests/tools/test_NAME.py to run; else all")
+    parser.add_argument(
+        "name",
+        nargs="*",
+        choices=[*names(), []],
+        metavar="NAME",
+        help="a file tests/tools/test_NAME.py to run; else all",
+    )
     options = parser.parse_args()
     if options.alone:
         return alone(options.alone, options.first_failure)

@@ -1,10 +1,13 @@
 #!/usr/bin/env python3
-"""The whole gate: `rt ci`, then the library for C, then the golden cases on the programs that it left, then the tests of the tools.
+"""The whole gate: `rt ci`, then the library for C, then the golden cases on the programs that it
+left, then the tests of the tools.
 
-The tests of the tools that need no program run before, too: they take a minute, and the first that fails ends the gate. The
-line 'N passed, M failed' of `rt ci` is held back, and the last line is one such line that counts all three: proofs and must-fail
-edits, the library for C, a golden case for each build of the program, a test of the tools. The line before it has the minutes of
-processors that the whole run and each part took, and those on the clock. Exit status: 0 nothing failed, 1 something did.
+The tests of the tools that need no program run before, too: they take a minute, and the first that
+fails ends the gate. The line 'N passed, M failed' of `rt ci` is held back, and the last line is
+one such line that counts all three: proofs and must-fail edits, the library for C, a golden case
+for each build of the program, a test of the tools. The line before it has the minutes of
+processors that the whole run and each part took, and those on the clock. Exit status: 0 nothing
+failed, 1 something did.
 """
 
 from __future__ import annotations
@@ -22,21 +25,28 @@ import golden
 from program import ROOT
 
 CLOSING = re.compile(r"(\d+) passed, (\d+) failed\n?")
-# What `rt ci` leaves: LLVM's build, and that of Rattle's own compiler where that compiles the program.
+# What `rt ci` leaves: LLVM's build, and that of Rattle's own compiler where that compiles the
+# program.
 BUILD, SECOND_BUILD = "crates/x25/out/x25", "crates/x25/out/x25.by-rattle"
 PLAYER = "crates/x25_refusals/out/x25_refusals"
 
 
 def quick() -> bool:
-    """Runs the tests of the tools that need no program, before all else; answers whether they pass."""
+    """Runs the tests of the tools that need no program, before all else; answers whether they
+    pass."""
     command = [sys.executable, os.path.join(ROOT, "tests", "check_tools.py"), "--first-failure"]
-    return subprocess.run(command, cwd=ROOT, env={**os.environ, "X25": "", "X25_REFUSALS": "", "X25_LIBRARY": ""}).returncode == 0
+    return subprocess.run(
+        command, cwd=ROOT, env={**os.environ, "X25": "", "X25_REFUSALS": "", "X25_LIBRARY": ""}
+    ).returncode == 0
 
 
 def proofs() -> tuple[int, int]:
-    """Runs `rt ci`, passing on what it prints but for its closing line; answers the numbers of that line."""
+    """Runs `rt ci`, passing on what it prints but for its closing line; answers the numbers of
+    that line."""
     counts = None
-    with subprocess.Popen(["rt", "ci"], cwd=ROOT, stdout=subprocess.PIPE, text=True, errors="replace") as child:
+    with subprocess.Popen(
+        ["rt", "ci"], cwd=ROOT, stdout=subprocess.PIPE, text=True, errors="replace"
+    ) as child:
         for line in child.stdout or ():
             closing = CLOSING.fullmatch(line)
             if closing:
@@ -48,12 +58,14 @@ def proofs() -> tuple[int, int]:
 
 
 def library() -> tuple[int, int]:
-    """Builds the library for C over what `rt ci` left, where there is a C compiler and rt takes that; answers how many archives were built
-    and how many not."""
+    """Builds the library for C over what `rt ci` left, where there is a C compiler and rt takes
+    that; answers how many archives were built and how many not."""
     if not shutil.which("cc"):
         print("the library for C: left out, for there is no C compiler")
         return 0, 0
-    status = subprocess.run([os.path.join(ROOT, ".ci", "prove"), "--built", "x25_c"], cwd=ROOT).returncode
+    status = subprocess.run(
+        [os.path.join(ROOT, ".ci", "prove"), "--built", "x25_c"], cwd=ROOT
+    ).returncode
     if status == 3:
         return 0, 0
     if status == 0:
@@ -85,7 +97,10 @@ def tools() -> tuple[int, int]:
 
 def processor_seconds() -> float:
     """The processor time of this process and of all below it that have ended."""
-    return sum(usage.ru_utime + usage.ru_stime for usage in map(resource.getrusage, (resource.RUSAGE_SELF, resource.RUSAGE_CHILDREN)))
+    return sum(
+        usage.ru_utime + usage.ru_stime
+        for usage in map(resource.getrusage, (resource.RUSAGE_SELF, resource.RUSAGE_CHILDREN))
+    )
 
 
 def main() -> int:
@@ -95,12 +110,20 @@ def main() -> int:
         return 1
     counts: list[tuple[int, int]] = []
     spent: list[str] = []
-    for name, part in (("rt ci", proofs), ("library for C", library), ("golden cases", golden_cases), ("tools", tools)):
+    for name, part in (
+        ("rt ci", proofs),
+        ("library for C", library),
+        ("golden cases", golden_cases),
+        ("tools", tools),
+    ):
         before = processor_seconds()
         counts.append(part())
         spent.append(f"{name} {(processor_seconds() - before) / 60:.1f}")
     passed, failed = (sum(column) for column in zip(*counts))
-    print(f"{processor_seconds() / 60:.1f} processor minutes ({', '.join(spent)}), {(time.monotonic() - begun) / 60:.0f} on the clock")
+    print(
+        f"{processor_seconds() / 60:.1f} processor minutes ({', '.join(spent)}), "
+        f"{(time.monotonic() - begun) / 60:.0f} on the clock"
+    )
     print(f"{passed} passed, {failed} failed")
     return 1 if failed else 0
 

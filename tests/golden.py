@@ -27,7 +27,10 @@ from program import find_program
 
 FOLDER = os.path.join(os.path.dirname(os.path.abspath(__file__)), "golden")
 SECONDS = 60
-FORM = re.compile(r"\$ x25(.*)\n== input(.*)\n((?:(?!== ).*\n)*)== answer(.*)\n((?:(?!== ).*\n)*)== status (\d)\n\n?")
+FORM = re.compile(
+    r"\$ x25(.*)\n== input(.*)\n((?:(?!== ).*\n)*)== answer(.*)\n((?:(?!== ).*\n)*)== status "
+    r"(\d)\n\n?"
+)
 # A case as rows: `INPUT => ANSWER / ANSWER`, or ` -> ` where the answer begins with the two
 # characters of its line of a trace.
 ROWS = re.compile(r"x25(.*) = (\d)\n((?:.+\n)*)\n?")
@@ -58,7 +61,9 @@ class Case:
     def difference(self, program: str) -> str | None:
         """Runs the case; answers None where all agrees, else what differs first, in a line."""
         try:
-            done = subprocess.run([program, *self.words], input=self.input, capture_output=True, timeout=SECONDS)
+            done = subprocess.run(
+                [program, *self.words], input=self.input, capture_output=True, timeout=SECONDS
+            )
         except subprocess.TimeoutExpired:
             return f"no end within {SECONDS} seconds"
         if done.stdout != self.output:
@@ -90,7 +95,10 @@ def octets(how: str, text: str) -> bytes:
     if how == " in hex":
         return bytes.fromhex(text)
     if how == " in Python":
-        values = [eval(compile(ast.Expression(it.value), "case", "eval")) for it in cast("list[ast.Expr]", ast.parse(text).body)]
+        values = [
+            eval(compile(ast.Expression(it.value), "case", "eval"))
+            for it in cast("list[ast.Expr]", ast.parse(text).body)
+        ]
         return b"".join(it.encode("ascii") if isinstance(it, str) else it for it in values)
     raise ValueError(f"'{how}' doesn't say how a section is written")
 
@@ -137,7 +145,11 @@ def counted(row: str) -> list[str]:
             continue
         is_end = name in ("dte", "dce")
         end = name if is_end else end
-        what = f"{end}: {numbers[0]} frames" if is_end else f"{end} channel {name}: {numbers[0]} packets"
+        what = (
+            f"{end}: {numbers[0]} frames"
+            if is_end
+            else f"{end} channel {name}: {numbers[0]} packets"
+        )
         lines.append(f"# {what}, {numbers[1]} judged, {numbers[2]} not judged")
     return lines
 
@@ -151,7 +163,9 @@ def texts() -> dict[str, str]:
             front, *parts = NAMED.split(opened.read())
         if front:
             raise ValueError(f"{file} begins with no name of a case")
-        found += [(f"{os.path.dirname(file)}/{name}", it) for name, it in zip(parts[::2], parts[1::2])]
+        found += [
+            (f"{os.path.dirname(file)}/{name}", it) for name, it in zip(parts[::2], parts[1::2])
+        ]
     if len(dict(found)) != len(found):
         raise ValueError("two cases have one name")
     return dict(sorted(found))
@@ -169,13 +183,20 @@ def cases(names: list[str]) -> list[Case]:
 
 
 def chosen(words: list[str]) -> tuple[list[str], list[str]]:
-    """The names of the cases that words name, each a case or a subject, in the order of the words; and the words that name none."""
-    found = [[name for name in names() if word in (name, name.partition("/")[0])] for word in words]
-    return [name for some in found for name in some], [word for word, some in zip(words, found) if not some]
+    """The names of the cases that words name, each a case or a subject, in the order of the words;
+    and the words that name none."""
+    found = [
+        [name for name in names() if word in (name, name.partition("/")[0])] for word in words
+    ]
+    return (
+        [name for some in found for name in some],
+        [word for word, some in zip(words, found) if not some],
+    )
 
 
 def run(program: str, names: list[str]) -> tuple[int, int]:
-    """Runs the cases of these names, says of each that differs what differs; answers how many agree and how many differ."""
+    """Runs the cases of these names, says of each that differs what differs; answers how many
+    agree and how many differ."""
     differing = 0
     for case in cases(names):
         difference = case.difference(program)
@@ -186,8 +207,14 @@ def run(program: str, names: list[str]) -> tuple[int, int]:
 
 
 def main() -> int:
-    parser = argparse.ArgumentParser(description=__doc__, formatter_class=argparse.RawDescriptionHelpFormatter)
-    parser.add_argument("--program", default=find_program(), help="the program to run; else the one that was built last")
+    parser = argparse.ArgumentParser(
+        description=__doc__, formatter_class=argparse.RawDescriptionHelpFormatter
+    )
+    parser.add_argument(
+        "--program",
+        default=find_program(),
+        help="the program to run; else the one that was built last",
+    )
     parser.add_argument("name", nargs="*", help="a case or a subject to run; else all")
     options = parser.parse_args()
     wanted, unknown = chosen(options.name) if options.name else (names(), [])

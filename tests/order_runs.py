@@ -2,11 +2,14 @@
 
     order_runs.py [--program PROGRAM] [--from SEED] [RUNS]
 
-Each run is a random script of two stations (losses.py), of which `sim --tap` makes a trace without damage. In ten copies of it one frame is
-changed: other octets in an I frame that goes again, another N(S), another N(R), another P(S) or P(R), an N(R) that stays, an I frame that
-goes once more later, or one that is left out. What `judge` tells is compared with what rules.py says, as in rules_runs.py.
+Each run is a random script of two stations (losses.py), of which `sim --tap` makes a trace without
+damage. In ten copies of it one frame is changed: other octets in an I frame that goes again,
+another N(S), another N(R), another P(S) or P(R), an N(R) that stays, an I frame that goes once
+more later, or one that is left out. What `judge` tells is compared with what rules.py says, as in
+rules_runs.py.
 
-Exit status: 0; 1 where an end was missed or accused, with the seed; 2 for bad words, or where there is no program.
+Exit status: 0; 1 where an end was missed or accused, with the seed; 2 for bad words, or where
+there is no program.
 """
 
 import subprocess
@@ -50,7 +53,11 @@ class Frame(NamedTuple):
         return self.kind() is not None and not self.kind() & 1 and self.packet()[0] & 0x70 == 0x10
 
     def has_pr(self):
-        return self.is_data() or (len(self.packet()) == 3 and self.kind() & 0x1F in (RR, RNR) and self.packet()[0] & 0xF0 == 0x10)
+        return self.is_data() or (
+            len(self.packet()) == 3
+            and self.kind() & 0x1F in (RR, RNR)
+            and self.packet()[0] & 0xF0 == 0x10
+        )
 
     def line(self):
         return f"{self.end} {(self.octets + fcs(self.octets)).hex()}\n"
@@ -78,17 +85,27 @@ def other_octets(dice, frames):
         went.add(frames[place])
     place = dice.one_of(again or infos(frames))
     at = 2 + dice.below(len(frames[place].octets) - 2)
-    return changed(frames, place, frames[place].with_octet(at, frames[place].octets[at] ^ 1 + dice.below(255)))
+    return changed(
+        frames, place, frames[place].with_octet(at, frames[place].octets[at] ^ 1 + dice.below(255))
+    )
 
 
 def other_ns(dice, frames):
     place = dice.one_of(infos(frames))
-    return changed(frames, place, frames[place].with_octet(1, frames[place].control() ^ 1 + dice.below(7) << 1))
+    return changed(
+        frames,
+        place,
+        frames[place].with_octet(1, frames[place].control() ^ 1 + dice.below(7) << 1),
+    )
 
 
 def other_nr(dice, frames):
     place = dice.one_of(numbered(frames))
-    return changed(frames, place, frames[place].with_octet(1, frames[place].control() ^ 1 + dice.below(7) << 5))
+    return changed(
+        frames,
+        place,
+        frames[place].with_octet(1, frames[place].control() ^ 1 + dice.below(7) << 5),
+    )
 
 
 def other_packet_number(dice, frames):
@@ -98,14 +115,23 @@ def other_packet_number(dice, frames):
         return frames
     frame = dice.one_of(packets)
     bits = 1 + dice.below(7) << dice.one_of((1, 5) if frame.is_data() else (5,))
-    return [other.with_octet(4, other.octets[4] ^ bits) if other.octets[2:] == frame.octets[2:] and other.end == frame.end else other for other in frames]
+    return [
+        other.with_octet(4, other.octets[4] ^ bits)
+        if other.octets[2:] == frame.octets[2:] and other.end == frame.end
+        else other
+        for other in frames
+    ]
 
 
 def once_more(dice, frames):
     """An I frame goes once more later, with the N(R) that its end sent last."""
     place = dice.one_of(infos(frames))
     later = place + 1 + dice.below(min(40, len(frames) - place))
-    last = [frame for frame in frames[:later] if frame.end == frames[place].end and not frame.is_unnumbered()][-1]
+    last = [
+        frame
+        for frame in frames[:later]
+        if frame.end == frames[place].end and not frame.is_unnumbered()
+    ][-1]
     again = frames[place].with_octet(1, frames[place].control() & 0x1F | last.control() & 0xE0)
     return frames[:later] + [again] + frames[later:]
 
@@ -115,7 +141,9 @@ def unacknowledged(dice, frames):
     place = dice.one_of(numbered(frames))
     bits = frames[place].control() & 0xE0
     return frames[:place] + [
-        other.with_octet(1, other.control() & 0x1F | bits) if other.end == frames[place].end and not other.is_unnumbered() else other
+        other.with_octet(1, other.control() & 0x1F | bits)
+        if other.end == frames[place].end and not other.is_unnumbered()
+        else other
         for other in frames[place:]
     ]
 
@@ -129,7 +157,9 @@ def changed(frames, place, frame):
     return frames[:place] + [frame] + frames[place + 1 :]
 
 
-CHANGES = (other_octets, other_ns, other_nr, other_packet_number, once_more, unacknowledged, left_out)
+CHANGES = (
+    other_octets, other_ns, other_nr, other_packet_number, once_more, unacknowledged, left_out
+)
 
 
 # ---- runs
@@ -148,14 +178,23 @@ def trace(program, seed):
     words = ["sim", "--tap", "--k", str(dice.one_of((7, 7, 7, 2, 4))), "--channels", str(channels)]
     text = "".join(line + "\n" for line in lines)
     tap = subprocess.run([program, *words], input=text, stdout=subprocess.PIPE, text=True).stdout
-    return [Frame(line[0], bytes.fromhex(line[2:])[:-2]) for line in tap.splitlines() if line[:2] in ("> ", "< ")]
+    return [
+        Frame(line[0], bytes.fromhex(line[2:])[:-2])
+        for line in tap.splitlines()
+        if line[:2] in ("> ", "< ")
+    ]
 
 
 def play(program, seed):
-    """A run, and copies of it with one frame changed: how many they are, in how many a rule is broken, and what is wrong with what was told."""
+    """A run, and copies of it with one frame changed: how many they are, in how many a rule is
+    broken, and what is wrong with what was told."""
     frames, dice = trace(program, seed), losses.Dice(seed)
-    copies = [frames] + [dice.one_of(CHANGES)(dice, frames) for _ in range(COPIES if infos(frames) else 0)]
-    return rules_runs.compared(program, seed, [([frame.line() for frame in copy], None) for copy in copies])
+    copies = [frames] + [
+        dice.one_of(CHANGES)(dice, frames) for _ in range(COPIES if infos(frames) else 0)
+    ]
+    return rules_runs.compared(
+        program, seed, [([frame.line() for frame in copy], None) for copy in copies]
+    )
 
 
 if __name__ == "__main__":

@@ -7,9 +7,9 @@
 An example is indented lines. One that begins with `$` is a command for bash at the root of the
 sources, with `x25` as it is installed on the PATH; it goes on after a line that ends with a bar or
 a backslash, and what it writes stands below. One that begins with `# UP`, `# CALL`, `# CALL16` or
-`# from its first line` is a trace in the words of `x25 decode` (tests/texts.py), with what
-`x25 judge --at line` tells of it, or judge with the words that stand after a comma; a start is left
-out below, and so are the last lines unless the example has some.
+`# from its first line` is a trace in the words of `x25 decode` (tests/texts.py), with what `x25
+judge --at line` tells of it, or judge with the words that stand after a comma; a start is left out
+below, and so are the last lines unless the example has some.
 
 Exit status: 0, or 1 where an answer is another one.
 """
@@ -34,7 +34,8 @@ TRACE = re.compile(r"# (UP|CALL|CALL16|from its first line)(?:, x25 judge(.*))?"
 
 
 def lay_out(folder: str, program: str) -> dict[str, str]:
-    """Makes of a folder a root of the sources with the program installed; answers the variables."""
+    """Makes of a folder a root of the sources with the program installed; answers the
+    variables."""
     os.makedirs(f"{folder}/libexec")
     os.makedirs(f"{folder}/bin")
     shutil.copy(os.path.join(ROOT, "share", "x25.sh"), f"{folder}/bin/x25")
@@ -43,11 +44,19 @@ def lay_out(folder: str, program: str) -> dict[str, str]:
     for name in ("examples", "tools", "tests"):
         os.symlink(os.path.join(ROOT, name), f"{folder}/{name}")
     places = f"{folder}/bin:{os.environ['PATH']}"
-    return {**os.environ, "PATH": places, "X25": "", "LC_ALL": "C", "TZ": "UTC", "PYTHONDONTWRITEBYTECODE": "1"}
+    return {
+        **os.environ,
+        "PATH": places,
+        "X25": "",
+        "LC_ALL": "C",
+        "TZ": "UTC",
+        "PYTHONDONTWRITEBYTECODE": "1",
+    }
 
 
 def answers(block: str, folder: str, variables: dict[str, str]) -> str | None:
-    """An example with what it answers; None where the lines are none. The lines aren't indented."""
+    """An example with what it answers; None where the lines are none. The lines aren't
+    indented."""
     if block.startswith("$ "):
         commands = COMMAND.findall(block)
         return "".join(f"$ {it}\n{written(it, folder, variables)}" for it in commands)
@@ -59,7 +68,9 @@ def answers(block: str, folder: str, variables: dict[str, str]) -> str | None:
     words = ["--at", "line"] if found[2] is None else found[2].split()
     given = "".join(f"{line}\n" for line in texts.lines_of("\n".join([*start, *shown])))
     command = ["x25", "judge", *words]
-    done = subprocess.run(command, input=given, capture_output=True, text=True, env=variables, timeout=60)
+    done = subprocess.run(
+        command, input=given, capture_output=True, text=True, env=variables, timeout=60
+    )
     told = done.stdout.splitlines()[len(start) :]
     if not any(line.startswith("#") for line in shown):
         told = [line for line in told if not line.startswith("#")]
@@ -69,7 +80,9 @@ def answers(block: str, folder: str, variables: dict[str, str]) -> str | None:
 def written(command: str, folder: str, variables: dict[str, str]) -> str:
     """What a command writes to its standard output and error, but for the word 'unproved'."""
     how = {"cwd": folder, "env": variables, "text": True, "timeout": 60}
-    done = subprocess.run(["bash", "-c", command], stdout=subprocess.PIPE, stderr=subprocess.STDOUT, **how)
+    done = subprocess.run(
+        ["bash", "-c", command], stdout=subprocess.PIPE, stderr=subprocess.STDOUT, **how
+    )
     return re.sub(r"^(x25 [\d.]+) unproved$", r"\1", done.stdout, flags=re.MULTILINE)
 
 

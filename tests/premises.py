@@ -94,7 +94,9 @@ def imports(text: str) -> dict[str, str]:
 def definitions(module: str) -> dict[str, Definition]:
     found = {}
     for part in re.split(r"\n(?=\S)", module_text(module)):
-        if record := re.match(r"(?:pub )?record(?: pub)? (\w+)(.*?)\bwhere\n(.*)", part, re.DOTALL):
+        if record := re.match(
+            r"(?:pub )?record(?: pub)? (\w+)(.*?)\bwhere\n(.*)", part, re.DOTALL
+        ):
             names = " ".join(re.findall(r"\(([\w ]+) :", record[2])).split()
             fields = re.findall(r"^  (?:pub )?(\w+) :(.*(?:\n    .*)*)", record[3], re.MULTILINE)
             kinds = tuple((name, " ".join(kind.split())) for name, kind in fields)
@@ -155,7 +157,9 @@ def led_to(term: Term, wanted: str, depth: int = 0) -> list[str] | None:
     asked = [part for part in asked if not re.match(r"[({]?[\w ]+ :", part)]
     if depth > 12:
         return None
-    below = [led_to(it, sought, depth + 1) for it, sought in steps(term._replace(text=last), wanted)]
+    below = [
+        led_to(it, sought, depth + 1) for it, sought in steps(term._replace(text=last), wanted)
+    ]
     there = [it for it in below if it is not None]
     if wanted and not there:
         return None

@@ -61,7 +61,9 @@ def as_rows(case: Case, program: str | None) -> str | None:
     return text if is_same else None
 
 
-def paired(given: list[str], answers: list[str], words: list[str], program: str | None) -> list[str]:
+def paired(
+    given: list[str], answers: list[str], words: list[str], program: str | None
+) -> list[str]:
     """The rows of lines and their answers; all answers follow all lines where that isn't known."""
     if words[:1] == ["station"]:
         rows = paired_by_marks(given, answers)
@@ -71,7 +73,9 @@ def paired(given: list[str], answers: list[str], words: list[str], program: str 
         return [joined(asked, told) for asked, told in zip(given, answers)]
     else:
         rows = []
-    return rows or [" / ".join(given)] * bool(given) + [f"=> {' / '.join(answers)}"] * bool(answers)
+    return (
+        rows or [" / ".join(given)] * bool(given) + [f"=> {' / '.join(answers)}"] * bool(answers)
+    )
 
 
 def joined(asked: str, told: str) -> str:
@@ -90,9 +94,11 @@ def paired_by_marks(given: list[str], answers: list[str]) -> list[str]:
     return [f"=> {' / '.join(parts[0])}", *rows]
 
 
-def paired_by_a_run(given: list[str], answers: list[str], words: list[str], program: str) -> list[str]:
-    """The rows of a script. After each line the program is given one that is none: its answer parts
-    those of the others."""
+def paired_by_a_run(
+    given: list[str], answers: list[str], words: list[str], program: str
+) -> list[str]:
+    """The rows of a script. After each line the program is given one that is none: its answer
+    parts those of the others."""
     text = "".join(f"{line}\n{NO_LINE}\n" for line in given).encode()
     done = subprocess.run([program, *words], input=text, capture_output=True, timeout=SECONDS)
     parts = done.stdout.decode().split(f"{REFUSED}\n")
@@ -162,5 +168,7 @@ def write(program: str | None) -> None:
 
 if __name__ == "__main__":
     parser = argparse.ArgumentParser(description=(__doc__ or "").partition("\n")[0])
-    parser.add_argument("--program", default=find_program(), help="the program that says what a script makes")
+    parser.add_argument(
+        "--program", default=find_program(), help="the program that says what a script makes"
+    )
     write(parser.parse_args().program)

@@ -1,32 +1,42 @@
-"""The rules of docs/PEER.md, told apart from `x25 judge`: in which states each end of a trace may be.
+"""The rules of docs/PEER.md, told apart from `x25 judge`: in which states each end of a trace may
+be.
 
-Of each end all is held that it may have come to: where it stands with the link, with restarts and with each channel, by whole numbers, and
-what of the other end may come to it yet. What it loses nothing by it hears and takes at once; in front of anything else it waits, or goes on.
-A frame leaves the states that may send it. Where none is left the end has broken a rule, whatever came, was lost or still waits.
+Of each end all is held that it may have come to: where it stands with the link, with restarts and
+with each channel, by whole numbers, and what of the other end may come to it yet. What it loses
+nothing by it hears and takes at once; in front of anything else it waits, or goes on. A frame
+leaves the states that may send it. Where none is left the end has broken a rule, whatever came,
+was lost or still waits.
 
-SABM, RESTART, CLEAR and RESET may be sent again while they wait. CLEAR and RESTART end what waits for an answer. A number goes first after
-all below it, as a tape doesn't show what is left out.
+SABM, RESTART, CLEAR and RESET may be sent again while they wait. CLEAR and RESTART end what waits
+for an answer. A number goes first after all below it, as a tape doesn't show what is left out.
 
-As a trace begins each end may be anywhere, and SABM and DISC of before may come, but no UA, and nothing with a number. Octets that spell no
-frame may have been any, or none, and may have come or not. After a gap of an end that is so again, but that anything of it may come. In front
-of an end a trace lacks what the line lost of the other one. What an I frame carried that wasn't seen isn't known, nor is where its end is with
-packets then, up to the next set-up.
+As a trace begins each end may be anywhere, and SABM and DISC of before may come, but no UA, and
+nothing with a number. Octets that spell no frame may have been any, or none, and may have come or
+not. After a gap of an end that is so again, but that anything of it may come. In front of an end a
+trace lacks what the line lost of the other one. What an I frame carried that wasn't seen isn't
+known, nor is where its end is with packets then, up to the next set-up.
 """
 
 from typing import NamedTuple, Optional, Tuple, Union
 
-from runs import ACCEPTED, CALL, CLEAR, CLEAR_CONFIRMATION, DISC, DM, FRMR, INTERRUPT, INTERRUPT_CONFIRMATION
-from runs import OTHERS, REJ, RESET, RESET_CONFIRMATION, RESTART, RESTART_CONFIRMATION, RNR, RR, SABM, UA
+from runs import (
+    ACCEPTED, CALL, CLEAR, CLEAR_CONFIRMATION, DISC, DM, FRMR, INTERRUPT, INTERRUPT_CONFIRMATION
+)
+from runs import (
+    OTHERS, REJ, RESET, RESET_CONFIRMATION, RESTART, RESTART_CONFIRMATION, RNR, RR, SABM, UA
+)
 
 DATA, INFO = 0, 0
-# What may stand in a trace beside frames: octets that spell no frame, and a gap, any number of frames. And what stood before it began.
+# What may stand in a trace beside frames: octets that spell no frame, and a gap, any number of
+# frames. And what stood before it began.
 UNREAD, UNSEEN, BEFORE = "unread", "unseen", "before"
 USUAL, USUAL_WINDOWS = (128, 128), (2, 2)
 UNNUMBERED = (SABM, DISC, UA, DM, FRMR)
 
 
 class Packet(NamedTuple):
-    """A packet; `sizes` are those of the called and of the calling end, where a call says them, and so are `windows`."""
+    """A packet; `sizes` are those of the called and of the calling end, where a call says them,
+    and so are `windows`."""
 
     channel: int
     kind: int
@@ -45,15 +55,27 @@ def packet_of(octets):
         return None
     channel, kind, rest = (octets[0] & 15) << 8 | octets[1], octets[2], octets[3:]
     if not kind & 1 and octets[0] & 0x70 == 0x10 and channel:
-        return Packet(channel, DATA, kind >> 5, kind >> 1 & 7, bool(octets[0] & 0x80), bool(kind & 0x10), len(rest))
+        return Packet(
+            channel,
+            DATA,
+            kind >> 5,
+            kind >> 1 & 7,
+            bool(octets[0] & 0x80),
+            bool(kind & 0x10),
+            len(rest),
+        )
     if octets[0] & 0xF0 != 0x10 or (channel == 0) != (kind in (RESTART, RESTART_CONFIRMATION)):
         return None
     if kind & 0x1F in (RR, RNR) and not rest:
         return Packet(channel, kind & 0x1F, kind >> 5)
     if kind in (CALL, ACCEPTED):
         sizes, windows = said_in(rest, 0x42), said_in(rest, 0x43)
-        return Packet(channel, kind, sizes=sizes and (1 << sizes[0], 1 << sizes[1]), windows=windows)
-    return Packet(channel, kind) if kind in KINDS and len(rest) in LENGTHS.get(kind, (0,)) else None
+        return Packet(
+            channel, kind, sizes=sizes and (1 << sizes[0], 1 << sizes[1]), windows=windows
+        )
+    return (
+        Packet(channel, kind) if kind in KINDS and len(rest) in LENGTHS.get(kind, (0,)) else None
+    )
 
 
 def said_in(octets, code):
@@ -69,7 +91,10 @@ def said_in(octets, code):
     return None
 
 
-KINDS = (CALL, ACCEPTED, CLEAR, CLEAR_CONFIRMATION, RESET, RESET_CONFIRMATION, INTERRUPT, INTERRUPT_CONFIRMATION, RESTART, RESTART_CONFIRMATION)
+KINDS = (
+    CALL, ACCEPTED, CLEAR, CLEAR_CONFIRMATION, RESET, RESET_CONFIRMATION, INTERRUPT,
+    INTERRUPT_CONFIRMATION, RESTART, RESTART_CONFIRMATION,
+)
 # How many octets come after its kind, where any do.
 LENGTHS = {CLEAR: (2,), RESET: (2,), RESTART: (2,), INTERRUPT: range(1, 33)}
 
@@ -81,7 +106,9 @@ def resolved(low, number):
 
 def is_toward(proposed, usual, answered):
     """Whether what is answered lies between what was proposed and what is usual."""
-    return all(min(a, b) <= n <= max(a, b) for a, b, n in zip(proposed, usual, answered or proposed))
+    return all(
+        min(a, b) <= n <= max(a, b) for a, b, n in zip(proposed, usual, answered or proposed)
+    )
 
 
 # ---- an end of a channel
@@ -126,7 +153,9 @@ class Channel(NamedTuple):
             return self._replace(is_out=False)
         if packet.pr is None:
             return self
-        return self._replace(acked=resolved(self.acked, packet.pr), taken=self.taken + (packet.ps == self.taken % 8))
+        return self._replace(
+            acked=resolved(self.acked, packet.pr), taken=self.taken + (packet.ps == self.taken % 8)
+        )
 
     def waits_for_nothing(self, packet):
         """Whether it loses nothing by taking a packet at once."""
@@ -145,7 +174,10 @@ class Channel(NamedTuple):
         if kind == CALL and stand == IDLE:
             return Channel(CALLS, packet.sizes or USUAL)
         if kind == ACCEPTED and stand == CALLED:
-            is_right = is_toward(self.sizes, USUAL, packet.sizes) and is_toward(self.windows, USUAL_WINDOWS, packet.windows)
+            is_right = (
+                is_toward(self.sizes, USUAL, packet.sizes)
+                and is_toward(self.windows, USUAL_WINDOWS, packet.windows)
+            )
             return Channel(TALKS, most=(packet.sizes or self.sizes)[0]) if is_right else None
         if kind == CLEAR_CONFIRMATION and stand == WAS_CLEARED:
             return Channel()
@@ -165,8 +197,17 @@ class Channel(NamedTuple):
         told = self._replace(told=resolved(self.told, packet.pr))
         if packet.kind != DATA:
             return told
-        is_right = packet.ps == self.sent % 8 and self.sent < self.acked + 7 and packet.size <= self.most and self.q in (None, packet.q)
-        return told._replace(sent=self.sent + 1, q=packet.q if packet.m else None) if is_right else None
+        is_right = (
+            packet.ps == self.sent % 8
+            and self.sent < self.acked + 7
+            and packet.size <= self.most
+            and self.q in (None, packet.q)
+        )
+        return (
+            told._replace(sent=self.sent + 1, q=packet.q if packet.m else None)
+            if is_right
+            else None
+        )
 
 
 # ---- an end of the packet layer, with what came to its link and it hasn't taken yet
@@ -184,10 +225,13 @@ class Layer(NamedTuple):
 
     def with_channel(self, number, channel):
         channels = {**dict(self.channels), number: channel}
-        return self._replace(channels=tuple(sorted(item for item in channels.items() if item[1] != Channel())))
+        return self._replace(
+            channels=tuple(sorted(item for item in channels.items() if item[1] != Channel()))
+        )
 
     def front(self, number):
-        """The place of the first packet of a channel, where no RESTART and no confirmation of one is in front of it."""
+        """The place of the first packet of a channel, where no RESTART and no confirmation of one
+        is in front of it."""
         for place, packet in enumerate(self.way):
             if packet.channel in (number, 0):
                 return place if packet.channel == number else None
@@ -200,14 +244,20 @@ class Layer(NamedTuple):
             return rest._replace(restart=READY)
         if packet.channel == 0:
             return Layer(WAS_RESTARTED, way=rest.way) if packet.kind == RESTART else rest
-        return rest if self.restart != READY else rest.with_channel(packet.channel, self.channel(packet.channel).takes(is_dce, packet))
+        return rest if self.restart != READY else rest.with_channel(
+            packet.channel, self.channel(packet.channel).takes(is_dce, packet)
+        )
 
     def settled(self, is_dce):
         """With all taken that it loses nothing by taking at once."""
         layer, place, seen = self, 0, {0}
         while place < len(layer.way) and layer.way[place].channel:
             packet = layer.way[place]
-            is_dropped = layer.restart == RESTARTS or layer.restart == READY and layer.channel(packet.channel).waits_for_nothing(packet)
+            is_dropped = (
+                layer.restart == RESTARTS
+                or layer.restart == READY
+                and layer.channel(packet.channel).waits_for_nothing(packet)
+            )
             if is_dropped and packet.channel not in seen:
                 layer = layer.takes(is_dce, place)
             else:
@@ -216,7 +266,8 @@ class Layer(NamedTuple):
         return layer
 
     def onward(self, is_dce, number):
-        """All that it may be on a channel, now or once more has come, and as little on the others as may be."""
+        """All that it may be on a channel, now or once more has come, and as little on the others
+        as may be."""
         layer = self.settled(is_dce)
         yield layer
         place = layer.front(number)
@@ -245,8 +296,8 @@ MANY = 1 << 30
 
 
 class Frame(NamedTuple):
-    """A frame, with its end, `>` or `<`: of an unnumbered one its kind, else INFO, RR, RNR or REJ; or one that LAPB doesn't have; or UNREAD or
-    UNSEEN."""
+    """A frame, with its end, `>` or `<`: of an unnumbered one its kind, else INFO, RR, RNR or REJ;
+    or one that LAPB doesn't have; or UNREAD or UNSEEN."""
 
     end: str
     kind: Union[int, str, None]
@@ -261,13 +312,22 @@ def frame_of(end, octets):
     if not control & 1:
         return Frame(end, INFO, control >> 5, control >> 1 & 7, information)
     if control & 3 == 1:
-        return Frame(end, control & 15, control >> 5) if control & 15 in (RR, RNR, REJ) and not information else Frame(end, None)
+        return (
+            Frame(end, control & 15, control >> 5)
+            if control & 15 in (RR, RNR, REJ) and not information
+            else Frame(end, None)
+        )
     kind = control & 0xEF
-    return Frame(end, kind) if kind in UNNUMBERED and len(information) == (3 if kind == FRMR else 0) else Frame(end, None)
+    return (
+        Frame(end, kind)
+        if kind in UNNUMBERED and len(information) == (3 if kind == FRMR else 0)
+        else Frame(end, None)
+    )
 
 
 class Link(NamedTuple):
-    """`given` has what the last seven I frames carried, None where that isn't known. There is no layer where it isn't known what that took."""
+    """`given` has what the last seven I frames carried, None where that isn't known. There is no
+    layer where it isn't known what that took."""
 
     stand: int = OUT
     sent: int = 0
@@ -294,7 +354,11 @@ class Link(NamedTuple):
         if frame.ns != self.taken % 8:
             return rest
         packet = packet_of(frame.information)
-        layer = rest.layer._replace(way=rest.layer.way + (packet,)) if rest.layer and packet else rest.layer
+        layer = (
+            rest.layer._replace(way=rest.layer.way + (packet,))
+            if rest.layer and packet
+            else rest.layer
+        )
         return rest._replace(taken=self.taken + 1, layer=layer)
 
     def begun(self, is_known):
@@ -303,7 +367,11 @@ class Link(NamedTuple):
     def settled(self):
         """With all heard and taken in front of a frame that it may also pass over."""
         link = self
-        while link.way and link.front() not in (SABM, DISC, UNREAD, UNSEEN, BEFORE) and (link.front() != UA or link.stand not in (ASKS, ANYWHERE)):
+        while (
+            link.way
+            and link.front() not in (SABM, DISC, UNREAD, UNSEEN, BEFORE)
+            and (link.front() != UA or link.stand not in (ASKS, ANYWHERE))
+        ):
             link = link.hears(link.way[0])
         return link
 
@@ -313,7 +381,9 @@ class Link(NamedTuple):
         front = link.front()
         yield link
         if link.stand == IN and front == UNREAD:
-            yield from link.passed()._replace(acked=link.acked + 7, taken=link.taken + 1, layer=None).onward(is_known)
+            yield from link.passed()._replace(
+                acked=link.acked + 7, taken=link.taken + 1, layer=None
+            ).onward(is_known)
         elif link.way:
             yield from link.passed().onward(is_known)
         if link.stand == ASKS and front in (UA, UNREAD):
@@ -329,7 +399,10 @@ class Link(NamedTuple):
         kind = frame.kind
         if kind == UA:
             yield from self.answers(is_known)
-        elif kind == SABM and (self.stand in (ASKS, ANYWHERE) or all(other.kind != UA for other in self.way)):
+        elif (
+            kind == SABM
+            and (self.stand in (ASKS, ANYWHERE) or all(other.kind != UA for other in self.way))
+        ):
             yield Link(ASKS, way=self.way)
         elif kind == DM and self.stand in (ASKS, ANYWHERE):
             yield self
@@ -339,7 +412,11 @@ class Link(NamedTuple):
             yield from self.might_send(frame, is_known)
         elif frame.nr is not None and self.stand == ANYWHERE:
             yield self
-        elif frame.nr is not None and self.stand == IN and resolved(self.told, frame.nr) <= self.taken:
+        elif (
+            frame.nr is not None
+            and self.stand == IN
+            and resolved(self.told, frame.nr) <= self.taken
+        ):
             told = self._replace(told=resolved(self.told, frame.nr))
             if frame.ns is None:
                 yield told
@@ -358,7 +435,8 @@ class Link(NamedTuple):
                 yield Link(ASKS, way=rest.way)
 
     def might_send(self, frame, is_known):
-        """After octets that spell no frame, which may have been any, or none. DISC, DM and FRMR leave nothing more to send than none."""
+        """After octets that spell no frame, which may have been any, or none. DISC, DM and FRMR
+        leave nothing more to send than none."""
         yield self
         for kind in (SABM, UA):
             yield from self.sends(frame._replace(kind=kind), is_known)
@@ -373,48 +451,80 @@ class Link(NamedTuple):
             yield self._replace(sent=number + 1, given=(self.given + (frame.information,))[-7:])
         elif self.given[number - self.sent] in (None, frame.information):
             place = len(self.given) + number - self.sent
-            yield self._replace(given=(*self.given[:place], frame.information, *self.given[place + 1 :]))
+            yield self._replace(
+                given=(*self.given[:place], frame.information, *self.given[place + 1 :])
+            )
 
 
 class Ends:
-    """Both ends of a trace: for each the states in which it may be, at first any, and what these are for the link alone. `links` and `packets`
-    have the places where an end broke its first rule of each layer. After the first one of the link, at `known`, nothing is known of packets,
-    nor at each place in `blind`, as no layer is of some state. `at` is the sign of the end in front of which the trace is taken, or None."""
+    """Both ends of a trace: for each the states in which it may be, at first any, and what these
+    are for the link alone. `links` and `packets` have the places where an end broke its first rule
+    of each layer. After the first one of the link, at `known`, nothing is known of packets, nor at
+    each place in `blind`, as no layer is of some state. `at` is the sign of the end in front of
+    which the trace is taken, or None."""
 
     def __init__(self, at=None):
-        self.states = {end: [Link(ANYWHERE, way=(Frame(other, BEFORE),))] for end, other in OTHERS.items()}
+        self.states = {
+            end: [Link(ANYWHERE, way=(Frame(other, BEFORE),))] for end, other in OTHERS.items()
+        }
         self.bare = dict(self.states)
         self.far = at and OTHERS[at]
         self.places, self.known = 0, None
         self.links, self.packets, self.blind = {}, {}, set()
 
     def onward(self, end, is_bare=False):
-        """The states in which an end may be in front of a frame. What the line lost of the far end it has sent there, and nothing came of it."""
+        """The states in which an end may be in front of a frame. What the line lost of the far end
+        it has sent there, and nothing came of it."""
         is_known = self.known is None and not is_bare
-        links = fresh = dict.fromkeys(later for link in (self.bare if is_bare else self.states)[end] for later in link.onward(is_known))
+        links = fresh = dict.fromkeys(
+            later
+            for link in (self.bare if is_bare else self.states)[end]
+            for later in link.onward(is_known)
+        )
         while end == self.far and fresh:
-            lost = (sent for link in fresh for sent in link.might_send(Frame(end, UNREAD), is_known))
-            fresh = {later: None for link in lost for later in link.onward(is_known) if later not in links}
+            lost = (
+                sent for link in fresh for sent in link.might_send(Frame(end, UNREAD), is_known)
+            )
+            fresh = {
+                later: None
+                for link in lost
+                for later in link.onward(is_known)
+                if later not in links
+            }
             links.update(fresh)
         return list(links)
 
     def allowed(self, frame, is_bare=False):
         """What its end may be once it has sent a frame: for the link, and for both layers."""
         is_known = self.known is None and not is_bare
-        links = [(link, sent) for link in self.onward(frame.end, is_bare) for sent in link.sends(frame, is_known)]
+        links = [
+            (link, sent)
+            for link in self.onward(frame.end, is_bare)
+            for sent in link.sends(frame, is_known)
+        ]
         packet, both = packet_of(frame.information), []
         for link, sent in links:
             if frame.ns is None or sent.sent == link.sent or sent.layer is None:
                 both.append(sent)
             elif packet:
-                layers = [layer.sends(packet) for layer in sent.layer.onward(frame.end == "<", packet.channel)]
+                layers = [
+                    layer.sends(packet)
+                    for layer in sent.layer.onward(frame.end == "<", packet.channel)
+                ]
                 both += [sent._replace(layer=layer) for layer in layers if layer]
         return list(dict.fromkeys(sent for _, sent in links)), list(dict.fromkeys(both))
 
     def passes(self, frame):
         """A frame goes."""
         if frame.kind == UNSEEN:
-            self.states = {end: [Link(ANYWHERE, way=(Frame(OTHERS[end], BEFORE if end == frame.end else UNSEEN),))] for end in OTHERS}
+            self.states = {
+                end: [
+                    Link(
+                        ANYWHERE, way=(Frame(OTHERS[end], BEFORE if end == frame.end else UNSEEN),)
+                    )
+                ]
+                for end in OTHERS
+            }
             self.bare = dict(self.states)
         elif frame.end not in self.links:
             self.judges(frame)
@@ -440,4 +550,6 @@ class Ends:
 
     @staticmethod
     def shown(links, frame):
-        return list(dict.fromkeys(link._replace(way=link.way + (frame,)).settled() for link in links))
+        return list(
+            dict.fromkeys(link._replace(way=link.way + (frame,)).settled() for link in links)
+        )

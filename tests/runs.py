@@ -1,4 +1,5 @@
-"""What the scripts of random runs share: their words, the seeds, what they say of runs that are judged, codes, and the numbers of an end."""
+"""What the scripts of random runs share: their words, the seeds, what they say of runs that are
+judged, codes, and the numbers of an end."""
 
 import argparse
 import os
@@ -12,7 +13,9 @@ sys.path.insert(0, os.path.join(ROOT, "tools"))
 
 from x25tools.x25lines import fcs  # noqa: E402
 
-CALL, ACCEPTED, CLEAR, CLEAR_CONFIRMATION, RESET, RESET_CONFIRMATION = 0x0B, 0x0F, 0x13, 0x17, 0x1B, 0x1F
+CALL, ACCEPTED, CLEAR, CLEAR_CONFIRMATION, RESET, RESET_CONFIRMATION = (
+    0x0B, 0x0F, 0x13, 0x17, 0x1B, 0x1F
+)
 INTERRUPT, INTERRUPT_CONFIRMATION = 0x23, 0x27
 RESTART, RESTART_CONFIRMATION = 0xFB, 0xFF
 RR, RNR, REJ = 0x01, 0x05, 0x09
@@ -31,8 +34,8 @@ def frame(mark, is_command, control, information=b""):
 
 
 class Numbers:
-    """What an end counts by whole numbers, of its link or of a channel: what it sent, what of this is acknowledged, what it took, and what of
-    that it acknowledged."""
+    """What an end counts by whole numbers, of its link or of a channel: what it sent, what of this
+    is acknowledged, what it took, and what of that it acknowledged."""
 
     def __init__(self):
         self.sent = self.acked = self.taken = self.told = 0
@@ -54,9 +57,19 @@ class Numbers:
 
 def words(about, runs):
     """The parser of the words that each such script takes."""
-    parser = argparse.ArgumentParser(description=about, formatter_class=argparse.RawDescriptionHelpFormatter)
-    parser.add_argument("runs", metavar="RUNS", type=int, nargs="?", default=runs, help=f"how many runs ({runs:,})")
-    parser.add_argument("--from", dest="first", metavar="SEED", type=int, help="the seed of the first run; else it is a new one, and is said")
+    parser = argparse.ArgumentParser(
+        description=about, formatter_class=argparse.RawDescriptionHelpFormatter
+    )
+    parser.add_argument(
+        "runs", metavar="RUNS", type=int, nargs="?", default=runs, help=f"how many runs ({runs:,})"
+    )
+    parser.add_argument(
+        "--from",
+        dest="first",
+        metavar="SEED",
+        type=int,
+        help="the seed of the first run; else it is a new one, and is said",
+    )
     parser.add_argument("--program", default=find_program(), help="the program")
     return parser
 
@@ -74,7 +87,8 @@ def options_of(parser):
 
 
 def tell(options, told):
-    """Says of each run the first line that tells a rule, where one does, and what came of all; answers the exit status.
+    """Says of each run the first line that tells a rule, where one does, and what came of all;
+    answers the exit status.
 
     `told` answers for a seed the lines that tell a rule, and how many frames the run has.
     """

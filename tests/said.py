@@ -5,10 +5,11 @@ Below each stands what carries it, by the pairs of tests/said.txt, and below a c
 the law asks before it holds, as the definitions have it. With --premises it writes the second part
 of said.txt anew: what each such clause asks, each by one name.
 
-Of README.md these are those of 'What is proved', and of the rest those that speak of proof;
-of docs/PROOFS.md all; of docs/JUDGE.md those of 'What is proved of a verdict' that begin with a name;
-of docs/PEER.md those that speak of proof, begin with a name, or name the definitions of a rule. A row of a table is one. tests/tools/test_said.py holds that each has its
-pair, that what carries it is there, and that the premises are those of the definitions.
+Of README.md these are those of 'What is proved', and of the rest those that speak of proof; of
+docs/PROOFS.md all; of docs/JUDGE.md those of 'What is proved of a verdict' that begin with a name;
+of docs/PEER.md those that speak of proof, begin with a name, or name the definitions of a rule. A
+row of a table is one. tests/tools/test_said.py holds that each has its pair, that what carries it
+is there, and that the premises are those of the definitions.
 """
 
 from __future__ import annotations
@@ -35,9 +36,18 @@ def text_of(path: str) -> str:
 
 def sentences_of(text: str) -> Iterator[str]:
     """The sentences of a text, without headings, examples, heads of tables and lists of names."""
-    text = re.sub(r"^```\n(?:.*\n)*?```$|(?<=\n\n)(?:    .*\n)+|^#.*$|^\|.*\n\|-.*$|^> ?", "", text, flags=re.MULTILINE)
+    text = re.sub(
+        r"^```\n(?:.*\n)*?```$|(?<=\n\n)(?:    .*\n)+|^#.*$|^\|.*\n\|-.*$|^> ?",
+        "",
+        text,
+        flags=re.MULTILINE,
+    )
     for part in re.split(r"\n\s*\n|\n(?= *- |\d+\. |\|)", text):
-        part = re.sub(r"\[([^]]*)\]\([^)]*\)|\*", r"\1", " ".join(re.sub(r"^\s*(?:- |\d+\. )", "", part).split()))
+        part = re.sub(
+            r"\[([^]]*)\]\([^)]*\)|\*",
+            r"\1",
+            " ".join(re.sub(r"^\s*(?:- |\d+\. )", "", part).split()),
+        )
         for sentence in re.split(r"(?<=\.) +(?=[A-Z`])", part):
             if re.sub(r"`[^`]*`|[, ]", "", sentence):
                 yield sentence.replace("`", "")
@@ -51,11 +61,16 @@ def section(path: str, heading: str) -> str:
 
 def sentences() -> list[tuple[str, str]]:
     """What is to be carried: the document and the sentence."""
-    trust, verdicts = section("README.md", "What is proved"), section("docs/JUDGE.md", "What is proved of a verdict")
+    trust, verdicts = (
+        section("README.md", "What is proved"),
+        section("docs/JUDGE.md", "What is proved of a verdict"),
+    )
     rest = sentences_of(text_of("README.md").replace(trust, ""))
     is_rule = re.compile(r"^[a-z]|[Pp]roo[fv]|[Pp]rove|" + DEFINED.pattern)
     of_documents = {
-        "README.md": [*sentences_of(re.sub(r"\*\*[^*]*\*\* ", "", trust)), *filter(PROVES.search, rest)],
+        "README.md": [
+            *sentences_of(re.sub(r"\*\*[^*]*\*\* ", "", trust)), *filter(PROVES.search, rest)
+        ],
         "docs/PROOFS.md": sentences_of(text_of("docs/PROOFS.md")),
         "docs/JUDGE.md": filter(NAMED.search, sentences_of(verdicts)),
         "docs/PEER.md": filter(is_rule.search, sentences_of(text_of("docs/PEER.md"))),
@@ -113,13 +128,17 @@ def table() -> str:
 def main() -> None:
     form = argparse.RawDescriptionHelpFormatter
     parser = argparse.ArgumentParser(description=__doc__, formatter_class=form)
-    parser.add_argument("--premises", action="store_true", help="write the second part of said.txt")
+    parser.add_argument(
+        "--premises", action="store_true", help="write the second part of said.txt"
+    )
     if parser.parse_args().premises:
         print(table(), end="")
         return
     for document, sentence in sentences():
         print(f"{document}: {sentence}")
-        carried = [it for of, words, it in pairs() if of == document and sentence.startswith(words)]
+        carried = [
+            it for of, words, it in pairs() if of == document and sentence.startswith(words)
+        ]
         for line in carried[0] if carried else ["nothing"]:
             print(f"    {line}")
             asked = [premises.premises_of(*clause) or [] for clause in clauses_of(line)]

@@ -1,12 +1,16 @@
-"""Random runs of two stations, captured at one end or with frames left out, judged as captures are: nothing certain may be told of them.
+"""Random runs of two stations, captured at one end or with frames left out, judged as captures
+are: nothing certain may be told of them.
 
     tap_runs.py [--program PROGRAM] [--from SEED] [RUNS]
 
-Each run is one of judge_runs.py with more losses. A capture at an end has what that end puts on the line, as it puts it, and of the other
-end's frames those that come, as they come: what the line loses before is missing. It is judged with `--at` that end. From the whole trace
-frames are left out, in stretches, each of which leaves a gap that the judge is told of, and some of those that remain can't be read.
+Each run is one of judge_runs.py with more losses. A capture at an end has what that end puts on
+the line, as it puts it, and of the other end's frames those that come, as they come: what the line
+loses before is missing. It is judged with `--at` that end. From the whole trace frames are left
+out, in stretches, each of which leaves a gap that the judge is told of, and some of those that
+remain can't be read.
 
-Exit status: 0; 1 where a rule was told without doubt, with the seed of that run; 2 for bad words, or where there is no program.
+Exit status: 0; 1 where a rule was told without doubt, with the seed of that run; 2 for bad words,
+or where there is no program.
 """
 
 import sys
@@ -35,18 +39,23 @@ class Tapped(simruns.Line):
         super().put(made)
 
     def deliver(self, direction):
-        """Takes the first frame off the line, where there is one: it passes in front of the end that it comes to."""
+        """Takes the first frame off the line, where there is one: it passes in front of the end
+        that it comes to."""
         if self._waiting[direction]:
             place = self._waiting[direction][0]
             is_damaged = self._fates.get(place) == DAMAGED
-            self.tapes[pcap2x25.OTHER[direction]].append(f"{direction} " if is_damaged else self.lines[place])
+            self.tapes[pcap2x25.OTHER[direction]].append(
+                f"{direction} " if is_damaged else self.lines[place]
+            )
         super().deliver(direction)
 
 
 def captured(program, words, script):
     """What was captured in front of the end whose frames have each direction."""
     line = Tapped()
-    simruns.follow(line, simruns.steps(program, script.encode(), [word for word in words if word != "--tap"]))
+    simruns.follow(
+        line, simruns.steps(program, script.encode(), [word for word in words if word != "--tap"])
+    )
     return line.tapes
 
 
@@ -72,16 +81,25 @@ def told(program, lines, words, at, is_made_up=False):
 
 
 def play(program, seed):
-    """The lines that tell a rule, of a run as it is captured at each end and with gaps, and how many frames there are."""
+    """The lines that tell a rule, of a run as it is captured at each end and with gaps, and how
+    many frames there are."""
     words, judge_words, script = judge_runs.run(seed)
     dice = losses.Dice(seed)
-    script = "".join(f"{line}\n" + (f"lose {dice.one_of('><')} 0\n" if dice.chance(LOST) else "") for line in script.splitlines())
+    script = "".join(
+        f"{line}\n" + (f"lose {dice.one_of('><')} 0\n" if dice.chance(LOST) else "")
+        for line in script.splitlines()
+    )
     tapes = captured(program, words, script)
     at_fault = []
     for at, direction in judging.ENDS.items():
-        at_fault += [f"at {at}: {text}" for text in told(program, tapes[direction], judge_words, at)]
+        at_fault += [
+            f"at {at}: {text}" for text in told(program, tapes[direction], judge_words, at)
+        ]
     whole = [frame.rstrip("\n") for frame in judge_runs.frames_of(program, words, script)]
-    at_fault += [f"with gaps: {text}" for text in told(program, list(with_gaps(dice, whole)), judge_words, "line")]
+    at_fault += [
+        f"with gaps: {text}"
+        for text in told(program, list(with_gaps(dice, whole)), judge_words, "line")
+    ]
     return at_fault, sum(map(len, tapes.values())) + len(whole)
 
 

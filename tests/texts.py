@@ -1,11 +1,13 @@
 #!/usr/bin/env python3
-"""Makes lines of a trace of lines of `x25 decode`: the way back, for examples of documents and for cases.
+"""Makes lines of a trace of lines of `x25 decode`: the way back, for examples of documents and for
+cases.
 
     texts.py < TEXT > TRACE
 
-A line `> I cmd P=0 S=2 R=2 | CLEARCONF ch=1` becomes the octets of that frame. What is told after a
-frame, from ` ! `, ` !? `, ` ~ ` or ` ~? ` on, is passed over, and so are lines that begin with `#`.
-A line `> ..` stays. A fault of decode stands for one frame or packet that has it. So do these lines:
+A line `> I cmd P=0 S=2 R=2 | CLEARCONF ch=1` becomes the octets of that frame. What is told after
+a frame, from ` ! `, ` !? `, ` ~ ` or ` ~? ` on, is passed over, and so are lines that begin with
+`#`. A line `> ..` stays. A fault of decode stands for one frame or packet that has it. So do these
+lines:
 
     UP      SABM of the DTE and UA
     CALL    UP, RESTART of both ends, and a call of the DTE on channel 1 that is accepted
@@ -65,7 +67,9 @@ def packet_of(text: str) -> bytes:
         block = lengths + bytes.fromhex(addresses + "0" * (len(addresses) % 2))
         block += bytes([len(octets_of(facilities))]) + octets_of(facilities)
         is_bare = kind == "ACCEPT" and block == bytes(2)
-        return head + bytes([CALLS[kind]]) + (b"" if is_bare else block) + octets_of(given.get("data", "-"))
+        return head + bytes([CALLS[kind]]) + (b"" if is_bare else block) + octets_of(
+            given.get("data", "-")
+        )
     if kind in SUPERVISORY:
         return head + bytes([SUPERVISORY[kind] | int(given["R"]) << 5])
     if kind == "INT":
@@ -92,7 +96,9 @@ def line_of(text: str) -> str:
     else:
         number = int(given["S"]) << 1 if kind == "I" else SUPERVISORY[kind]
         control |= int(given["R"]) << 5 | number
-    return f"{mark} {frame(mark, role == 'cmd', control, packet_of(packet) if packet else b'').hex()}"
+    return (
+        f"{mark} {frame(mark, role == 'cmd', control, packet_of(packet) if packet else b'').hex()}"
+    )
 
 
 def lines_of(text: str) -> Iterator[str]:

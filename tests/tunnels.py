@@ -1,13 +1,15 @@
 #!/usr/bin/env python3
-"""Plays a tunnel of examples/ at each end of a relay that loses datagrams, with clients that send octets to an echo and get them back.
+"""Plays a tunnel of examples/ at each end of a relay that loses datagrams, with clients that send
+octets to an echo and get them back.
 
     tunnels.py NEAR FAR [--loss PERCENT] [--clients N] [--octets N] [--seed N]
     tunnels.py --moments TUNNEL
 
-NEAR, FAR and TUNNEL are commands, as 'python3 examples/python/tunnel.py'. A client ends what it sends and reads to the end; the exit status
-is 0 where each has got its own octets back, and 1 else. With --moments the other end is that of Python in this process. It resets, clears,
-restarts, sets the link up anew, or begins anew after each number of frames: a client and the server have then read a beginning of what was
-sent, and an error, or all and no error.
+NEAR, FAR and TUNNEL are commands, as 'python3 examples/python/tunnel.py'. A client ends what it
+sends and reads to the end; the exit status is 0 where each has got its own octets back, and 1
+else. With --moments the other end is that of Python in this process. It resets, clears, restarts,
+sets the link up anew, or begins anew after each number of frames: a client and the server have
+then read a beginning of what was sent, and an error, or all and no error.
 """
 
 import argparse
@@ -40,9 +42,12 @@ def free_ports(count, kind=socket.SOCK_DGRAM):
 
 
 def relay(near, far, ends, loss, seed, is_over):
-    """Passes datagrams on from each port to the end behind the other, but for those that it loses, until it is over."""
+    """Passes datagrams on from each port to the end behind the other, but for those that it loses,
+    until it is over."""
     draw = random.Random(seed).random
-    with socket.socket(socket.AF_INET, socket.SOCK_DGRAM) as one, socket.socket(socket.AF_INET, socket.SOCK_DGRAM) as other:
+    with socket.socket(socket.AF_INET, socket.SOCK_DGRAM) as one, socket.socket(
+        socket.AF_INET, socket.SOCK_DGRAM
+    ) as other:
         sides = one, other
         for side, port in zip(sides, (near, far)):
             side.bind(("127.0.0.1", port))
@@ -54,7 +59,8 @@ def relay(near, far, ends, loss, seed, is_over):
 
 
 def echo(server):
-    """Gives each client of a server its octets back, and ends after it, until the server is closed."""
+    """Gives each client of a server its octets back, and ends after it, until the server is
+    closed."""
 
     def serve(client):
         with client:
@@ -78,7 +84,8 @@ def read_to_end(one):
 
 
 def exchange(port, octets, seconds=SECONDS):
-    """Sends octets, while what comes is read to its end; answers that, and whether it ended by an error."""
+    """Sends octets, while what comes is read to its end; answers that, and whether it ended by an
+    error."""
     errors = []
     with connected(port, seconds) as one:
 
@@ -125,9 +132,15 @@ def run(near, far, loss=0.1, clients=16, octets=20_000, seed=1):
         line.start()
         threading.Thread(target=echo, args=(server,), daemon=True).start()
         serves = server.getsockname()[1]
-        commands = [*far, "dce", str(b), str(at_b), "connect", str(serves)], [*near, "dte", str(a), str(at_a), "listen", str(port)]
+        commands = (
+            [*far, "dce", str(b), str(at_b), "connect", str(serves)],
+            [*near, "dte", str(a), str(at_a), "listen", str(port)],
+        )
         children = [subprocess.Popen(command) for command in commands]
-        threads = [threading.Thread(target=client, args=(port, draw.randbytes(octets), got), daemon=True) for _ in range(clients)]
+        threads = [
+            threading.Thread(target=client, args=(port, draw.randbytes(octets), got), daemon=True)
+            for _ in range(clients)
+        ]
         for thread in threads:
             thread.start()
         for thread in threads:
@@ -204,10 +217,12 @@ ACTS = {
 
 
 def moments(command, end, manner, octets=6000, most=30, seconds=20):
-    """Plays a tunnel, of the words of a command, against one that does each of ACTS after each number of frames. Answers what went wrong, and
-    how many exchanges were whole and how many ended by an error, of each act."""
+    """Plays a tunnel, of the words of a command, against one that does each of ACTS after each
+    number of frames. Answers what went wrong, and how many exchanges were whole and how many ended
+    by an error, of each act."""
     wrong, counts = [], {}
-    octets = random.Random(octets).randbytes(octets)  # the same each time: what the server reads may be of the exchange before
+    # the same each time: what the server reads may be of the exchange before
+    octets = random.Random(octets).randbytes(octets)
     with socket.create_server(("127.0.0.1", 0)) as server:
         a, b = free_ports(2)
         port, = free_ports(1, socket.SOCK_STREAM)
@@ -235,12 +250,16 @@ def moments(command, end, manner, octets=6000, most=30, seconds=20):
 
 
 def one_exchange(far, server, port, octets, seconds):
-    """A client sends octets to the server, which gives them back. Answers how each of the two ended: whether by an error, or what was wrong."""
+    """A client sends octets to the server, which gives them back. Answers how each of the two
+    ended: whether by an error, or what was wrong."""
     ends, is_over = [], threading.Event()
 
     def judge(who, come, is_error):
         if come != octets[: len(come)] or (not is_error and come != octets):
-            ends.append(f"{who}: {len(come)} of {len(octets)} octets, {'an error' if is_error else 'no error'}")
+            ends.append(
+                f"{who}: {len(come)} of {len(octets)} octets, "
+                f"{'an error' if is_error else 'no error'}"
+            )
         else:
             ends.append(is_error)
 
@@ -276,7 +295,9 @@ def one_exchange(far, server, port, octets, seconds):
 
 
 def main():
-    parser = argparse.ArgumentParser(description=__doc__, formatter_class=argparse.RawDescriptionHelpFormatter)
+    parser = argparse.ArgumentParser(
+        description=__doc__, formatter_class=argparse.RawDescriptionHelpFormatter
+    )
     parser.add_argument("near", metavar="NEAR")
     parser.add_argument("far", metavar="FAR", nargs="?")
     parser.add_argument("--moments", action="store_true")
@@ -288,14 +309,32 @@ def main():
     begun = time.monotonic()
     if words.moments:
         bad = 0
-        for end, manner in (("dte", "listen"), ("dce", "listen"), ("dte", "connect"), ("dce", "connect")):
+        for end, manner in (
+            ("dte", "listen"), ("dce", "listen"), ("dte", "connect"), ("dce", "connect")
+        ):
             wrong, counts, status = moments(shlex.split(words.near), end, manner)
             bad += len(wrong) + (status != 0)
-            said = ", ".join(f"{name} {count[False]} whole {count[True]} by an error" for name, count in counts.items())
-            print(f"{end} {manner}: {said}; wrong {wrong}, status {status}, {time.monotonic() - begun:.1f} s")
+            said = ", ".join(
+                f"{name} {count[False]} whole {count[True]} by an error"
+                for name, count in counts.items()
+            )
+            print(
+                f"{end} {manner}: {said}; wrong {wrong}, status {status}, "
+                f"{time.monotonic() - begun:.1f} s"
+            )
         return 1 if bad else 0
-    good = run(shlex.split(words.near), shlex.split(words.far), words.loss / 100, words.clients, words.octets, words.seed)
-    print(f"{good} of {words.clients} clients got their {words.octets} octets back, {time.monotonic() - begun:.1f} s")
+    good = run(
+        shlex.split(words.near),
+        shlex.split(words.far),
+        words.loss / 100,
+        words.clients,
+        words.octets,
+        words.seed,
+    )
+    print(
+        f"{good} of {words.clients} clients got their {words.octets} octets back, "
+        f"{time.monotonic() - begun:.1f} s"
+    )
     return 0 if good == words.clients else 1
 
 

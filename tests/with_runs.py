@@ -1,12 +1,16 @@
-"""Random `with` lines: what a user gives beside a call, its acceptance and its clearing comes out of `decode --wide` as it was given.
+"""Random `with` lines: what a user gives beside a call, its acceptance and its clearing comes out
+of `decode --wide` as it was given.
 
     with_runs.py [--program PROGRAM] [--from SEED] [RUNS]
 
-Each run is a script of calls between two stations. Each call, acceptance and clearing is a `with` line: any whole facilities, user data and D,
-or none of these, any addresses, packet sizes and windows, a cause and a diagnostic. Before some stands one of what can't be given, which is to
-be refused (34) and to change nothing: facilities cut off, more than 103 octets of them, a packet size or a window before a marker, more than
-128 octets of user data, user data beside a call, or D of a clearing. Of the packets that `sim --tap` shows `decode --wide` has to say
-just what was given, after what the station writes itself; and the other end's user has to hear it. `make with-runs` plays 100,000 lines.
+Each run is a script of calls between two stations. Each call, acceptance and clearing is a `with`
+line: any whole facilities, user data and D, or none of these, any addresses, packet sizes and
+windows, a cause and a diagnostic. Before some stands one of what can't be given, which is to be
+refused (34) and to change nothing: facilities cut off, more than 103 octets of them, a packet size
+or a window before a marker, more than 128 octets of user data, user data beside a call, or D of a
+clearing. Of the packets that `sim --tap` shows `decode --wide` has to say just what was given,
+after what the station writes itself; and the other end's user has to hear it. `make with-runs`
+plays 100,000 lines.
 
 Exit status: 0; 1 where a run fails, with its seed; 2 for bad words, or where there is no program.
 """
@@ -50,7 +54,8 @@ class Given(NamedTuple):
 
 
 class Said(NamedTuple):
-    """What is said of a packet: its end, what it is, its fields, and what the other end's user hears beside it."""
+    """What is said of a packet: its end, what it is, its fields, and what the other end's user
+    hears beside it."""
 
     mark: str
     packet: str
@@ -105,7 +110,10 @@ def refused(dice, kind):
     ways = [
         it._replace(facilities=it.facilities + facility(dice, True)[:1]),
         it._replace(facilities=bytes([0x3F, 0]) * (MOST_FACILITIES // 2 + 1)),
-        it._replace(facilities=bytes([dice.one_of((SIZES, WINDOWS)), 2, 2]) + some_facilities(dice)[: MOST_FACILITIES - 3]),
+        it._replace(
+            facilities=bytes([dice.one_of((SIZES, WINDOWS)), 2, 2])
+            + some_facilities(dice)[: MOST_FACILITIES - 3]
+        ),
         it._replace(user=octets(dice, MOST_USER + 1)),
     ]
     ways += [it._replace(user=b"\x41")] if kind == "call" else []
@@ -114,7 +122,8 @@ def refused(dice, kind):
 
 
 def own_facilities(numbers, but):
-    """The facilities that a station writes: packet sizes and windows, each where they aren't those that are understood."""
+    """The facilities that a station writes: packet sizes and windows, each where they aren't those
+    that are understood."""
     parts = ((SIZES, numbers[:2], but[:2]), (WINDOWS, numbers[2:], but[2:]))
     return b"".join(bytes([code, *these]) for code, these, usual in parts if these != usual)
 
@@ -125,7 +134,11 @@ def address(dice):
 
 def numbers_of(dice):
     """Packet sizes and windows, of the called end and of the calling one."""
-    return USUAL if dice.chance(0.5) else (4 + dice.below(9), 4 + dice.below(9), 1 + dice.below(7), 1 + dice.below(7))
+    return (
+        USUAL
+        if dice.chance(0.5)
+        else (4 + dice.below(9), 4 + dice.below(9), 1 + dice.below(7), 1 + dice.below(7))
+    )
 
 
 def between(dice, numbers):
@@ -134,7 +147,8 @@ def between(dice, numbers):
 
 
 def shown(it, fields, own):
-    """The fields of a packet that gives this, after facilities of the station's own, and what is heard beside it."""
+    """The fields of a packet that gives this, after facilities of the station's own, and what is
+    heard beside it."""
     field = hexadecimal(own + it.facilities)
     is_other = bool(it.facilities or it.user or it.d)
     user = hexadecimal(it.user)
@@ -143,7 +157,8 @@ def shown(it, fields, own):
 
 
 def script(seed):
-    """The lines of a run, what is to be said of its packets, and how many lines are to be refused."""
+    """The lines of a run, what is to be said of its packets, and how many lines are to be
+    refused."""
     dice = losses.Dice(seed)
     lines, said, count = ["drain 99"], [], 0
 
@@ -163,27 +178,61 @@ def script(seed):
         agreed = between(dice, proposed)
         numbers = "" if proposed == USUAL else " " + " ".join(map(str, proposed))
         fields = {"called": called, "calling": calling, "data": user}
-        ask(end, "call", f"call {called} {calling} {user}{numbers}", "CALL", fields, own_facilities(proposed, USUAL))
-        ask(OTHER[end], "accept", f"accept 1 {' '.join(map(str, agreed))}", "ACCEPT", {}, own_facilities(agreed, proposed))
+        ask(
+            end,
+            "call",
+            f"call {called} {calling} {user}{numbers}",
+            "CALL",
+            fields,
+            own_facilities(proposed, USUAL),
+        )
+        ask(
+            OTHER[end],
+            "accept",
+            f"accept 1 {' '.join(map(str, agreed))}",
+            "ACCEPT",
+            {},
+            own_facilities(agreed, proposed),
+        )
         end = dice.one_of(losses.ENDS)
         cause, diagnostic = dice.one_of(CAUSES[end]), dice.below(256)
-        ask(end, "clear", f"clear 1 cause={cause} diag={diagnostic}", "CLEAR", {"cause": str(cause), "diag": str(diagnostic)}, b"")
+        ask(
+            end,
+            "clear",
+            f"clear 1 cause={cause} diag={diagnostic}",
+            "CLEAR",
+            {"cause": str(cause), "diag": str(diagnostic)},
+            b"",
+        )
     return lines, said, count
 
 
 def faults(program, seed):
     """What is wrong with a run, and how many lines it has that give something."""
     lines, said, count = script(seed)
-    played = subprocess.run([program, "sim", "--tap", *WORDS], input="\n".join(lines) + "\n", stdout=subprocess.PIPE, text=True).stdout
+    played = subprocess.run(
+        [program, "sim", "--tap", *WORDS],
+        input="\n".join(lines) + "\n",
+        stdout=subprocess.PIPE,
+        text=True,
+    ).stdout
     told = played.splitlines()
     trace = "".join(line + "\n" for line in told if line[:2] in ("> ", "< "))
-    decoded = subprocess.run([program, "decode", *WORDS], input=trace, stdout=subprocess.PIPE, text=True).stdout
+    decoded = subprocess.run(
+        [program, "decode", *WORDS], input=trace, stdout=subprocess.PIPE, text=True
+    ).stdout
     read = [PACKET.fullmatch(line.removesuffix(" ~ wide")) for line in decoded.splitlines()]
-    found = [(packet[1], packet[2], NOTHING | dict(FIELD.findall(packet[3]))) for packet in read if packet]
+    found = [
+        (packet[1], packet[2], NOTHING | dict(FIELD.findall(packet[3])))
+        for packet in read
+        if packet
+    ]
     wanted = [(it.mark, it.packet, NOTHING | {"ch": "1"} | it.fields) for it in said]
     heard = [line for line in told if BESIDE.match(line)]
     beside = [f"{HEARS[it.mark]} beside ch=1 {it.beside}" for it in said if it.beside]
-    wrong = [f"{one!r} for {other!r}" for one, other in (*firsts(found, wanted), *firsts(heard, beside))]
+    wrong = [
+        f"{one!r} for {other!r}" for one, other in (*firsts(found, wanted), *firsts(heard, beside))
+    ]
     refusals = [line for line in told if line[:1] in "!?"]
     if refusals != ["! 34"] * count:
         wrong.append(f"{count} lines are to be refused: {refusals}")
@@ -193,7 +242,10 @@ def faults(program, seed):
 def firsts(some, others):
     """The first place in which two lists differ."""
     if some != others:
-        at = next((at for at, (one, other) in enumerate(zip(some, others)) if one != other), min(len(some), len(others)))
+        at = next(
+            (at for at, (one, other) in enumerate(zip(some, others)) if one != other),
+            min(len(some), len(others)),
+        )
         yield some[at : at + 1], others[at : at + 1]
 
 

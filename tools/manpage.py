@@ -1,15 +1,18 @@
 #!/usr/bin/env python3
-"""Makes the manual page x25(1) of docs/MANUAL.md, pages of the scripts, and documents as they are true of what is installed.
+"""Makes the manual page x25(1) of docs/MANUAL.md, pages of the scripts, and documents as they are
+true of what is installed.
 
     manpage.py > x25.1; man ./x25.1
     manpage.py --prefix /usr/local > /usr/local/share/man/man1/x25.1
     manpage.py --script x25dump > /usr/local/share/man/man1/x25dump.1
     manpage.py --text --prefix /usr/local README.md > /usr/local/share/doc/x25/README.md
 
-Reads what the manual is written in, and no more of Markdown: headings, paragraphs, list items, tables, indented examples, `code`
-and **bold**. With --prefix the page is that of what `make install` has put there: the scripts have the names that they have there,
-documents and examples stand where they are there, and what tells of the repository alone is left out. The page of a script is what
-its --help says; a text is a document as it is true of that. The documents stand beside one another there.
+Reads what the manual is written in, and no more of Markdown: headings, paragraphs, list items,
+tables, indented examples, `code` and **bold**. With --prefix the page is that of what `make
+install` has put there: the scripts have the names that they have there, documents and examples
+stand where they are there, and what tells of the repository alone is left out. The page of a
+script is what its --help says; a text is a document as it is true of that. The documents stand
+beside one another there.
 
 Exit status: 0, or 2 for bad words or bad input.
 """
@@ -23,19 +26,15 @@ from typing import Iterable, Iterator
 
 from x25tools import x25lines
 
-MANUAL = os.path.join(os.path.dirname(os.path.dirname(os.path.abspath(__file__))), "docs", "MANUAL.md")
-# What stands after the program and each of its subcommands.
-SYNOPSIS = {
-    "decode": "[--long] [--loose] [--wide] [FILE]",
-    "vectors": "",
-    "sim": "[--tap] [--down] [--events] [--loose] [--long] [--say-sizes] [--wide] [--k N] [--n2 N] [--channels N] [--message N] [FILE]",
-    "station": "dte|dce [--long] [--say-sizes] [--wide] [--k N] [--n2 N] [--channels N]"
-    " [--incoming N] [--outgoing N] [--message N] [--clock [--t1 MS] [--t3 MS] [--t20 MS] [--t21 MS] [--t22 MS] [--t23 MS] [--t26 MS]] [FILE]",
-    "judge": "[--long] [--loose] [--wide] [--manners] [--strict] [--k N] [--at line|dte|dce|either] [FILE]",
-    "deframe": "dte|dce [FILE]",
-    "frame": "[--loose] [FILE]",
-}
-SEE_ALSO = [".SH SEE ALSO", "\\fBdocs/FORMATS.md\\fR, \\fBdocs/PROOFS.md\\fR, \\fBtshark\\fR(1), \\fBtcpdump\\fR(1)"]
+MANUAL = os.path.join(
+    os.path.dirname(os.path.dirname(os.path.abspath(__file__))), "docs", "MANUAL.md"
+)
+# A row of the manual's table of commands: how one is used.
+USAGE = re.compile(r"\| `x25 (\w+)(?: (.*))?` \| ")
+SEE_ALSO = [
+    ".SH SEE ALSO",
+    "\\fBdocs/FORMATS.md\\fR, \\fBdocs/PROOFS.md\\fR, \\fBtshark\\fR(1), \\fBtcpdump\\fR(1)",
+]
 RULE = re.compile(r"\|[-| :]+\|")
 # What stands for the program in the repository.
 PROGRAM = re.compile(r"\bbuild/x25(?:-unproved)?(?![\w.])")
@@ -43,12 +42,20 @@ PROGRAM = re.compile(r"\bbuild/x25(?:-unproved)?(?![\w.])")
 OF_THE_REPOSITORY = re.compile("`make |`source share/|<!--")
 
 
-def head() -> list[str]:
-    """The lines up to the description."""
-    lines = [".TH X25 1", ".SH NAME", "x25 \\- X.25 packet layer over LAPB, on lines of text", ".SH SYNOPSIS"]
-    for place, (name, words) in enumerate(SYNOPSIS.items()):
-        lines += [*([".br"] if place else []), f".B x25 {name}", *([escaped(words)] if words else [])]
-    return [*lines, ".SH DESCRIPTION"]
+def head(lines: Iterable[str]) -> list[str]:
+    """The lines up to the description, of the lines of the manual."""
+    usages = [found.groups() for line in lines if (found := USAGE.match(line))]
+    made = [
+        ".TH X25 1",
+        ".SH NAME",
+        "x25 \\- X.25 packet layer over LAPB, on lines of text",
+        ".SH SYNOPSIS",
+    ]
+    for place, (name, words) in enumerate(usages):
+        made += [
+            *([".br"] if place else []), f".B x25 {name}", *([escaped(words)] if words else [])
+        ]
+    return [*made, ".SH DESCRIPTION"]
 
 
 def escaped(text: str) -> str:
@@ -60,7 +67,13 @@ def escaped(text: str) -> str:
 def inline(text: str) -> str:
     """A text with its code and bold words in bold type."""
     parts = re.split(r"(`[^`]*`|\*\*[^*]+\*\*)", text)
-    drawn = [f"\\fB{escaped(part.strip('`*'))}\\fR" if part[:1] == "`" or part[:2] == "**" else escaped(part) for part in parts if part]
+    drawn = [
+        f"\\fB{escaped(part.strip('`*'))}\\fR"
+        if part[:1] == "`" or part[:2] == "**"
+        else escaped(part)
+        for part in parts
+        if part
+    ]
     return "".join(drawn)
 
 
@@ -71,7 +84,8 @@ def table_row(line: str) -> list[str]:
 
 def roff(lines: Iterable[str]) -> Iterator[str]:
     """Yields the lines of the manual page."""
-    yield from head()
+    lines = list(lines)
+    yield from head(lines)
     is_example = False
     for line in lines:
         if is_example != line.startswith("    ") and (line.strip() or not is_example):
@@ -89,14 +103,19 @@ def roff(lines: Iterable[str]) -> Iterator[str]:
 
 
 def prose(line: str) -> Iterator[str]:
-    """Yields what a line outside of the examples becomes; the heading of the whole is that of the page."""
+    """Yields what a line outside of the examples becomes; the heading of the whole is that of the
+    page."""
     if found := re.fullmatch(r"(#+) (.*)", line):
         if len(found[1]) > 1:
-            yield {2: ".SH ", 3: ".SS "}.get(len(found[1]), ".SS ") + escaped(found[2].replace("`", "")).replace('"', '\\(dq')
+            yield {2: ".SH ", 3: ".SS "}.get(len(found[1]), ".SS ") + escaped(
+                found[2].replace("`", "")
+            ).replace('"', '\\(dq')
     elif line.startswith("|"):
         if not RULE.fullmatch(line):
             first, *rest = table_row(line)
-            yield ".TP\n" + (inline(first) or "\\&") + "\n" + (inline("; ".join(filter(None, rest))) or "\\&")
+            yield ".TP\n" + (inline(first) or "\\&") + "\n" + (
+                inline("; ".join(filter(None, rest))) or "\\&"
+            )
     elif line.startswith("- "):
         yield ".IP \\(bu 2\n" + inline(line[2:])
     elif not line.startswith("!["):
@@ -109,7 +128,9 @@ def installed(lines: Iterable[str], prefix: str) -> Iterator[str]:
     for paragraph in "\n".join(lines).split("\n\n"):
         if paragraph.startswith("    ") or not OF_THE_REPOSITORY.search(paragraph):
             text = x25lines.SCRIPT.sub(lambda found: x25lines.NAMES[found[1]], paragraph)
-            text = text.replace("docs/", f"{documents}/").replace("at the root of the repository", f"in `{documents}`").replace("tools/", f"{prefix}/lib/x25/")
+            text = text.replace("docs/", f"{documents}/").replace(
+                "at the root of the repository", f"in `{documents}`"
+            ).replace("tools/", f"{prefix}/lib/x25/")
             yield from [*text.split("\n"), ""]
 
 
@@ -122,8 +143,14 @@ def installed_text(lines: Iterable[str], prefix: str) -> str:
 def script_page(name: str) -> Iterator[str]:
     """The lines of the page of a script, by the name that it has where it is installed."""
     script, = (script for script, known in x25lines.NAMES.items() if known == name)
-    command = [sys.executable, os.path.join(os.path.dirname(os.path.abspath(__file__)), f"{script}.py"), "--help"]
-    said = subprocess.run(command, env={**os.environ, "COLUMNS": "100"}, capture_output=True, text=True, check=True).stdout
+    command = [
+        sys.executable,
+        os.path.join(os.path.dirname(os.path.abspath(__file__)), f"{script}.py"),
+        "--help",
+    ]
+    said = subprocess.run(
+        command, env={**os.environ, "COLUMNS": "100"}, capture_output=True, text=True, check=True
+    ).stdout
     said = x25lines.SCRIPT.sub(lambda found: x25lines.NAMES[found[1]], said)
     usage, what, rest = re.sub("^usage: ", "", said).split("\n\n", 2)
     yield f".TH {name.upper()} 1\n.SH NAME\n{name} \\- {escaped(' '.join(what.split()))}"
@@ -135,13 +162,25 @@ def script_page(name: str) -> Iterator[str]:
 
 
 def main() -> int:
-    parser = argparse.ArgumentParser(description=__doc__, formatter_class=argparse.RawDescriptionHelpFormatter)
-    parser.add_argument("file", nargs="?", default=MANUAL, metavar="FILE", help="the manual; docs/MANUAL.md where it is missing")
-    parser.add_argument("--prefix", metavar="FOLDER", help="the folder in which the program is installed")
+    parser = argparse.ArgumentParser(
+        description=__doc__, formatter_class=argparse.RawDescriptionHelpFormatter
+    )
+    parser.add_argument(
+        "file",
+        nargs="?",
+        default=MANUAL,
+        metavar="FILE",
+        help="the manual; docs/MANUAL.md where it is missing",
+    )
+    parser.add_argument(
+        "--prefix", metavar="FOLDER", help="the folder in which the program is installed"
+    )
     parser.add_argument(
         "--script", choices=sorted(x25lines.NAMES.values()), help="make the page of this script"
     )
-    parser.add_argument("--text", action="store_true", help="write the document as it is installed, and no page")
+    parser.add_argument(
+        "--text", action="store_true", help="write the document as it is installed, and no page"
+    )
     options = parser.parse_args()
     if options.script:
         sys.stdout.write("".join(f"{line}\n" for line in script_page(options.script)))
@@ -151,8 +190,12 @@ def main() -> int:
     if options.text:
         sys.stdout.write(installed_text(lines, options.prefix or "/usr/local"))
         return 0
-    page = "".join(f"{line}\n" for line in roff(installed(lines, options.prefix) if options.prefix else lines))
-    sys.stdout.write(page.replace("docs/", f"{options.prefix}/share/doc/x25/") if options.prefix else page)
+    page = "".join(
+        f"{line}\n" for line in roff(installed(lines, options.prefix) if options.prefix else lines)
+    )
+    sys.stdout.write(
+        page.replace("docs/", f"{options.prefix}/share/doc/x25/") if options.prefix else page
+    )
     return 0
 
 

@@ -1,8 +1,8 @@
 """Bridges in this process, each in a thread of its own, over counted time.
 
-Time stands still while anything can be done. Where all wait in vain it goes on at once to the first
-moment that one of them waits for. So nothing waits for a real clock, and a slow machine is as good
-as a quick one.
+Time stands still while anything can be done. Where all wait in vain it goes on at once to the
+first moment that one of them waits for. So nothing waits for a real clock, and a slow machine is
+as good as a quick one.
 """
 
 import contextlib
@@ -48,12 +48,17 @@ class Clock:
     @contextlib.contextmanager
     def handed_in(self):
         """The scripts have this clock in place of the system's."""
-        with mock.patch.object(time, "monotonic", self.monotonic), mock.patch.object(waiting, "ready", self.ready):
+        with mock.patch.object(time, "monotonic", self.monotonic), mock.patch.object(
+            waiting, "ready", self.ready
+        ):
             yield
 
     def ready(self, readers, writers, patience):
         """As `waiting.ready`, in this time."""
-        files = [*((number, select.POLLIN) for number in readers), *((number, select.POLLOUT) for number in writers)]
+        files = [
+            *((number, select.POLLIN) for number in readers),
+            *((number, select.POLLOUT) for number in writers),
+        ]
         until = math.inf if patience is None else self._now + math.ceil(1000 * patience) / 1000
         me, last = threading.current_thread(), REAL() + HUNG
         while True:
@@ -71,7 +76,10 @@ class Clock:
 
     def _go_on(self):
         """Time goes on where all have waited in vain for a while."""
-        if self._parties <= set(self._waiting) and not any(polled(files) for files, _ in self._waiting.values()):
+        if (
+            self._parties <= set(self._waiting)
+            and not any(polled(files) for files, _ in self._waiting.values())
+        ):
             moment = min(until for _, until in self._waiting.values())
             if REAL() - self._still > STILL and self._now < moment < math.inf:
                 # A little more: a moment in milliseconds is none of binary fractions.
@@ -154,7 +162,9 @@ class Running:
         commands, given = os.pipe()
         told, notices = os.pipe()
         said, self.said = os.pipe()
-        self.stdin, self.stdout, self.stderr = open(given, "w"), Pipe(clock, told), Pipe(clock, said)
+        self.stdin, self.stdout, self.stderr = (
+            open(given, "w"), Pipe(clock, told), Pipe(clock, said)
+        )
         self._mine = commands, notices
         with mock.patch.object(sys, "argv", ["bridge.py", *words]):
             self._options = WORDS()
@@ -197,7 +207,11 @@ def communicate(clock, *pairs):
     for child in left:
         os.set_blocking(child.stdin.fileno(), False)
     told = {child: [b"", b""] for child in left}
-    pipes = {pipe.number: (child, place) for child in left for place, pipe in enumerate((child.stdout, child.stderr))}
+    pipes = {
+        pipe.number: (child, place)
+        for child in left
+        for place, pipe in enumerate((child.stdout, child.stderr))
+    }
     while pipes or left:
         writers = {child.stdin.fileno(): child for child in left}
         for number in clock.ready(list(pipes), list(writers), None):

@@ -1,4 +1,5 @@
-"""A library for C that plays what a test says, for the tests of the binding of Python: no station is behind it."""
+"""A library for C that plays what a test says, for the tests of the binding of Python: no station
+is behind it."""
 
 import ctypes
 import time
@@ -15,8 +16,9 @@ def number(size):
 
 
 class Library:
-    """Each call that lets something happen takes the next row of `plays`: its number, the frames, the kinds of events and the timer that
-    it leaves. Without rows it gives back the octets that come. Of frames that come at once, each takes a row."""
+    """Each call that lets something happen takes the next row of `plays`: its number, the frames,
+    the kinds of events and the timer that it leaves. Without rows it gives back the octets that
+    come. Of frames that come at once, each takes a row."""
 
     def __init__(self, plays=()):
         self.plays = list(plays)
@@ -25,7 +27,11 @@ class Library:
     def _happen(self, octets=b""):
         number, frames, kinds, timer = self.plays.pop(0) if self.plays else (0, [octets], [], 0)
         if number == 0:
-            self.items = [*((FRAME, octets, 0) for octets in frames), *((kind, b"", 0) for kind in kinds), (TIMER, b"", timer)]
+            self.items = [
+                *((FRAME, octets, 0) for octets in frames),
+                *((kind, b"", 0) for kind in kinds),
+                (TIMER, b"", timer),
+            ]
         return number
 
     def x25_new(self, slot, end, settings):
@@ -55,7 +61,9 @@ class Library:
         time.sleep(0)
         taken = self.items[number(first) : number(first) + number(most)]
         for i, (kind, octets, timer) in enumerate(taken):
-            x25._ITEM.pack_into(items._obj, i * x25._ITEM.size, kind, *[0] * 10, timer, 0, 0, 0, len(octets), 0)
+            x25._ITEM.pack_into(
+                items._obj, i * x25._ITEM.size, kind, *[0] * 10, timer, 0, 0, 0, len(octets), 0
+            )
         octets = b"".join(octets for _, octets, _ in taken)
         ctypes.memmove(room, octets, len(octets))
         time.sleep(0)

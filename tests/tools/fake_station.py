@@ -2,12 +2,14 @@
 
     fake_station.py FILE station END ..
 
-FILE has the answers: lines as the station writes them, and before each answer a line `= EVENT`, what it has to be asked. Anything
-else that it is asked is told on standard error and answered by `? 60`. What was asked goes to FILE.asked, with the time that was said; a carriage
-return stands there, and in an EVENT, as \\r.
+FILE has the answers: lines as the station writes them, and before each answer a line `= EVENT`,
+what it has to be asked. Anything else that it is asked is told on standard error and answered by
+`? 60`. What was asked goes to FILE.asked, with the time that was said; a carriage return stands
+there, and in an EVENT, as \\r.
 
-The marks are written as those of a station without a clock: by `start` T1 begins anew, whose time --t1 has. `+MS` says that something is due
-so much later, in place of what T1 does. Where that time is said, the next EVENT happens, as `t1 dte`.
+The marks are written as those of a station without a clock: by `start` T1 begins anew, whose time
+--t1 has. `+MS` says that something is due so much later, in place of what T1 does. Where that time
+is said, the next EVENT happens, as `t1 dte`.
 """
 
 import re
@@ -39,7 +41,9 @@ class Clock:
     def _mark(self, found):
         does, self._work = found.groups()
         if does != "on":
-            self._due = None if does == "off" else self.now + (self._t1 if does == "start" else int(does))
+            self._due = (
+                None if does == "off" else self.now + (self._t1 if does == "start" else int(does))
+            )
         return self.mark()
 
 

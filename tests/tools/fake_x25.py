@@ -1,13 +1,18 @@
 #!/usr/bin/env python3
-"""Stands in for the program in the tests of chart.py: answers written by hand, for one short script and its frames.
+"""Stands in for the program in the tests of chart.py: answers written by hand, for one short
+script and its frames.
 
-The run: the DTE's RESTART is damaged on the line and so not taken; T1 fires, the DTE polls, learns that it is missing, and sends
-it again; that one's acknowledgement is lost. As `x25 sim --tap --events` does, each event is answered by its entries and its frames, and then by itself.
+The run: the DTE's RESTART is damaged on the line and so not taken; T1 fires, the DTE polls, learns
+that it is missing, and sends it again; that one's acknowledgement is lost. As `x25 sim --tap
+--events` does, each event is answered by its entries and its frames, and then by itself.
 """
 
 import sys
 
-SET_UP = ["> 013febdf", "dce linkup", "< 01738357", "< 03001000fb0700c478", ". deliver >", "dte linkup", "> 01001000fb00007702", ". deliver <"]
+SET_UP = [
+    "> 013febdf", "dce linkup", "< 01738357", "< 03001000fb0700c478", ". deliver >", "dte linkup",
+    "> 01001000fb00007702", ". deliver <",
+]
 POLL, FINAL, ACKNOWLEDGED = "> 01119717", "< 01119717", "> 0321a415"
 AGAIN, LAST = "> 01201000fb00001787", "< 01211426"
 
@@ -21,11 +26,21 @@ LINES = [
     ("t1 dte", [POLL, ". t1 dte"]),
     (
         "drain 5",
-        [FINAL, ". deliver >", "dte restarted cause=7 diag=0", ACKNOWLEDGED, ". deliver <", ". deliver >", AGAIN, ". deliver <"]
+        [
+            FINAL, ". deliver >", "dte restarted cause=7 diag=0", ACKNOWLEDGED, ". deliver <",
+            ". deliver >", AGAIN, ". deliver <",
+        ]
         + ["dce restarted cause=0 diag=0", LAST, ". deliver >"],
     ),
     ("lose < 0", [". lose < 0"]),
-    ("dte call 1 2 -", ["dte call ch=1 at 1.0.0 called=1 calling=2 data=-", "> 012210010b1112007da6", ". dte asks"]),
+    (
+        "dte call 1 2 -",
+        [
+            "dte call ch=1 at 1.0.0 called=1 calling=2 data=-",
+            "> 012210010b1112007da6",
+            ". dte asks",
+        ],
+    ),
 ]
 NO_EVENTS = ("drain 0", "deliver", " # comment")
 TEXTS = {

@@ -6,11 +6,14 @@ LITTLE, BIG = "<", ">"
 
 
 def pcap(records, link_type=207, order=LITTLE, nano=False, network_flags=0):
-    """A pcap file; a record is (seconds, part of a second, octets) or (.., .., octets, length on the line)."""
+    """A pcap file; a record is (seconds, part of a second, octets) or (.., .., octets, length on
+    the line)."""
     magic = 0xA1B23C4D if nano else 0xA1B2C3D4
     file = struct.pack(order + "IHHiIII", magic, 2, 4, 0, 0, 65535, link_type | network_flags)
     for seconds, part, octets, *length in records:
-        file += struct.pack(order + "IIII", seconds, part, len(octets), *(length or [len(octets)])) + octets
+        file += struct.pack(
+            order + "IIII", seconds, part, len(octets), *(length or [len(octets)])
+        ) + octets
     return file
 
 
@@ -38,7 +41,9 @@ def interface(link_type, options=b"", order=LITTLE):
 
 def packet(octets, ticks=0, flags=None, order=LITTLE, index=0):
     """An enhanced packet block, with its direction and errors in `flags`."""
-    body = struct.pack(order + "IIIII", index, ticks >> 32, ticks & 0xFFFFFFFF, len(octets), len(octets)) + octets
+    body = struct.pack(
+        order + "IIIII", index, ticks >> 32, ticks & 0xFFFFFFFF, len(octets), len(octets)
+    ) + octets
     body += bytes(-len(octets) % 4)
     if flags is not None:
         body += option(2, struct.pack(order + "I", flags), order) + option(0, b"", order)
@@ -52,20 +57,30 @@ def simple_packet(octets):
 
 def old_packet(octets, ticks=0):
     """A packet block, as it was before the enhanced one."""
-    return block(2, struct.pack("<HHIIII", 0, 0, ticks >> 32, ticks & 0xFFFFFFFF, len(octets), len(octets)) + octets)
+    return block(
+        2,
+        struct.pack("<HHIIII", 0, 0, ticks >> 32, ticks & 0xFFFFFFFF, len(octets), len(octets))
+        + octets,
+    )
 
 
 def tcp(to_server, sequence, octets, flags=0x10, port=1998, wanted=0):
-    """A segment of TCP between port 40000 of a client and a server's port, whose sender wants the other way from there on."""
+    """A segment of TCP between port 40000 of a client and a server's port, whose sender wants the
+    other way from there on."""
     ends = (40000, port) if to_server else (port, 40000)
-    return struct.pack(">HHIIBBHHH", *ends, sequence % (1 << 32), wanted, 5 << 4, flags, 1000, 0, 0) + octets
+    return struct.pack(
+        ">HHIIBBHHH", *ends, sequence % (1 << 32), wanted, 5 << 4, flags, 1000, 0, 0
+    ) + octets
 
 
 def ipv4(to_server, segment, fragment=0, client=1, number=0):
-    """A packet of IPv4 with a segment, or part of one; clients are told apart by the last octet of their address."""
+    """A packet of IPv4 with a segment, or part of one; clients are told apart by the last octet of
+    their address."""
     ends = (b"\x0a\x00\x00" + bytes([client]), b"\x0a\x00\x00\x02")
     source, target = ends if to_server else ends[::-1]
-    return struct.pack(">BBHHHBBH", 0x45, 0, 20 + len(segment), number, fragment, 64, 6, 0) + source + target + segment
+    return struct.pack(
+        ">BBHHHBBH", 0x45, 0, 20 + len(segment), number, fragment, 64, 6, 0
+    ) + source + target + segment
 
 
 def ipv6(to_server, segment):
@@ -77,9 +92,12 @@ def ipv6(to_server, segment):
 
 
 def ipv6_fragment(segment, place, number=1):
-    """A fragment of IPv6, to the server, with what stands at that place of a segment; its lowest bit is 1 where more come."""
+    """A fragment of IPv6, to the server, with what stands at that place of a segment; its lowest
+    bit is 1 where more come."""
     extended = struct.pack(">BBHI", 6, 0, place, number) + segment
-    return struct.pack(">IHBB", 6 << 28, len(extended), 44, 64) + b"\xfe\x80" + bytes(13) + b"\x01" + b"\xfe\x80" + bytes(13) + b"\x02" + extended
+    return struct.pack(
+        ">IHBB", 6 << 28, len(extended), 44, 64
+    ) + b"\xfe\x80" + bytes(13) + b"\x01" + b"\xfe\x80" + bytes(13) + b"\x02" + extended
 
 
 def ethernet(packet, kind=0x0800, tags=b""):
@@ -99,7 +117,8 @@ def station(number):
 
 
 def lapbether(source, frame, length=None):
-    """A frame of LAPB without its frame check sequence, as Linux's lapbether sends it over Ethernet."""
+    """A frame of LAPB without its frame check sequence, as Linux's lapbether sends it over
+    Ethernet."""
     length = len(frame) if length is None else length
     body = b"\xff" * 6 + station(source) + b"\x60\x00" + struct.pack("<H", length) + frame
     return body + bytes(max(0, 60 - len(body)))
@@ -112,8 +131,8 @@ def llc(source, target, control, octets=b""):
     return frame + bytes(max(0, 60 - len(frame)))
 
 
-# A call over XOT: a question and its answer, and a packet over the size that was agreed. Each packet
-# has its time in seconds and its direction.
+# A call over XOT: a question and its answer, and a packet over the size that was agreed. Each
+# packet has its time in seconds and its direction.
 PACKETS_OF_XOT = [
     (0.010, ">", "10010b43" "12345670" "06" "420707" "430202" "c0000000"),
     (0.051, "<", "10010f00" "06" "420707" "430202"),
@@ -136,10 +155,14 @@ def segment_of_xot(mark, flags, octets, sequence):
     """A frame of Ethernet with a segment of TCP of the end whose packets have this mark."""
     other = "<" if mark == ">" else ">"
     ports = PORTS_OF_XOT[mark], PORTS_OF_XOT[other]
-    head = struct.pack(">HHIIBBHHH", *ports, sequence[mark], sequence[other], 5 << 4, flags, 65535, 0, 0)
+    head = struct.pack(
+        ">HHIIBBHHH", *ports, sequence[mark], sequence[other], 5 << 4, flags, 65535, 0, 0
+    )
     sequence[mark] += len(octets) + bool(flags & 3)
     length = 20 + len(head) + len(octets)
-    packet = struct.pack(">BBHHHBBH", 0x45, 0, length, 0, 0x4000, 64, 6, 0) + HOSTS_OF_XOT[mark] + HOSTS_OF_XOT[other]
+    packet = struct.pack(
+        ">BBHHHBBH", 0x45, 0, length, 0, 0x4000, 64, 6, 0
+    ) + HOSTS_OF_XOT[mark] + HOSTS_OF_XOT[other]
     stations = (station(2), station(1)) if mark == ">" else (station(1), station(2))
     return b"".join(stations) + b"\x08\x00" + packet + head + octets
 

@@ -22,10 +22,17 @@ needs_program = unittest.skipUnless(PROGRAM, "the program x25 isn't built")
 
 
 def has_station():
-    """Whether the program is built, and has the word `station`: that writes a mark before it reads anything."""
+    """Whether the program is built, and has the word `station`: that writes a mark before it reads
+    anything."""
     if not PROGRAM:
         return False
-    done = subprocess.run([PROGRAM, "station", "dte"], stdin=subprocess.DEVNULL, stdout=subprocess.PIPE, stderr=subprocess.DEVNULL, timeout=60)
+    done = subprocess.run(
+        [PROGRAM, "station", "dte"],
+        stdin=subprocess.DEVNULL,
+        stdout=subprocess.PIPE,
+        stderr=subprocess.DEVNULL,
+        timeout=60,
+    )
     return done.stdout.startswith(b". ")
 
 
@@ -33,7 +40,9 @@ def is_unproved():
     """Whether the program is one of `make look`. A sanitizer watches it, and it is slow."""
     if not PROGRAM:
         return False
-    done = subprocess.run([PROGRAM, "--version"], stdin=subprocess.DEVNULL, capture_output=True, timeout=60)
+    done = subprocess.run(
+        [PROGRAM, "--version"], stdin=subprocess.DEVNULL, capture_output=True, timeout=60
+    )
     return done.stdout.endswith(b" unproved\n")
 
 
@@ -46,7 +55,10 @@ def runs(count):
     return count if SHARE == 1 else max(1, count // 10)
 
 
-needs_station = unittest.skipUnless(has_station(), "the program has no word `station` yet" if PROGRAM else "the program x25 isn't built")
+needs_station = unittest.skipUnless(
+    has_station(),
+    "the program has no word `station` yet" if PROGRAM else "the program x25 isn't built",
+)
 
 
 def run(script, *words, given=b""):
@@ -56,12 +68,21 @@ def run(script, *words, given=b""):
 
 
 class Live:
-    """A script that runs while a test feeds it, with Python's normal buffering; `line` answers what comes within seconds."""
+    """A script that runs while a test feeds it, with Python's normal buffering; `line` answers
+    what comes within seconds."""
 
     def __init__(self, script, *words):
         command = [sys.executable, os.path.join(TOOLS, script), *words]
-        environment = {name: value for name, value in os.environ.items() if name != "PYTHONUNBUFFERED"}
-        self._child = subprocess.Popen(command, stdin=subprocess.PIPE, stdout=subprocess.PIPE, stderr=subprocess.PIPE, env=environment)
+        environment = {
+            name: value for name, value in os.environ.items() if name != "PYTHONUNBUFFERED"
+        }
+        self._child = subprocess.Popen(
+            command,
+            stdin=subprocess.PIPE,
+            stdout=subprocess.PIPE,
+            stderr=subprocess.PIPE,
+            env=environment,
+        )
 
     def give(self, octets):
         """Writes octets to the script, and leaves its input open."""
@@ -69,7 +90,8 @@ class Live:
         self._child.stdin.flush()
 
     def some(self):
-        """The octets that the script writes next; none within ten seconds are an error of the test."""
+        """The octets that the script writes next; none within ten seconds are an error of the
+        test."""
         if not select.select([self._child.stdout], [], [], 10)[0]:
             raise AssertionError("nothing was written before the end of the input")
         return os.read(self._child.stdout.fileno(), 1 << 16)
@@ -101,7 +123,9 @@ def run_with_peak(words, given):
 
 def decode(trace, *words):
     """What `x25 decode` answers to a trace, as lines of text."""
-    done = subprocess.run([PROGRAM, "decode", *words], input=trace, capture_output=True, timeout=60, check=True)
+    done = subprocess.run(
+        [PROGRAM, "decode", *words], input=trace, capture_output=True, timeout=60, check=True
+    )
     return done.stdout.decode().splitlines()
 
 
@@ -113,14 +137,23 @@ def read(*path):
 
 def claims():
     """The text of docs/PROOFS.md and of the claims of each crate."""
-    files = [os.path.join(ROOT, "docs", "PROOFS.md"), *sorted(glob(os.path.join(ROOT, "crates", "*", "README.md")))]
+    files = [
+        os.path.join(ROOT, "docs", "PROOFS.md"),
+        *sorted(glob(os.path.join(ROOT, "crates", "*", "README.md"))),
+    ]
     return "\n".join(read(file).decode() for file in files)
 
 
 def names_of_edits(crate="*"):
     """What documents may call the wrong bodies of a crate, or of all."""
     folders = glob(os.path.join(ROOT, "crates", crate))
-    return {name for folder in folders for of in (edits.must_fail, edits.wrong_bodies) for edit in of(folder) for name in edits.names_of(edit)}
+    return {
+        name
+        for folder in folders
+        for of in (edits.must_fail, edits.wrong_bodies)
+        for edit in of(folder)
+        for name in edits.names_of(edit)
+    }
 
 
 class ToolCase(unittest.TestCase):
@@ -139,7 +172,8 @@ class ToolCase(unittest.TestCase):
         return path
 
     def sparse(self, name, octets, size=1 << 30):
-        """Writes a file that begins with some octets and goes on with 0 up to a size, without taking so much room."""
+        """Writes a file that begins with some octets and goes on with 0 up to a size, without
+        taking so much room."""
         path = self.file(name, octets)
         os.truncate(path, size)
         return path

@@ -1,4 +1,5 @@
-"""A terminal for tests: a script at a pseudo terminal, what is typed there, and what its screen shows."""
+"""A terminal for tests: a script at a pseudo terminal, what is typed there, and what its screen
+shows."""
 
 import fcntl
 import os
@@ -18,7 +19,8 @@ SECONDS = 30
 
 
 class Display:
-    """Rows of characters, as a VT100 and its kin have them; those that went off at the top are kept."""
+    """Rows of characters, as a VT100 and its kin have them; those that went off at the top are
+    kept."""
 
     def __init__(self):
         self._gone, self._rows = [], [[] for _ in range(HEIGHT)]
@@ -113,7 +115,8 @@ class Terminal:
         os.write(self.file, text.encode())
 
     def echoes(self):
-        """Whether the terminal itself writes what is typed, as it does but for a program that edits lines."""
+        """Whether the terminal itself writes what is typed, as it does but for a program that
+        edits lines."""
         return bool(termios.tcgetattr(self.file)[3] & termios.ECHO)
 
     def shows(self, text):

@@ -1,4 +1,5 @@
-"""Tests of bridge.py with the program's `station`: two bridges, each with a station, and what the users of both are told."""
+"""Tests of bridge.py with the program's `station`: two bridges, each with a station, and what the
+users of both are told."""
 
 import os
 import re
@@ -32,7 +33,11 @@ def message(end, number):
 
 def messages(notices):
     """What was handed up, in order."""
-    return [found[1] for notice in notices if (found := re.fullmatch(r"\w+ message ch=1 at 1\.0\.0 q=0 data=(\w+)", notice))]
+    return [
+        found[1]
+        for notice in notices
+        if (found := re.fullmatch(r"\w+ message ch=1 at 1\.0\.0 q=0 data=(\w+)", notice))
+    ]
 
 
 class Pair:
@@ -45,12 +50,29 @@ class Pair:
 
     def assert_call(self, told_dte, told_dce):
         """The call of the README was made and a message went."""
-        told_dte, told_dce = ([it for it in told if not it.startswith("#")] for told in (told_dte, told_dce))
-        self.assertEqual(told_dte[-3:], ["dte call ch=1 at 1.0.0 called=123 calling=4567 data=41", "dte connected ch=1", "dte send ch=1 at 1.0.0 q=0 data=6869"])
-        self.assertEqual(told_dce[-3:], ["dce incoming ch=1 at 1.0.0 called=123 calling=4567 data=41", "dce accept ch=1", "dce message ch=1 at 1.0.0 q=0 data=6869"])
+        told_dte, told_dce = (
+            [it for it in told if not it.startswith("#")] for told in (told_dte, told_dce)
+        )
+        self.assertEqual(
+            told_dte[-3:],
+            [
+                "dte call ch=1 at 1.0.0 called=123 calling=4567 data=41",
+                "dte connected ch=1",
+                "dte send ch=1 at 1.0.0 q=0 data=6869",
+            ],
+        )
+        self.assertEqual(
+            told_dce[-3:],
+            [
+                "dce incoming ch=1 at 1.0.0 called=123 calling=4567 data=41",
+                "dce accept ch=1",
+                "dce message ch=1 at 1.0.0 q=0 data=6869",
+            ],
+        )
 
     def by_files(self, end, commands):
-        """Words that have commands come from a file and notices go to another, and the path of that."""
+        """Words that have commands come from a file and notices go to another, and the path of
+        that."""
         paths = [os.path.join(self.folder, f"{end}.{name}") for name in ("commands", "told")]
         with open(paths[0], "w") as file:
             file.write(commands)
@@ -80,7 +102,8 @@ class Pair:
         child.stdin.flush()
 
     def joined(self, *words):
-        """Two bridges that stay, by TCP, with a call between them. Either may be killed: the DCE listens again, the DTE calls again."""
+        """Two bridges that stay, by TCP, with a call between them. Either may be killed: the DCE
+        listens again, the DTE calls again."""
         same = ["--stay", "--t1", "0.3", "--n2", "5", *words]
         dce, line = self.listening(*same)
         dte = self.begin("dte", *line, "--retry", *same)
@@ -103,7 +126,9 @@ class Two(Pair, CountedCase):
 
     def play(self, dte, dce, commands, answers=ANSWER):
         """Gives both their commands; answers the notices of both, and what both said."""
-        (told_dte, said_dte), (told_dce, said_dce) = counted.communicate(self.clock, (dte, commands), (dce, answers))
+        (told_dte, said_dte), (told_dce, said_dce) = counted.communicate(
+            self.clock, (dte, commands), (dce, answers)
+        )
         said = {"dte": said_dte, "dce": said_dce}
         self.assertEqual((dte.returncode, dce.returncode), (0, 0), said)
         return told_dte.splitlines(), told_dce.splitlines(), said
@@ -111,50 +136,78 @@ class Two(Pair, CountedCase):
     def test_a_call_over_tcp(self):
         trace = os.path.join(self.folder, "trace")
         dce, words = self.listening("--t1", "2", "--quiet", "8")
-        told_dte, told_dce, _ = self.play(self.begin("dte", *words, "--t1", "2", "--quiet", "3", "--trace", trace), dce, OPENING + "dte send 1 0 6869\n")
+        told_dte, told_dce, _ = self.play(
+            self.begin("dte", *words, "--t1", "2", "--quiet", "3", "--trace", trace),
+            dce,
+            OPENING + "dte send 1 0 6869\n",
+        )
         self.assert_call(told_dte, told_dce)
         with open(trace, "rb") as file:
             rows = file.read().splitlines()
         # What stands in the trace is read without fault.
         decoded = support.decode(b"".join(row.split(b"\t")[1] + b"\n" for row in rows))
-        self.assertIn("> I cmd P=0 S=1 R=1 | CALL ch=1 called=123 calling=4567 fac=- data=41", decoded)
+        self.assertIn(
+            "> I cmd P=0 S=1 R=1 | CALL ch=1 called=123 calling=4567 fac=- data=41", decoded
+        )
         self.assertEqual([text for text in decoded if "fault" in text], [])
 
     def test_a_message_is_confirmed(self):
         dce, words = self.listening("--t1", "2", "--quiet", "8")
-        told_dte, told_dce, _ = self.play(self.begin("dte", *words, "--t1", "2", "--quiet", "3"), dce, OPENING + "dte send 1 0 d 6869\nwait dte confirmed\n")
-        told_dte, told_dce = ([it for it in told if not it.startswith("#")] for told in (told_dte, told_dce))
-        self.assertEqual(told_dte[-2:], ["dte send ch=1 at 1.0.0 q=0 d=1 data=6869", "dte confirmed ch=1 at 1.0.0 count=1"])
+        told_dte, told_dce, _ = self.play(
+            self.begin("dte", *words, "--t1", "2", "--quiet", "3"),
+            dce,
+            OPENING + "dte send 1 0 d 6869\nwait dte confirmed\n",
+        )
+        told_dte, told_dce = (
+            [it for it in told if not it.startswith("#")] for told in (told_dte, told_dce)
+        )
+        self.assertEqual(
+            told_dte[-2:],
+            ["dte send ch=1 at 1.0.0 q=0 d=1 data=6869", "dte confirmed ch=1 at 1.0.0 count=1"],
+        )
         self.assertEqual(told_dce[-1], "dce message ch=1 at 1.0.0 q=0 d=1 data=6869")
 
     def test_an_end_that_begins_by_sabme(self):
         """It is answered DM at once, and SABM after that by UA."""
         dce, words = self.listening("--quiet", "3")
         host, port = words[1].split(":")
-        with socket.create_connection((host, int(port)), timeout=SECONDS) as joined, joined.makefile("rw") as lines:
+        with socket.create_connection(
+            (host, int(port)), timeout=SECONDS
+        ) as joined, joined.makefile("rw") as lines:
             answers = []
             for command in ("> 017fef9d\n", "> 013febdf\n"):
                 lines.write(command)
                 lines.flush()
                 answers.append(lines.readline())
         counted.communicate(self.clock, (dce, ""))
-        self.assertEqual(support.decode("".join(answers).encode()), ["< DM rsp F=1", "< UA rsp F=1"])
+        self.assertEqual(
+            support.decode("".join(answers).encode()), ["< DM rsp F=1", "< UA rsp F=1"]
+        )
 
     def test_a_call_over_datagrams(self):
         one, other = free_ports(2)
         dce = self.begin("dce", "--udp", f"{one}:{other}", "--t1", "1", "--quiet", "8")
-        told_dte, told_dce, _ = self.play(self.begin("dte", "--udp", f"{other}:{one}", "--t1", "1", "--quiet", "3"), dce, OPENING + "dte send 1 0 6869\n")
+        told_dte, told_dce, _ = self.play(
+            self.begin("dte", "--udp", f"{other}:{one}", "--t1", "1", "--quiet", "3"),
+            dce,
+            OPENING + "dte send 1 0 6869\n",
+        )
         self.assert_call(told_dte, told_dce)
 
     def test_a_command_that_is_refused(self):
         dce, words = self.listening("--t1", "1", "--quiet", "8")
         dte = self.begin("dte", *words, "--t1", "1", "--quiet", "3")
         (out, said), _ = counted.communicate(self.clock, (dte, "dte call 1 2 -\n"), (dce, ""))
-        self.assertEqual((dte.returncode, out.partition("\n")[2]), (1, "! 9\n# ! 9, the link isn't up: 'dte call 1 2 -'\n"), said)
+        self.assertEqual(
+            (dte.returncode, out.partition("\n")[2]),
+            (1, "! 9\n# ! 9, the link isn't up: 'dte call 1 2 -'\n"),
+            said,
+        )
         self.assertEqual(out.partition("\n")[0], f"# connected to {words[1]}")
 
     def test_a_user_who_is_not_ready_holds_no_other_circuit(self):
-        """60 messages to him wait; what is sent on another circuit comes at once, and a clear of his own comes too."""
+        """60 messages to him wait; what is sent on another circuit comes at once, and a clear of
+        his own comes too."""
         same = ["--stay", "--channels", "2", "--quiet", "1"]
         dce, line = self.listening(*same)
         dte = self.begin("dte", *line, *same)
@@ -166,7 +219,15 @@ class Two(Pair, CountedCase):
         self.hears(dte, "dte connected ch=2")
         self.clock.sleep(0.5)
         sends = [f"dte send 2 0 {message('dte', number)}" for number in range(60)]
-        self.asks(dte, *sends, "dte send 1 0 41", "dte clear 2", "wait dte cleardone", CALL, "dte send 1 0 42")
+        self.asks(
+            dte,
+            *sends,
+            "dte send 1 0 41",
+            "dte clear 2",
+            "wait dte cleardone",
+            CALL,
+            "dte send 1 0 42",
+        )
         self.assertEqual(self.hears(dce, "dce message"), "dce message ch=1 at 1.0.0 q=0 data=41")
         self.hears(dce, "dce cleared ch=2")
         self.assertTrue(self.hears(dce, "dce incoming").startswith("dce incoming ch=2 at 1.1.0"))
@@ -178,7 +239,8 @@ class Two(Pair, CountedCase):
         self.assertEqual(self.hears(dce, "dce message"), "dce message ch=2 at 1.1.0 q=0 data=43")
 
     def test_one_way_channels(self):
-        """1 and 2 of four are for calls of the DCE and 4 for those of the DTE: an end is refused where only the other's are free."""
+        """1 and 2 of four are for calls of the DCE and 4 for those of the DTE: an end is refused
+        where only the other's are free."""
         same = ["--stay", "--channels", "4", "--incoming", "2", "--outgoing", "1"]
         dce, line = self.listening(*same)
         dte = self.begin("dte", *line, *same)
@@ -209,16 +271,37 @@ class Two(Pair, CountedCase):
             dte.send_signal(number)
             self.hears(dce, "dce linkdown disc")
             (out, said), = counted.communicate(self.clock, (dte, ""))
-            self.assertEqual((dte.returncode, out.splitlines()[-1], said), (status, "dte linkdown local", ""))
+            self.assertEqual(
+                (dte.returncode, out.splitlines()[-1], said), (status, "dte disconnected ua", "")
+            )
 
     def test_readers_that_stall(self):
-        """Neither user reads while 400 messages of a kilobyte are sent each way: nothing is lost, and the link stands."""
-        sent = {end: [f"{end}{number:04d}".encode().hex() * 140 for number in range(400)] for end in ("dte", "dce")}
+        """Neither user reads while 400 messages of a kilobyte are sent each way: nothing is lost,
+        and the link stands."""
+        sent = {
+            end: [f"{end}{number:04d}".encode().hex() * 140 for number in range(400)]
+            for end in ("dte", "dce")
+        }
         for end, opening in (("dte", OPENING), ("dce", ANSWER)):
-            self.file(end, (opening + "".join(f"{end} send 1 0 {octets}\n" for octets in sent[end])).encode())
-        dce, line = self.listening("--t1", "1", "--stay", "--commands", os.path.join(self.folder, "dce"))
+            self.file(
+                end,
+                (opening + "".join(f"{end} send 1 0 {octets}\n" for octets in sent[end])).encode(),
+            )
+        dce, line = self.listening(
+            "--t1", "1", "--stay", "--commands", os.path.join(self.folder, "dce")
+        )
         trace = os.path.join(self.folder, "trace")
-        dte = self.begin("dte", *line, "--t1", "1", "--stay", "--commands", os.path.join(self.folder, "dte"), "--trace", trace)
+        dte = self.begin(
+            "dte",
+            *line,
+            "--t1",
+            "1",
+            "--stay",
+            "--commands",
+            os.path.join(self.folder, "dte"),
+            "--trace",
+            trace,
+        )
         while not (os.path.exists(trace) and RNR.search(support.read(trace))):
             self.clock.sleep(0.1)
         told, left = {"dte": [], "dce": []}, {"dte": 400, "dce": 400}
@@ -238,22 +321,34 @@ class Two(Pair, CountedCase):
         sends = "".join(f"{{0}} send 1 0 {message('dte', number)}\n" for number in range(100))
         same = ["--t1", "0.3", "--quiet", "5", "--n2", "200"]
         dce, line = self.listening(*same)
-        dte = self.begin("dte", *line, *same, "--lose", "0.1", "--damage", "0.05", "--trace", trace)
+        dte = self.begin(
+            "dte", *line, *same, "--lose", "0.1", "--damage", "0.05", "--trace", trace
+        )
         self.play(dte, dce, OPENING + sends.format("dte"), ANSWER + sends.format("dce"))
         rows = support.read(trace).splitlines()
         given = b"".join(row.split(b"\t")[1] + b"\n" for row in rows)
-        told = subprocess.run([support.PROGRAM, "judge", "--at", "line"], input=given, capture_output=True, timeout=60)
+        told = subprocess.run(
+            [support.PROGRAM, "judge", "--at", "line"],
+            input=given,
+            capture_output=True,
+            timeout=60,
+        )
         self.assertEqual((told.returncode, re.findall(b".* ! .*", told.stdout)), (0, []))
 
     def exchange(self, count, *words):
-        """Joins two by TCP, and sends so many messages each way; answers what both said at the end."""
+        """Joins two by TCP, and sends so many messages each way; answers what both said at the
+        end."""
         sent = {end: [message(end, number) for number in range(count)] for end in ("dte", "dce")}
-        sends = {end: "".join(f"{end} send 1 0 {octets}\n" for octets in sent[end]) for end in sent}
+        sends = {
+            end: "".join(f"{end} send 1 0 {octets}\n" for octets in sent[end]) for end in sent
+        }
         # T1 has to be longer than the way there and back, also on a machine that does much else.
         same = ["--t1", "0.5", "--quiet", "8", "--n2", "200", "--stats", *words]
         dce, line = self.listening(*same)
         dte = self.begin("dte", *line, *same)
-        told_dte, told_dce, said = self.play(dte, dce, OPENING + sends["dte"], ANSWER + sends["dce"])
+        told_dte, told_dce, said = self.play(
+            dte, dce, OPENING + sends["dte"], ANSWER + sends["dce"]
+        )
         self.assertEqual(messages(told_dce), sent["dte"])
         self.assertEqual(messages(told_dte), sent["dce"])
         return said
@@ -262,12 +357,21 @@ class Two(Pair, CountedCase):
         self.assertIn("0 + 0 lost, 0 + 0 damaged", self.exchange(1000)["dte"])
 
     def test_a_thousand_messages_each_way_over_losses(self):
-        for name, text in self.exchange(1000, "--lose", "0.03", "--damage", "0.02", "--seed", "7").items():
-            counts = [int(number) for number in re.search(r"(\d+) \+ (\d+) lost, (\d+) \+ (\d+) damaged", text).groups()]
+        for name, text in self.exchange(
+            1000, "--lose", "0.03", "--damage", "0.02", "--seed", "7"
+        ).items():
+            counts = [
+                int(number)
+                for number in re.search(
+                    r"(\d+) \+ (\d+) lost, (\d+) \+ (\d+) damaged", text
+                ).groups()
+            ]
             self.assertTrue(all(count > 10 for count in counts), (name, text))
 
     def test_losses_that_heal(self):
-        for text in self.exchange(5, "--lose", "0.2", "--heal", "--t1", "0.2", "--quiet", "3").values():
+        for text in self.exchange(
+            5, "--lose", "0.2", "--heal", "--t1", "0.2", "--quiet", "3"
+        ).values():
             self.assertNotIn("0 + 0 lost", text)
 
 
@@ -276,8 +380,21 @@ class Processes(Pair, ToolCase):
     """What has to be a process, as it is killed, or has another network."""
 
     def begin(self, end, *words):
-        command = [sys.executable, os.path.join(support.TOOLS, "bridge.py"), end, "--x25", support.PROGRAM, *words]
-        child = subprocess.Popen(command, stdin=subprocess.PIPE, stdout=subprocess.PIPE, stderr=subprocess.PIPE, text=True)
+        command = [
+            sys.executable,
+            os.path.join(support.TOOLS, "bridge.py"),
+            end,
+            "--x25",
+            support.PROGRAM,
+            *words,
+        ]
+        child = subprocess.Popen(
+            command,
+            stdin=subprocess.PIPE,
+            stdout=subprocess.PIPE,
+            stderr=subprocess.PIPE,
+            text=True,
+        )
         # Whoever waits in vain for a notice comes to the end of them.
         timer = threading.Timer(SECONDS, child.kill)
         timer.daemon = True
@@ -296,9 +413,24 @@ class Processes(Pair, ToolCase):
         dce_files, dce_told = self.by_files("dce", ANSWER)
         dte_files, dte_told = self.by_files("dte", OPENING + "dte send 1 0 6869\n")
         both = []
-        for end, reader, writer, words in (("dce", from_dte, to_dte, ["--quiet", "8", *dce_files]), ("dte", from_dce, to_dce, ["--quiet", "1", *dte_files])):
-            command = [sys.executable, os.path.join(support.TOOLS, "bridge.py"), end, "--stdio", "--t1", "1", "--x25", support.PROGRAM, *words]
-            both.append(subprocess.Popen(command, stdin=reader, stdout=writer, stderr=subprocess.PIPE))
+        for end, reader, writer, words in (
+            ("dce", from_dte, to_dte, ["--quiet", "8", *dce_files]),
+            ("dte", from_dce, to_dce, ["--quiet", "1", *dte_files]),
+        ):
+            command = [
+                sys.executable,
+                os.path.join(support.TOOLS, "bridge.py"),
+                end,
+                "--stdio",
+                "--t1",
+                "1",
+                "--x25",
+                support.PROGRAM,
+                *words,
+            ]
+            both.append(
+                subprocess.Popen(command, stdin=reader, stdout=writer, stderr=subprocess.PIPE)
+            )
             self.addCleanup(both[-1].kill)
         for number in (from_dce, to_dte, from_dte, to_dce):
             os.close(number)
@@ -306,21 +438,37 @@ class Processes(Pair, ToolCase):
             self.assertEqual((child.communicate(timeout=SECONDS)[1], child.returncode), (b"", 0))
         self.assert_call(self.told(dte_told), self.told(dce_told))
 
-    @unittest.skipUnless(os.geteuid() == 0 and shutil.which("ip") and shutil.which("unshare"), "only root makes interfaces of Ethernet, by ip and unshare")
+    @unittest.skipUnless(
+        os.geteuid() == 0 and shutil.which("ip") and shutil.which("unshare"),
+        "only root makes interfaces of Ethernet, by ip and unshare",
+    )
     def test_a_call_over_ethernet(self):
-        script = "ip link add x0 type veth peer name x1 && ip link set x0 up && ip link set x1 up && "
-        bridge = f"{sys.executable} {os.path.join(support.TOOLS, 'bridge.py')} --x25 {support.PROGRAM} --t1 1"
+        script = (
+            "ip link add x0 type veth peer name x1 && ip link set x0 up && ip link set x1 up && "
+        )
+        bridge = (
+            f"{sys.executable} {os.path.join(support.TOOLS, 'bridge.py')} --x25 {support.PROGRAM} "
+            "--t1 1"
+        )
         dce_files, dce_told = self.by_files("dce", ANSWER)
         dte_files, dte_told = self.by_files("dte", OPENING + "dte send 1 0 6869\n")
-        script += f"{{ {bridge} --ethernet x0 --quiet 3 {' '.join(dce_files)} dce & {bridge} --ethernet x1 --quiet 1 {' '.join(dte_files)} dte; wait; }}"
-        done = subprocess.run(["unshare", "-n", "sh", "-c", script], capture_output=True, timeout=SECONDS)
+        script += (
+            f"{{ {bridge} --ethernet x0 --quiet 3 {' '.join(dce_files)} dce & {bridge} --ethernet "
+            f"x1 --quiet 1 {' '.join(dte_files)} dte; wait; }}"
+        )
+        done = subprocess.run(
+            ["unshare", "-n", "sh", "-c", script], capture_output=True, timeout=SECONDS
+        )
         self.assertEqual(done.returncode, 0, done.stderr)
         said = "bridge.py: {} has an MTU of 1500: packets of up to 1024 octets fit (size 10)"
-        self.assertEqual(sorted(done.stderr.decode().splitlines()), [said.format(name) for name in ("x0", "x1")])
+        self.assertEqual(
+            sorted(done.stderr.decode().splitlines()), [said.format(name) for name in ("x0", "x1")]
+        )
         self.assert_call(self.told(dte_told), self.told(dce_told))
 
     def test_a_bridge_is_killed(self):
-        """At each stage: while it listens or calls, while the link is set up, with a call, with messages under way; another one goes on."""
+        """At each stage: while it listens or calls, while the link is set up, with a call, with
+        messages under way; another one goes on."""
         dte, dce, words = self.joined("--t3", "1")
         for stage in range(4):
             with self.subTest(stage):
@@ -330,7 +478,9 @@ class Processes(Pair, ToolCase):
                     self.open_call(dte, dce)
                 elif stage == 3:
                     self.open_call(dte, dce)
-                    self.asks(dte, *[f"dte send 1 0 {message('dte', number)}" for number in range(200)])
+                    self.asks(
+                        dte, *[f"dte send 1 0 {message('dte', number)}" for number in range(200)]
+                    )
                     self.hears(dce, "dce message")
                 self.finish(dte)
                 dte = self.begin("dte", *words)
@@ -344,7 +494,8 @@ class Processes(Pair, ToolCase):
         self.finish(dte, again)
 
     def test_the_bridge_that_listens_is_killed(self):
-        """With a call, without a link, with a link alone, with messages under way: the other one meets the next."""
+        """With a call, without a link, with a link alone, with messages under way: the other one
+        meets the next."""
         dte, dce, words = self.joined("--t3", "1")
         port = words[words.index("--connect") + 1]
         for stage in range(4):
@@ -354,12 +505,19 @@ class Processes(Pair, ToolCase):
                     self.hears(dte, "dte restarted")
                 elif stage == 3:
                     self.open_call(dte, dce)
-                    self.asks(dce, *[f"dce send 1 0 {message('dce', number)}" for number in range(200)])
+                    self.asks(
+                        dce, *[f"dce send 1 0 {message('dce', number)}" for number in range(200)]
+                    )
                     self.hears(dte, "dte message")
                 self.finish(dce)
                 dce = self.begin("dce", "--listen", port, "--stay", "--t1", "0.3", "--n2", "5")
                 dce.stderr.readline()
-                self.hears_all(dte, "# the connection has ended", "# connected to", *["dte linkdown"][: stage != 1])
+                self.hears_all(
+                    dte,
+                    "# the connection has ended",
+                    "# connected to",
+                    *["dte linkdown"][: stage != 1],
+                )
         self.open_call(dte, dce)
         self.finish(dte, dce)
 
@@ -374,7 +532,8 @@ class Processes(Pair, ToolCase):
         self.finish(dce)
 
     def test_a_line_that_dies_silently(self):
-        """Nothing comes any more, and the connection stands: the poll isn't answered, and the link goes down."""
+        """Nothing comes any more, and the connection stands: the poll isn't answered, and the link
+        goes down."""
         dte, dce, _ = self.joined("--t3", "0.5")
         time.sleep(2)
         dce.send_signal(signal.SIGSTOP)
@@ -384,11 +543,21 @@ class Processes(Pair, ToolCase):
         self.hears(dce, "dce linkdown")
         self.finish(dte, dce)
 
-    @unittest.skipUnless(os.geteuid() == 0 and shutil.which("ip") and shutil.which("unshare"), "only root makes interfaces of Ethernet, by ip and unshare")
+    @unittest.skipUnless(
+        os.geteuid() == 0 and shutil.which("ip") and shutil.which("unshare"),
+        "only root makes interfaces of Ethernet, by ip and unshare",
+    )
     def test_an_interface_that_goes_down(self):
-        """For some seconds, and one that is taken away and comes again; and calls whose packets don't fit."""
-        bridge = f"{sys.executable} -u {os.path.join(support.TOOLS, 'bridge.py')} --x25 {support.PROGRAM} --t1 0.5 --n2 100 --stay"
-        make = "ip link add x0 mtu 1000 type veth peer name x1 mtu 1000 && ip link set x0 up && ip link set x1 up"
+        """For some seconds, and one that is taken away and comes again; and calls whose packets
+        don't fit."""
+        bridge = (
+            f"{sys.executable} -u {os.path.join(support.TOOLS, 'bridge.py')} --x25 "
+            f"{support.PROGRAM} --t1 0.5 --n2 100 --stay"
+        )
+        make = (
+            "ip link add x0 mtu 1000 type veth peer name x1 mtu 1000 && ip link set x0 up && ip "
+            "link set x1 up"
+        )
         script = f"""{make}
         ip link set x1 down
         mkfifo "$1/dte.in" "$1/dce.in"
@@ -396,10 +565,15 @@ class Processes(Pair, ToolCase):
         {bridge} --ethernet x1 dte <"$1/dte.in" >"$1/dte.out" 2>"$1/dte.err" & dte=$!
         exec 3>"$1/dce.in" 4>"$1/dte.in"
         {bridge} --ethernet x9 dte && exit 1
-        comes() {{ for i in $(seq 300); do grep -q "$2" "$1" && return; sleep 0.1; done; echo "no $2" >&2; exit 1; }}
+        comes() {{
+            for i in $(seq 300); do grep -q "$2" "$1" && return; sleep 0.1; done
+            echo "no $2" >&2
+            exit 1
+        }}
         comes "$1/dte.out" 'x1 is down; waiting for it'
         ip link set x1 up
-        printf 'dte connect\nwait dte restarted\ndte call 1 2 - 10 10 2 2\ndte with 0101 - d call 1 2 - 10 10 2 2\ndte call 1 2 - 9 9 2 2\n' >&4
+        printf 'dte connect\nwait dte restarted\ndte call 1 2 - 10 10 2 2\n' >&4
+        printf 'dte with 0101 - d call 1 2 - 10 10 2 2\ndte call 1 2 - 9 9 2 2\n' >&4
         comes "$1/dce.out" incoming
         echo 'dce accept 1' >&3
         comes "$1/dte.out" connected
@@ -419,12 +593,28 @@ class Processes(Pair, ToolCase):
         kill $dce $dte
         wait
         """
-        done = subprocess.run(["unshare", "-n", "sh", "-c", script, "sh", self.folder], capture_output=True, timeout=SECONDS)
-        told = {name: support.read(os.path.join(self.folder, name)).decode() for name in ("dte.out", "dce.out", "dte.err", "dce.err")}
-        self.assertEqual((done.returncode, done.stderr), (0, b"bridge.py: x9: No such device\n"), told)
-        self.assertEqual(told["dte.err"], "bridge.py: x1 has an MTU of 1000: packets of up to 512 octets fit (size 9)\n")
+        done = subprocess.run(
+            ["unshare", "-n", "sh", "-c", script, "sh", self.folder],
+            capture_output=True,
+            timeout=SECONDS,
+        )
+        told = {
+            name: support.read(os.path.join(self.folder, name)).decode()
+            for name in ("dte.out", "dce.out", "dte.err", "dce.err")
+        }
+        self.assertEqual(
+            (done.returncode, done.stderr), (0, b"bridge.py: x9: No such device\n"), told
+        )
+        self.assertEqual(
+            told["dte.err"],
+            "bridge.py: x1 has an MTU of 1000: packets of up to 512 octets fit (size 9)\n",
+        )
         for command in ("dte call 1 2 - 10 10 2 2", "dte with 0101 - d call 1 2 - 10 10 2 2"):
-            self.assertIn(f"! 34\n# ! 34, packet sizes over 9 (512 octets) don't fit the line: {command!r}\n", told["dte.out"])
+            self.assertIn(
+                "! 34\n# ! 34, packet sizes over 9 (512 octets) don't fit the line: "
+                f"{command!r}\n",
+                told["dte.out"],
+            )
 
 
 if __name__ == "__main__":

@@ -97,7 +97,9 @@ class Charts(ToolCase):
 
     def test_times(self):
         self.assertTrue(self.chart(b"1.5\t> SABM cmd P=1\n").endswith(">|  1.5\n"))
-        self.assertTrue(self.chart(b"1.5\t> 013febdf\n", "--x25", FAKE).endswith(">|  1.500000000\n"))
+        self.assertTrue(
+            self.chart(b"1.5\t> 013febdf\n", "--x25", FAKE).endswith(">|  1.500000000\n")
+        )
 
     @support.needs_program
     def test_a_capture(self):
@@ -105,20 +107,36 @@ class Charts(ToolCase):
         capture = os.path.join(support.ROOT, "examples", "line.pcapng")
         trace = support.run("pcap2x25.py", "--time", capture).stdout
         drawn = self.chart(trace, "--x25", support.PROGRAM)
-        self.assertEqual((self.chart(b"", "--x25", support.PROGRAM, capture), drawn.count("\n")), (drawn, trace.count(b"\n") + 2))
+        self.assertEqual(
+            (self.chart(b"", "--x25", support.PROGRAM, capture), drawn.count("\n")),
+            (drawn, trace.count(b"\n") + 2),
+        )
         self.assertRegex(drawn, r"(?m)-- SABM cmd P=1 -+>\|  2026-03-0[123] \d\d:\d\d:02\.000$")
         done = support.run("chart.py", "--connection", "2", capture)
-        self.assertEqual((done.returncode, done.stderr), (2, b"chart.py: there is no connection 2: the last is 1\n"))
+        self.assertEqual(
+            (done.returncode, done.stderr),
+            (2, b"chart.py: there is no connection 2: the last is 1\n"),
+        )
 
     def test_long_texts_are_cut(self):
-        for line in (b"> I cmd P=0 S=0 R=0 | DATA ch=1 S=0 R=0 M=0 Q=0 data=" + b"00" * 4096, b"dce message ch=1 at 1.0.0 q=0 data=" + b"00" * 65535):
+        for line in (
+            b"> I cmd P=0 S=0 R=0 | DATA ch=1 S=0 R=0 M=0 Q=0 data=" + b"00" * 4096,
+            b"dce message ch=1 at 1.0.0 q=0 data=" + b"00" * 65535,
+        ):
             rows = self.chart(line + b"\n").splitlines()[2:]
             self.assertEqual([len(row) for row in rows], [81])
             self.assertIn("..", rows[0])
 
     def test_all_rows_are_as_wide(self):
-        rows = [drawing.Frame(direction, "x" * length, fate) for direction in "<>" for length in (0, 1, 30, 200) for fate in (None, "lost", "damaged", "on the line")]
-        rows += [drawing.Entry(end, "y" * length) for end in ("dte", "dce") for length in (0, 200)] + [drawing.Note("z"), drawing.Note("z" * 200)]
+        rows = [
+            drawing.Frame(direction, "x" * length, fate)
+            for direction in "<>"
+            for length in (0, 1, 30, 200)
+            for fate in (None, "lost", "damaged", "on the line")
+        ]
+        rows += [
+            drawing.Entry(end, "y" * length) for end in ("dte", "dce") for length in (0, 200)
+        ] + [drawing.Note("z"), drawing.Note("z" * 200)]
         for width in (40, 76, 401):
             self.assertEqual({len(drawing.Text(width).row(row)) for row in rows}, {width + 5})
 
@@ -126,7 +144,10 @@ class Charts(ToolCase):
         root = ElementTree.fromstring(self.chart(SCRIPT, "--svg", "--script", "--x25", FAKE))
         lines = root.findall(f"{SVG}line")
         sorts = [line.get("class") for line in lines]
-        self.assertEqual({sort: sorts.count(sort) for sort in set(sorts)}, {"life": 2, "frame": 7, "damaged": 1, "lost": 1, "waiting": 1})
+        self.assertEqual(
+            {sort: sorts.count(sort) for sort in set(sorts)},
+            {"life": 2, "frame": 7, "damaged": 1, "lost": 1, "waiting": 1},
+        )
         self.assertEqual(len(root.findall(f"{SVG}circle")), 6)
         texts = [text.text for text in root.iter(f"{SVG}text")]
         self.assertIn("RR rsp F=0 R=1  (lost)", texts)
@@ -159,7 +180,9 @@ class Charts(ToolCase):
 
     @support.needs_program
     def test_the_picture_of_the_manual(self):
-        picture = self.chart(support.read("examples/repeat.trace"), "--svg", "--x25", support.PROGRAM)
+        picture = self.chart(
+            support.read("examples/repeat.trace"), "--svg", "--x25", support.PROGRAM
+        )
         self.assertEqual(picture, support.read("docs/repeat.svg").decode())
 
     @support.needs_program
@@ -179,26 +202,54 @@ class Charts(ToolCase):
 
 class Refused(ToolCase):
     def test_lines_that_are_none(self):
-        for line in (b"x", b"> 0", b"> what", b"dte", b"> SABM cmd P=1\r\r", b"\xff\xfe", b"! x", b"dte \x1b[2J"):
+        for line in (
+            b"x", b"> 0", b"> what", b"dte", b"> SABM cmd P=1\r\r", b"\xff\xfe", b"! x",
+            b"dte \x1b[2J",
+        ):
             with self.subTest(line):
-                self.assert_refused(support.run("chart.py", "--x25", FAKE, given=DECODED + line + b"\n"), "line 6 is no line of decode")
+                self.assert_refused(
+                    support.run("chart.py", "--x25", FAKE, given=DECODED + line + b"\n"),
+                    "line 6 is no line of decode",
+                )
 
     def test_scripts_that_are_none(self):
         for line in (b"drain 0", b"deliver", b" # comment"):
             with self.subTest(line):
-                self.assert_refused(support.run("chart.py", "--script", "--x25", FAKE, given=b"damage > 0 013febdf\n" + line + b"\n"), f"line 2 of the script: no such event '{line.decode()}'")
+                self.assert_refused(
+                    support.run(
+                        "chart.py",
+                        "--script",
+                        "--x25",
+                        FAKE,
+                        given=b"damage > 0 013febdf\n" + line + b"\n",
+                    ),
+                    f"line 2 of the script: no such event '{line.decode()}'",
+                )
 
     def test_programs_that_are_none(self):
-        for program, words in ((os.path.join(self.folder, "none"), "No such file"), ("/bin/true", "didn't answer line by line")):
+        for program, words in (
+            (os.path.join(self.folder, "none"), "No such file"),
+            ("/bin/true", "didn't answer line by line"),
+        ):
             self.assert_refused(support.run("chart.py", "--x25", program, given=RUN), words)
-        self.assert_refused(support.run("chart.py", "--script", "--x25", "/bin/echo", given=b"deliver >\n"), "didn't answer event by event")
-        self.assert_refused(support.run("chart.py", "--script", "--x25", FAKE, given=b"deliver >\n"), "sim: the script is another one")
+        self.assert_refused(
+            support.run("chart.py", "--script", "--x25", "/bin/echo", given=b"deliver >\n"),
+            "didn't answer event by event",
+        )
+        self.assert_refused(
+            support.run("chart.py", "--script", "--x25", FAKE, given=b"deliver >\n"),
+            "sim: the script is another one",
+        )
 
     def test_a_large_sparse_file(self):
-        self.assert_refused(support.run("chart.py", self.sparse("trace", DECODED)), "line 6 is longer than")
+        self.assert_refused(
+            support.run("chart.py", self.sparse("trace", DECODED)), "line 6 is longer than"
+        )
 
     def test_too_many_rows_for_a_picture(self):
-        self.assert_refused(support.run("chart.py", "--svg", given=b"? 60\n" * 10_001), "at most 10,000 rows")
+        self.assert_refused(
+            support.run("chart.py", "--svg", given=b"? 60\n" * 10_001), "at most 10,000 rows"
+        )
 
     def test_help_and_bad_words(self):
         self.assertEqual(support.run("chart.py", "--help").returncode, 0)

@@ -1,4 +1,5 @@
-"""Tests of the tables of docs/CIRCUIT.md: each cell is played on `x25 station`, at both ends, and the state after it is found out."""
+"""Tests of the tables of docs/CIRCUIT.md: each cell is played on `x25 station`, at both ends, and
+the state after it is found out."""
 
 import re
 import unittest
@@ -23,7 +24,8 @@ PACKETS = {
     "INT CONF": bytes((INTERRUPT_CONFIRMATION,)),
 }
 
-# Octets that spell no packet, by the diagnostic of their error: the first one, and those after the channel.
+# Octets that spell no packet, by the diagnostic of their error: the first one, and those after the
+# channel.
 NONE = {
     0: (0x10, bytes((CALL, 0x11, 0x1A, 0))),  # a digit of an address that is none
     33: (0x10, bytes((0x09,))),  # a code that is none
@@ -45,7 +47,8 @@ WAYS = {
     "clr": (PACKETS["CALL"], "clear 1"),
 }
 
-# In d1: the row of the table, what goes before the packet, its first octet and those after the channel, and what is sent where no error is.
+# In d1: the row of the table, what goes before the packet, its first octet and those after the
+# channel, and what is sent where no error is.
 IN_D1 = (
     (0, (), 0x10, bytes((0x20, 7)), []),
     (0, (), 0x10, bytes((0x20 | RR,)), []),
@@ -62,7 +65,8 @@ IN_D1 = (
     (8, ("int 1 05",), 0x10, PACKETS["INT CONF"], []),
 )
 
-# Packet sizes and windows that are proposed and answered, and whether each answered one is from the proposed one to the default.
+# Packet sizes and windows that are proposed and answered, and whether each answered one is from
+# the proposed one to the default.
 ANSWERS = (
     ((7, 7, 1, 7), (7, 7, 0, 7), False),
     ((7, 7, 1, 7), (7, 7, 1, 7), True),
@@ -77,7 +81,14 @@ ANSWERS = (
     ((5, 9, 2, 2), (6, 8, 2, 2), True),
 )
 
-S = {"p1": (20, 20), "out": (21, 22), "in": (22, 21), "d1": (23, 23), "rst": (23, 23), "p5": (24, 24)}
+S = {
+    "p1": (20, 20),
+    "out": (21, 22),
+    "in": (22, 21),
+    "d1": (23, 23),
+    "rst": (23, 23),
+    "p5": (24, 24),
+}
 
 REQUESTS = {
     "Call": ("call 1 2 -", CALL),
@@ -95,13 +106,20 @@ CHANNEL = re.compile(r"ch=1\b( at [0-9.]+)? ?")
 
 def table(heading):
     """The rows of the table under a heading of the document, the first one apart."""
-    text = support.read("docs", "CIRCUIT.md").decode().partition(f"\n## {heading}\n")[2].partition("\n## ")[0]
-    first, _, *rows = ([cell.strip() for cell in line.strip("|").split("|")] for line in text.splitlines() if line.startswith("|"))
+    text = support.read("docs", "CIRCUIT.md").decode().partition(
+        f"\n## {heading}\n"
+    )[2].partition("\n## ")[0]
+    first, _, *rows = (
+        [cell.strip() for cell in line.strip("|").split("|")]
+        for line in text.splitlines()
+        if line.startswith("|")
+    )
     return first, rows
 
 
 class Linked:
-    """A station whose link is up; packets come to it in I frames, and those that it sends are acknowledged by the next one."""
+    """A station whose link is up; packets come to it in I frames, and those that it sends are
+    acknowledged by the next one."""
 
     def __init__(self, end):
         self.end, self.station = end, Station(support.PROGRAM, end)
@@ -115,7 +133,8 @@ class Linked:
         return self.heard(self.station.ask(f"{self.mark} {(octets + fcs(octets)).hex()}"))
 
     def heard(self, answer):
-        """The entries of an answer, each without the end and the stretch, after its refusal, and the packets that were sent."""
+        """The entries of an answer, each without the end and the stretch, after its refusal, and
+        the packets that were sent."""
         told = [answer.refusal, *answer.notices] if answer.refusal else answer.notices
         packets = []
         for frame in answer.frames:
@@ -123,7 +142,10 @@ class Linked:
             if octets[1] & 1 == 0:
                 self.taken = (self.taken + 1) % 8
                 packets.append(octets[2:-2])
-        return [CHANNEL.sub("", entry.removeprefix(self.end + " ")).strip() for entry in told], packets
+        return (
+            [CHANNEL.sub("", entry.removeprefix(self.end + " ")).strip() for entry in told],
+            packets,
+        )
 
     def comes(self, body, channel=1, first=0x10):
         octets = bytes((self.address, self.taken << 5 | self.sent << 1, first, channel)) + body
@@ -146,7 +168,8 @@ class Linked:
         return not self.asks(words)[0][:1] == ["! 30"]
 
     def state(self):
-        """The state that it is in, found out by what it takes and answers; it isn't in that one then."""
+        """The state that it is in, found out by what it takes and answers; it isn't in that one
+        then."""
         if self.is_taken("ready 1"):
             return "d1"
         if self.is_taken("accept 1"):
@@ -154,7 +177,11 @@ class Linked:
         if self.asks("call 1 2 -")[0] != ["! 41"]:
             return "p1"
         told = self.comes(PACKETS["RESET CONF"])[0]
-        states = {"resetdone": "rst", f"fault diag={S['out'][self.end == 'dce']}": "out", "fault diag=24": "p5"}
+        states = {
+            "resetdone": "rst",
+            f"fault diag={S['out'][self.end == 'dce']}": "out",
+            "fault diag=24": "p5",
+        }
         return states[told[0]] if told else "clr"
 
 
@@ -168,20 +195,28 @@ class Tables(unittest.TestCase):
     def error(self, linked, of_call, diagnostic, cause=19):
         """CLEAR or RESET for an error, what is told, and the state."""
         kind, cause, state = (CLEAR, cause, "clr") if of_call else (RESET, 5, "rst")
-        return [f"fault diag={diagnostic}"], [bytes((kind, 128 if linked.end == "dte" else cause, diagnostic))], state
+        return (
+            [f"fault diag={diagnostic}"],
+            [bytes((kind, 128 if linked.end == "dte" else cause, diagnostic))],
+            state,
+        )
 
     def wanted(self, linked, cell, state, diagnostic):
         """What a cell says: what is told, what is sent, and the state after it."""
         where = linked.end == "dce"
         if cell in ("E S", "E"):
             number = S[state][where] if cell == "E S" else diagnostic
-            return self.error(linked, True, number, 3 if cell == "E" and number in (65, 66) else 19)
+            return self.error(
+                linked, True, number, 3 if cell == "E" and number in (65, 66) else 19
+            )
         if cell[0] == "F":
             return self.error(linked, False, int(cell[2:] or diagnostic))
         if cell == "dropped":
             return [], [], state
         after, *rest = cell.partition(", or")[0].split(", ")
-        return [word.strip("`") for word in rest if word != "CONF"], [None] * ("CONF" in rest), after
+        return (
+            [word.strip("`") for word in rest if word != "CONF"], [None] * ("CONF" in rest), after
+        )
 
     def cell(self, linked, state, cell, body, diagnostic=None, first=0x10):
         linked.goes_to(state)
@@ -189,12 +224,24 @@ class Tables(unittest.TestCase):
         sent = [packet[2:] for packet in packets]
         told_wanted, sent_wanted, after = self.wanted(linked, cell, state, diagnostic)
         confirmation = {CLEAR: CLEAR_CONFIRMATION, RESET: RESET_CONFIRMATION}.get(body[0])
-        sent_wanted = [bytes((confirmation,)) if octets is None else octets for octets in sent_wanted]
-        self.assertEqual(([entry if entry.startswith("fault") else entry.partition(" ")[0] for entry in told], sent), (told_wanted, sent_wanted))
+        sent_wanted = [
+            bytes((confirmation,)) if octets is None else octets for octets in sent_wanted
+        ]
+        self.assertEqual(
+            (
+                [
+                    entry if entry.startswith("fault") else entry.partition(" ")[0]
+                    for entry in told
+                ],
+                sent,
+            ),
+            (told_wanted, sent_wanted),
+        )
         self.assertEqual(linked.state(), after)
 
     def columns(self, linked, first, row):
-        """The states of an end, and the cells under them; 'as' stands for the cell of another state, which is named before it."""
+        """The states of an end, and the cells under them; 'as' stands for the cell of another
+        state, which is named before it."""
         cells = dict(zip(first[1:], row[1:], strict=True))
         for state, cell in cells.items():
             if state != "p5" or linked.end == "dte":
@@ -236,10 +283,17 @@ class Tables(unittest.TestCase):
                     done = rows[place][2]
                     if done[0] == "F":
                         wanted = self.error(linked, False, int(done[2:]))
-                        self.assertEqual((told, [packet[2:] for packet in packets], linked.state()), wanted)
+                        self.assertEqual(
+                            (told, [packet[2:] for packet in packets], linked.state()), wanted
+                        )
                     else:
-                        self.assertEqual([entry.partition(" ")[0] for entry in told], re.findall("`([a-z]+)`", done))
-                        self.assertEqual(([packet[2] for packet in packets], linked.state()), (sent, "d1"))
+                        self.assertEqual(
+                            [entry.partition(" ")[0] for entry in told],
+                            re.findall("`([a-z]+)`", done),
+                        )
+                        self.assertEqual(
+                            ([packet[2] for packet in packets], linked.state()), (sent, "d1")
+                        )
         self.assertEqual({place for place, *_ in IN_D1}, set(range(len(rows))))
 
     def test_answers_to_a_proposal(self):
@@ -247,7 +301,9 @@ class Tables(unittest.TestCase):
             for proposed, answered, is_allowed in ANSWERS:
                 with self.subTest(end=linked.end, proposed=proposed, answered=answered):
                     linked.goes_to("p1")
-                    linked.comes(bytes((CALL, 0x11, 0x12, 6, 0x42, *proposed[:2], 0x43, *proposed[2:])))
+                    linked.comes(
+                        bytes((CALL, 0x11, 0x12, 6, 0x42, *proposed[:2], 0x43, *proposed[2:]))
+                    )
                     told, packets = linked.asks(f"accept 1 {' '.join(map(str, answered))}")
                     self.assertEqual(told == ["! 34"], not is_allowed)
                     self.assertEqual([packet[2] for packet in packets], [ACCEPTED] * is_allowed)
@@ -264,11 +320,17 @@ class Tables(unittest.TestCase):
                     for state in WAYS:
                         if state == "p5" and linked.end == "dce":
                             continue
-                        may = state not in ("p1", "clr") if where == "any but p1 and clr" else state == where
+                        may = (
+                            state not in ("p1", "clr")
+                            if where == "any but p1 and clr"
+                            else state == where
+                        )
                         with self.subTest(end=linked.end, request=name, state=state):
                             linked.goes_to(state)
                             told, packets = linked.asks(words)
-                            self.assertEqual([packet[2] for packet in packets], [code] if may else [])
+                            self.assertEqual(
+                                [packet[2] for packet in packets], [code] if may else []
+                            )
                             self.assertEqual(told[0] == f"! {number}", not may)
         self.assertEqual(sorted(names), sorted(REQUESTS))
 

@@ -109,7 +109,15 @@ class Typed(unittest.TestCase):
             self.assertTrue(circuits.never_comes(waited, "dte"), waited)
 
     def test_help_has_each_command(self):
-        script = set(re.findall(r"^\| `END (\w+)|, `END (\w+)", support.read("docs/FORMATS.md").decode().split("## Lines of a script")[1].split("## ")[0], re.MULTILINE))
+        script = set(
+            re.findall(
+                r"^\| `END (\w+)|, `END (\w+)",
+                support.read("docs/FORMATS.md").decode().split(
+                    "## Lines of a script"
+                )[1].split("## ")[0],
+                re.MULTILINE,
+            )
+        )
         commands = {name for pair in script for name in pair if name}
         self.assertEqual(set(console.COMMANDS), commands | {"wait", "status", "help", "quit"})
         for name in console.COMMANDS:
@@ -125,51 +133,119 @@ class Shown(unittest.TestCase):
         for notice, rows in (
             ("! 30", []),
             ("? 60", []),
-            ("# ! 30, not in this state of the channel: 'dte send 1 0 41'", ["# ! 30, not in this state of the channel: 'dte send 1 0 41'"]),
+            (
+                "# ! 30, not in this state of the channel: 'dte send 1 0 41'",
+                ["# ! 30, not in this state of the channel: 'dte send 1 0 41'"],
+            ),
             ("dte accept ch=1", ["accept ch=1"]),
             (MESSAGE + "-", ["message ch=1 at 1.0.0 q=0 data=-"]),
             (MESSAGE + "68656c6c6f", ['message ch=1 at 1.0.0 q=0 data=68656c6c6f  ("hello")']),
-            (MESSAGE + "68656c6c6f0d0a", ['message ch=1 at 1.0.0 q=0 data=68656c6c6f0d0a  ("hello"0d0a)']),
+            (
+                MESSAGE + "68656c6c6f0d0a",
+                ['message ch=1 at 1.0.0 q=0 data=68656c6c6f0d0a  ("hello"0d0a)'],
+            ),
             (MESSAGE + "6772c3bcc39f", ['message ch=1 at 1.0.0 q=0 data=6772c3bcc39f  ("grüß")']),
             (MESSAGE + "00ff4142", ["message ch=1 at 1.0.0 q=0 data=00ff4142"]),
-            (MESSAGE + "41" * 17, ["message ch=1 at 1.0.0 q=0 data: 17 octets", f"    0000  {'41 ' * 16} {'A' * 16}", f"    0010  41{' ' * 46} A"]),
-            ("dte cleared ch=1 cause=13 diag=67", ["cleared ch=1 cause=13 diag=67  (not obtainable; invalid called address; the call is refused, or has ended)"]),
-            ("dte clear ch=1 cause=9 diag=5", ["clear ch=1 cause=9 diag=5  (out of order; diagnostic 5)"]),
+            (
+                MESSAGE + "41" * 17,
+                [
+                    "message ch=1 at 1.0.0 q=0 data: 17 octets",
+                    f"    0000  {'41 ' * 16} {'A' * 16}",
+                    f"    0010  41{' ' * 46} A",
+                ],
+            ),
+            (
+                "dte cleared ch=1 cause=13 diag=67",
+                [
+                    "cleared ch=1 cause=13 diag=67  (not obtainable; invalid called address; the "
+                    "call is refused, or has ended)"
+                ],
+            ),
+            (
+                "dte clear ch=1 cause=9 diag=5",
+                ["clear ch=1 cause=9 diag=5  (out of order; diagnostic 5)"],
+            ),
             ("dte restart diag=33", ["restart diag=33  (unidentifiable packet)"]),
-            ("dte incoming ch=2 at 1.0.0 called=1 calling=- data=-", ["incoming ch=2 at 1.0.0 called=1 calling=- data=-  (`accept 2` takes the call, `clear 2` refuses it)"]),
-            ("dte call ch=1 at 1.0.0 called=1 calling=2 data=6869 size=8,8 win=3,3", ['call ch=1 at 1.0.0 called=1 calling=2 data=6869 size=8,8 win=3,3  ("hi"; no answer yet)']),
+            (
+                "dte incoming ch=2 at 1.0.0 called=1 calling=- data=-",
+                [
+                    "incoming ch=2 at 1.0.0 called=1 calling=- data=-  (`accept 2` takes the "
+                    "call, `clear 2` refuses it)"
+                ],
+            ),
+            (
+                "dte call ch=1 at 1.0.0 called=1 calling=2 data=6869 size=8,8 win=3,3",
+                [
+                    'call ch=1 at 1.0.0 called=1 calling=2 data=6869 size=8,8 win=3,3  ("hi"; no '
+                    'answer yet)'
+                ],
+            ),
             ("dte linkdown retries", ["linkdown retries  (nobody answers)"]),
-            ("dte fault ch=1 diag=27", ["fault ch=1 diag=27  (packet type invalid for state d1; the other end broke a rule)"]),
-            ("dte confirmed ch=1 at 1.0.0 count=2", ["confirmed ch=1 at 1.0.0 count=2  (the other end has taken what was sent with d)"]),
+            (
+                "dte fault ch=1 diag=27",
+                [
+                    "fault ch=1 diag=27  (packet type invalid for state d1; the other end broke a "
+                    "rule)"
+                ],
+            ),
+            (
+                "dte confirmed ch=1 at 1.0.0 count=2",
+                [
+                    "confirmed ch=1 at 1.0.0 count=2  (the other end has taken what was sent with "
+                    "d)"
+                ],
+            ),
             ("dte diagnostic diag=33", ["diagnostic diag=33  (unidentifiable packet)"]),
-            ("dte beside ch=1 fac=0101 data=41", ['beside ch=1 fac=0101 data=41  (reverse charging; "A")']),
+            (
+                "dte beside ch=1 fac=0101 data=41",
+                ['beside ch=1 fac=0101 data=41  (reverse charging; "A")'],
+            ),
         ):
             with self.subTest(notice):
                 self.assertEqual(console.shown(notice), rows)
 
     def test_what_is_too_long_is_said(self):
-        rows = console.shown("dte call ch=1 at 1.0.0 called=1 calling=2 data=" + "41" * 17 + " size=8,8 win=3,3")
-        self.assertEqual((len(rows), rows[0]), (3, "call ch=1 at 1.0.0 called=1 calling=2 data: 17 octets size=8,8 win=3,3  (no answer yet)"))
+        rows = console.shown(
+            "dte call ch=1 at 1.0.0 called=1 calling=2 data=" + "41" * 17 + " size=8,8 win=3,3"
+        )
+        self.assertEqual(
+            (len(rows), rows[0]),
+            (
+                3,
+                "call ch=1 at 1.0.0 called=1 calling=2 data: 17 octets size=8,8 win=3,3  (no "
+                "answer yet)",
+            ),
+        )
         rows = console.shown(MESSAGE + "00" * 60_000)
-        self.assertEqual((len(rows), rows[0], rows[-1]), (66, "message ch=1 at 1.0.0 q=0 data: 60,000 octets", "    and 58,976 more"))
+        self.assertEqual(
+            (len(rows), rows[0], rows[-1]),
+            (66, "message ch=1 at 1.0.0 q=0 data: 60,000 octets", "    and 58,976 more"),
+        )
 
     def test_each_reason_has_words(self):
-        reasons = re.search(r"REASON is (.*?)\.", support.read("docs/FORMATS.md").decode(), re.DOTALL)[1]
+        reasons = re.search(
+            r"REASON is (.*?)\.", support.read("docs/FORMATS.md").decode(), re.DOTALL
+        )[1]
         self.assertEqual(set(re.findall("`(.*?)`", reasons)), set(console.REASONS))
 
 
 class Live(ToolCase):
-    """A bridge at a terminal; the test is its station, by answers written by hand, and the other end."""
+    """A bridge at a terminal; the test is its station, by answers written by hand, and the other
+    end."""
 
     def program(self, answers):
         self.answers = self.file("answers", answers.encode())
-        program = self.file("x25", f'#!/bin/sh\nexec "{sys.executable}" "{FAKE}" "{self.answers}" "$@"\n'.encode())
+        program = self.file(
+            "x25", f'#!/bin/sh\nexec "{sys.executable}" "{FAKE}" "{self.answers}" "$@"\n'.encode()
+        )
         os.chmod(program, 0o755)
         return program
 
     def begin(self, answers, *words):
         program = self.program(answers)
-        self.terminal = Terminal(script("bridge.py", "dte", "--listen", "0", "--x25", program, "--t1", "0.5", *words))
+        self.terminal = Terminal(
+            script("bridge.py", "dte", "--listen", "0", "--x25", program, "--t1", "0.5", *words)
+        )
         self.addCleanup(self.terminal.close)
         self.terminal.shows("dte>")
 
@@ -194,9 +270,15 @@ class Live(ToolCase):
         self.line.sendall(f"{text}\n".encode())
 
     def test_a_greeting_a_command_and_the_end(self):
-        self.begin(f". off busy\n= dte connect\ndte connect\n{SABM}\n. start busy\n= {UA}\ndte linkup\n. off idle\n= dte disconnect\ndte disconnect\ndte linkdown local\n. off busy\n")
+        self.begin(
+            f". off busy\n= dte connect\ndte connect\n{SABM}\n. start busy\n= {UA}\ndte linkup\n. "
+            "off idle\n= dte disconnect\ndte disconnect\ndte linkdown local\n. off busy\n"
+        )
         self.join()
-        self.assertIn("This is the DTE, waiting for a connection, with 1 channel.\n`help` shows", self.terminal.shows("dte>"))
+        self.assertIn(
+            "This is the DTE, waiting for a connection, with 1 channel.\n`help` shows",
+            self.terminal.shows("dte>"),
+        )
         self.terminal.types("connect\r")
         self.terminal.shows("dte> connect\nconnect  (the link is to be set up)\ndte>")
         self.sends(UA)
@@ -204,10 +286,14 @@ class Live(ToolCase):
         self.assertFalse(self.terminal.echoes())
         self.terminal.types("quit\r")
         status, text = self.terminal.end()
-        self.assertEqual((status, text.splitlines()[-3:]), (0, ["dte> quit", "disconnect", "linkdown local  (it was ended here)"]))
+        self.assertEqual(
+            (status, text.splitlines()[-3:]),
+            (0, ["dte> quit", "disconnect", "linkdown local  (it was ended here)"]),
+        )
 
     def test_what_comes_stands_above_what_is_typed(self):
-        """Also where the cursor is within the line, which goes on to be edited, and where the screen is full."""
+        """Also where the cursor is within the line, which goes on to be edited, and where the
+        screen is full."""
         rows = "".join(f"= {UA}\n{MESSAGE}{number:04x}\n. off idle\n" for number in range(40))
         self.begin(". off idle\n" + rows + "= dte ready 12\ndte ready ch=12\n. off idle\n")
         self.join()
@@ -217,7 +303,10 @@ class Live(ToolCase):
             self.sends(UA)
             self.terminal.shows(f"data={number:04x}")
         text = self.terminal.shows("\ndte> redy 12")
-        self.assertEqual([it[-4:] for it in text.splitlines() if it.startswith("message")], [f"{number:04x}" for number in range(40)])
+        self.assertEqual(
+            [it[-4:] for it in text.splitlines() if it.startswith("message")],
+            [f"{number:04x}" for number in range(40)],
+        )
         self.terminal.types("a")
         self.terminal.shows("\ndte> ready 12")
         self.terminal.types("\r")
@@ -225,7 +314,10 @@ class Live(ToolCase):
 
     def test_editing(self):
         """A line of before comes again, and a word is completed."""
-        self.begin(". off idle\n= dte notready 1\n. off idle\n= dte notready 1\n. off idle\n= dte notready 2\n. off idle\n")
+        self.begin(
+            ". off idle\n= dte notready 1\n. off idle\n= dte notready 1\n. off idle\n= dte "
+            "notready 2\n. off idle\n"
+        )
         self.join()
         self.terminal.types("notready 1\r")
         self.asked(1)
@@ -257,7 +349,10 @@ class Live(ToolCase):
         """The terminal is left as it was, after CTRL-D, CTRL-C, and the end of the line."""
         for typed, status in (("\x04", 0), ("\x03", 130), (None, 0)):
             with self.subTest(typed):
-                self.begin(f". off idle\n= {UA}\ndte linkup\n. off idle\n= dte disconnect\ndte linkdown local\n. off idle\n")
+                self.begin(
+                    f". off idle\n= {UA}\ndte linkup\n. off idle\n= dte disconnect\ndte linkdown "
+                    "local\n. off idle\n"
+                )
                 self.join()
                 self.sends(UA)
                 self.terminal.shows("linkup")
@@ -274,11 +369,25 @@ class Live(ToolCase):
         self.terminal.shows("linkup")
         self.line.close()
         status, text = self.terminal.end()
-        self.assertEqual((status, text.splitlines()[-2:]), (1, ["# the connection has ended: the other end has closed it", "# the line has ended before all was done"]))
+        self.assertEqual(
+            (status, text.splitlines()[-2:]),
+            (
+                1,
+                [
+                    "# the connection has ended: the other end has closed it",
+                    "# the line has ended before all was done",
+                ],
+            ),
+        )
 
     def test_ctrl_c_twice(self):
         """The second one ends it at once; the terminal is as it was."""
-        self.begin(f". off idle\n= {UA}\ndte linkup\n. off idle\n= dte disconnect\ndte disconnect\n. off idle\n", "--t1", "60")
+        self.begin(
+            f". off idle\n= {UA}\ndte linkup\n. off idle\n= dte disconnect\ndte disconnect\n. off "
+            "idle\n",
+            "--t1",
+            "60",
+        )
         self.join()
         self.sends(UA)
         self.terminal.shows("linkup  (the link is up)\ndte>")
@@ -296,7 +405,16 @@ class Live(ToolCase):
 
     def test_a_job_in_the_background_is_no_console(self):
         """It would be stopped by its terminal."""
-        command = " ".join(script("bridge.py", "dte", "--listen", "0", "--x25", self.program(". off idle\n= dte disconnect\n. off idle\n")))
+        command = " ".join(
+            script(
+                "bridge.py",
+                "dte",
+                "--listen",
+                "0",
+                "--x25",
+                self.program(". off idle\n= dte disconnect\n. off idle\n"),
+            )
+        )
         self.terminal = Terminal(["bash", "-m", "-c", f"{command} & sleep 2; jobs; kill %1; wait"])
         self.addCleanup(self.terminal.close)
         text = self.terminal.end()[1]
@@ -304,8 +422,14 @@ class Live(ToolCase):
         self.assertNotIn("This is the DTE", text)
 
     def test_a_dumb_terminal_is_no_console(self):
-        program = self.program(". off idle\n= dte ready 1\ndte ready ch=1\n. off idle\n= dte disconnect\n. off idle\n")
-        self.terminal = Terminal(["env", "TERM=dumb", *script("bridge.py", "dte", "--listen", "0", "--x25", program, "--t1", "0.5")])
+        program = self.program(
+            ". off idle\n= dte ready 1\ndte ready ch=1\n. off idle\n= dte disconnect\n. off idle\n"
+        )
+        self.terminal = Terminal([
+            "env",
+            "TERM=dumb",
+            *script("bridge.py", "dte", "--listen", "0", "--x25", program, "--t1", "0.5"),
+        ])
         self.addCleanup(self.terminal.close)
         self.terminal.shows("listening on")
         self.join()
@@ -313,7 +437,9 @@ class Live(ToolCase):
         self.assertNotIn("This is the DTE", self.terminal.shows("dte ready ch=1"))
 
     def test_octets_that_are_no_text(self):
-        self.begin(". off idle\n= dte send 1 0 fffe\ndte send ch=1 at 1.0.0 q=0 data=fffe\n. off idle\n")
+        self.begin(
+            ". off idle\n= dte send 1 0 fffe\ndte send ch=1 at 1.0.0 q=0 data=fffe\n. off idle\n"
+        )
         self.join()
         os.write(self.terminal.file, b'send 1 0 "\xff\xfe"\r')
         self.terminal.shows("\nsend ch=1 at 1.0.0 q=0 data=fffe\ndte>")
@@ -328,7 +454,9 @@ class Live(ToolCase):
         self.begin(". off idle\n= dte accept 1\n! 30\n. off idle\n")
         self.join()
         self.terminal.types("accept 1\r")
-        self.terminal.shows("dte> accept 1\n# ! 30, not in this state of the channel: 'dte accept 1'\ndte>")
+        self.terminal.shows(
+            "dte> accept 1\n# ! 30, not in this state of the channel: 'dte accept 1'\ndte>"
+        )
 
 
 @support.needs_station
@@ -338,13 +466,27 @@ class Manual(ToolCase):
     def test_it_goes_as_it_stands_there(self):
         text = re.sub("^    ", "", support.read("docs/BRIDGE.md").decode(), flags=re.MULTILINE)
         port = str(*free_ports(1, socket.SOCK_STREAM))
-        other = re.search(r"^printf .*\\\n.* \| x25 bridge dce --listen 7000 .*$", text, re.MULTILINE)[0]
-        session = re.search(r"^x25 bridge dte --connect localhost:7000\nThis is(?:.+\n)*", text, re.MULTILINE)[0].replace("7000", port)
+        other = re.search(
+            r"^printf .*\\\n.* \| x25 bridge dce --listen 7000 .*$", text, re.MULTILINE
+        )[0]
+        session = re.search(
+            r"^x25 bridge dte --connect localhost:7000\nThis is(?:.+\n)*", text, re.MULTILINE
+        )[0].replace("7000", port)
         command, *lines = session.splitlines()
-        other = other.replace("7000", port).replace("x25 bridge", f'"{sys.executable}" "{support.TOOLS}/bridge.py" --x25 "{support.PROGRAM}"')
-        with subprocess.Popen(["bash", "-c", other], cwd=self.folder, stdout=subprocess.DEVNULL, stderr=subprocess.PIPE) as far:
+        other = other.replace("7000", port).replace(
+            "x25 bridge",
+            f'"{sys.executable}" "{support.TOOLS}/bridge.py" --x25 "{support.PROGRAM}"',
+        )
+        with subprocess.Popen(
+            ["bash", "-c", other],
+            cwd=self.folder,
+            stdout=subprocess.DEVNULL,
+            stderr=subprocess.PIPE,
+        ) as far:
             far.stderr.readline()
-            terminal = Terminal(script("bridge.py", *command.split()[2:], "--x25", support.PROGRAM))
+            terminal = Terminal(
+                script("bridge.py", *command.split()[2:], "--x25", support.PROGRAM)
+            )
             self.addCleanup(terminal.close)
             shown = ""
             for line in lines:

@@ -1,7 +1,8 @@
 """Runs the scripts of examples/ on the simulator, and says where its traces come from.
 
-Each script writes the transcript that stands beside it. Each trace is what went over the line in a run of a script, or the
-beginning of that: so two stations sent each of its frames, and the other one took it without fault, but for a damaged one.
+Each script writes the transcript that stands beside it. Each trace is what went over the line in a
+run of a script, or the beginning of that: so two stations sent each of its frames, and the other
+one took it without fault, but for a damaged one.
 """
 
 import os
@@ -17,7 +18,10 @@ from x25tools import drawing, simruns
 EXAMPLES = os.path.join(support.ROOT, "examples")
 
 # What a run says where a station was told of a fault, or refused what came.
-FAULT = re.compile(r"linkdown (?!local|disc)|(?:restarted|wasreset|cleared) .*cause=(?!0 diag=0$|7 diag=0$)|^! |^\? ")
+FAULT = re.compile(
+    r"linkdown (?!local|disc)|(?:restarted|wasreset|cleared) .*cause=(?!0 diag=0$|7 diag=0$)|^! |"
+    r"^\? "
+)
 
 
 def names(ending):
@@ -54,7 +58,9 @@ class Scripts(unittest.TestCase):
         for name in names(".script"):
             with self.subTest(name):
                 script = support.read("examples", f"{name}.script")
-                done = subprocess.run([support.PROGRAM, "sim"], input=script, capture_output=True, timeout=60)
+                done = subprocess.run(
+                    [support.PROGRAM, "sim"], input=script, capture_output=True, timeout=60
+                )
                 self.assertEqual(done.stdout, support.read("examples", f"{name}.transcript"))
                 self.assertEqual(done.returncode, 0)
 
@@ -66,14 +72,26 @@ OF_THE_USER = {8: "dce accept 1"}
 class Capture(support.ToolCase):
     @support.needs_program
     def test_a_station_is_the_network_of_the_capture(self):
-        """It answers the DTE's frames by those of the capture; that some come later there is what a line does."""
-        trace = support.run("pcap2x25.py", os.path.join(EXAMPLES, "line.pcapng")).stdout.decode().splitlines()
+        """It answers the DTE's frames by those of the capture; that some come later there is what
+        a line does."""
+        trace = support.run(
+            "pcap2x25.py", os.path.join(EXAMPLES, "line.pcapng")
+        ).stdout.decode().splitlines()
         given = []
         for number, line in enumerate(trace):
             given += [OF_THE_USER[number]] if number in OF_THE_USER else []
             given += [line] if line[0] == ">" else []
-        done = subprocess.run([support.PROGRAM, "station", "dce"], input="\n".join([*given, ""]), capture_output=True, text=True, timeout=60)
-        self.assertEqual([line for line in done.stdout.splitlines() if line[0] == "<"], [line for line in trace if line[0] == "<"])
+        done = subprocess.run(
+            [support.PROGRAM, "station", "dce"],
+            input="\n".join([*given, ""]),
+            capture_output=True,
+            text=True,
+            timeout=60,
+        )
+        self.assertEqual(
+            [line for line in done.stdout.splitlines() if line[0] == "<"],
+            [line for line in trace if line[0] == "<"],
+        )
 
     def test_it_is_a_capture_of_its_lines(self):
         path = os.path.join(EXAMPLES, "line.pcapng")

@@ -1,4 +1,5 @@
-"""Tests of interop/gateway.py: the test is the guest's device, and the other end of the connections of XOT."""
+"""Tests of interop/gateway.py: the test is the guest's device, and the other end of the
+connections of XOT."""
 
 import os
 import socket
@@ -23,7 +24,9 @@ class Gateway(unittest.TestCase):
         self.device.bind(("127.0.0.1", 0))
         self.server = socket.create_server(("127.0.0.1", 0))
         local, self.port = *free_ports(1), *free_ports(1, socket.SOCK_STREAM)
-        self.gateway = gateway.Gateway(local, self.device.getsockname()[1], self.port, self.server.getsockname()[1])
+        self.gateway = gateway.Gateway(
+            local, self.device.getsockname()[1], self.port, self.server.getsockname()[1]
+        )
         self.device.connect(("127.0.0.1", local))
         for each in (self.device, self.server):
             each.settimeout(10)
@@ -64,21 +67,27 @@ class Gateway(unittest.TestCase):
         octets = samples.xot(b"\x10\1\x0f", bytes.fromhex("10010041"))
         line.sendall(octets[:5])
         line.sendall(octets[5:])
-        self.assertEqual([self.takes(), self.takes()], [b"\0" + ACCEPT, bytes.fromhex("00" + "10050041")])
+        self.assertEqual(
+            [self.takes(), self.takes()], [b"\0" + ACCEPT, bytes.fromhex("00" + "10050041")]
+        )
         line.sendall(samples.xot(bytes.fromhex("1001130000")))
         self.assertEqual(self.takes(), bytes.fromhex("00" + "1005130000"))
         self.sends(CLEARED)
         self.assertEqual((self.packet(line), self.packet(line)), (CLEARED, b""))
 
     def test_a_call_of_the_other_end(self):
-        lines = [self.connection(socket.create_connection(("127.0.0.1", self.port))) for _ in range(2)]
+        lines = [
+            self.connection(socket.create_connection(("127.0.0.1", self.port))) for _ in range(2)
+        ]
         for channel, line in zip((255, 254), lines):
             line.sendall(samples.xot(b"\x10\1" + CALL[2:]))
             self.assertEqual(self.takes(), b"\0\x10" + bytes([channel]) + CALL[2:])
         lines[0].close()
         self.assertEqual(self.takes(), bytes.fromhex("00" + "10ff130900"))
         self.sends(bytes.fromhex("1000fb0000"))
-        self.assertEqual((self.takes(), self.packet(lines[1])), (bytes.fromhex("00" + "1000ff"), b""))
+        self.assertEqual(
+            (self.takes(), self.packet(lines[1])), (bytes.fromhex("00" + "1000ff"), b"")
+        )
 
 
 if __name__ == "__main__":

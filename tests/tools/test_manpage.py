@@ -18,7 +18,9 @@ COMPLETION = os.path.join(support.ROOT, "share", "x25.bash")
 
 def complete(*words, path=None):
     """What bash offers for the last of some words after `x25`."""
-    script = 'source "$1"; shift; COMP_WORDS=(x25 "$@"); COMP_CWORD=$#; _x25; echo "${COMPREPLY[*]}"'
+    script = (
+        'source "$1"; shift; COMP_WORDS=(x25 "$@"); COMP_CWORD=$#; _x25; echo "${COMPREPLY[*]}"'
+    )
     command = ["bash", "-c", script, "bash", COMPLETION, *words]
     environment = {**os.environ, "PATH": path or os.environ["PATH"]}
     done = subprocess.run(
@@ -29,32 +31,57 @@ def complete(*words, path=None):
 
 class Page(ToolCase):
     def test_what_the_manual_is_written_in(self):
-        text = "## `x25` \"a\"\n\nIt's `--k` **or**\n.no request\n\n    $ a\\b\n\n    'c\n\n| H | I |\n|---|---|\n| a \\| b | c |\n- one\n  two\n"
+        text = (
+            "## `x25` \"a\"\n\nIt's `--k` **or**\n.no request\n\n    $ a\\b\n\n    'c\n\n| H | I "
+            "|\n|---|---|\n| a \\| b | c |\n- one\n  two\n"
+        )
         drawn = support.run("manpage.py", self.file("manual", text.encode())).stdout.decode()
         body = drawn.split(".SH DESCRIPTION\n")[1].split(".SH SEE ALSO\n")[0]
-        expected = ".SH x25 \\(dqa\\(dq\n.PP\nIt's \\fB\\-\\-k\\fR \\fBor\\fR\n\\&.no request\n.PP\n.PP\n.nf\n.RS 4\n$ a\\eb\n\\&\n\\&'c\n\\&\n.RE\n.fi\n"
+        expected = (
+            ".SH x25 \\(dqa\\(dq\n.PP\nIt's \\fB\\-\\-k\\fR \\fBor\\fR\n\\&.no request\n.PP\n.PP\n"
+            ".nf\n.RS 4\n$ a\\eb\n\\&\n\\&'c\n\\&\n.RE\n.fi\n"
+        )
         expected += ".TP\nH\nI\n.TP\na | b\nc\n.IP \\(bu 2\none\ntwo\n"
         self.assertEqual(body, expected)
 
     def test_the_manual_keeps_its_headings_and_examples(self):
         manual = support.read("docs/MANUAL.md").decode()
         lines = "\n".join(manpage.roff(manual.splitlines())).splitlines()
-        self.assertEqual(sum(line.startswith(".SH") for line in lines), 4 + len(re.findall("^## ", manual, re.MULTILINE)))
-        self.assertEqual(sum(line.startswith("$ ") for line in lines), len(re.findall(r"^    \$ ", manual, re.MULTILINE)))
+        self.assertEqual(
+            sum(line.startswith(".SH") for line in lines),
+            4 + len(re.findall("^## ", manual, re.MULTILINE)),
+        )
+        self.assertEqual(
+            sum(line.startswith("$ ") for line in lines),
+            len(re.findall(r"^    \$ ", manual, re.MULTILINE)),
+        )
         self.assertEqual(lines.count(".nf"), lines.count(".fi"))
 
-    def test_the_synopsis_has_the_options_that_the_completion_offers(self):
-        self.assertEqual([*manpage.SYNOPSIS, *command.COMMANDS], [word for word in complete("") if word != "help" and word[0] != "-"])
-        for name, words in manpage.SYNOPSIS.items():
-            ends = re.findall(r"^(dte)\|dce", words)
+    def test_the_synopsis_and_the_completion_have_the_words_of_the_manual(self):
+        manual = support.read("docs/MANUAL.md").decode()
+        head = "\n".join(manpage.head(manual.splitlines()))
+        commands = re.findall(r"^\.B x25 (\w+)", head, re.MULTILINE)
+        self.assertIn(".B x25 station\nEND [OPTIONS] [FILE]\n", head)
+        offered = [word for word in complete("") if word != "help" and word[0] != "-"]
+        self.assertEqual([*commands, *command.COMMANDS], offered)
+        rows = re.findall(r"^\| `(--[\w-]+)(?: [A-Z]+)?` \| ([a-z, ]+) \| ", manual, re.MULTILINE)
+        for name in commands:
+            words = {word for word, having in rows if name in having.split(", ")}
+            ends = ["dte"] if name in ("station", "deframe") else []
             offered = {*complete(name, *ends, "--"), *complete(name, *ends, "--clock", "--")}
-            self.assertEqual({*re.findall(r"--[\w-]+", words), "--help"}, offered, name)
+            self.assertEqual({*words, "--help"}, offered, name)
 
     @unittest.skipUnless(shutil.which("groff"), "groff isn't installed")
     def test_groff_takes_it_without_a_warning(self):
         page = support.run("manpage.py").stdout
-        done = subprocess.run(["groff", "-man", "-Tascii", "-ww", "-z"], input=page, capture_output=True, timeout=60)
-        said = [line for line in done.stderr.decode().splitlines() if "break" not in line and "adjust" not in line]
+        done = subprocess.run(
+            ["groff", "-man", "-Tascii", "-ww", "-z"], input=page, capture_output=True, timeout=60
+        )
+        said = [
+            line
+            for line in done.stderr.decode().splitlines()
+            if "break" not in line and "adjust" not in line
+        ]
         self.assertEqual((done.returncode, said), (0, []))
 
 
@@ -88,10 +115,16 @@ class Completion(unittest.TestCase):
 
     @support.needs_program
     def test_all_words_of_the_program_are_offered(self):
-        for words in ([], ["decode"], ["sim"], ["station", "dte"], ["judge"], ["vectors"], ["frame"]):
-            done = subprocess.run([support.PROGRAM, *words, "--help"], capture_output=True, text=True, timeout=60)
+        for words in (
+            [], ["decode"], ["sim"], ["station", "dte"], ["judge"], ["vectors"], ["frame"]
+        ):
+            done = subprocess.run(
+                [support.PROGRAM, *words, "--help"], capture_output=True, text=True, timeout=60
+            )
             usage = done.stdout + done.stderr
-            said = set(re.findall(r"^  (?:    |-[hV], )?(--[\w-]+)", usage, re.MULTILINE)) | set(re.findall(r"^  (\w+)  ", usage, re.MULTILINE) if not words else [])
+            said = set(re.findall(r"^  (?:    |-[hV], )?(--[\w-]+)", usage, re.MULTILINE)) | set(
+                re.findall(r"^  (\w+)  ", usage, re.MULTILINE) if not words else []
+            )
             said |= set() if words else set(command.COMMANDS)
             self.assertTrue(said)
             offered = [*complete(*words, ""), *complete(*words, "--")]

@@ -1,5 +1,5 @@
-"""Random lists of events at two stations, by `x25 sim`: what is handed up at one end was handed down before at the other, in order, and
-once the line was good for a moment all of it has come."""
+"""Random lists of events at two stations, by `x25 sim`: what is handed up at one end was handed
+down before at the other, in order, and once the line was good for a moment all of it has come."""
 
 import collections
 import re
@@ -15,15 +15,22 @@ LISTS, EVENTS = support.runs(1000), 80
 ENDS, OTHER = ("dte", "dce"), {"dte": "dce", "dce": "dte"}
 ADDRESSES = ("-", "7", "0123456789", "999999999999999")
 # How often each command comes, of 64; `with` has packet sizes and windows.
-OFTEN = {"call": 8, "accept": 9, "clear": 2, "send": 19, "int": 6, "reset": 1, "ready": 2, "notready": 1, "call with": 6, "accept with": 7}
+OFTEN = {
+    "call": 8, "accept": 9, "clear": 2, "send": 19, "int": 6, "reset": 1, "ready": 2,
+    "notready": 1, "call with": 6, "accept with": 7,
+}
 OFTEN |= {"restart": 1, "connect": 1, "disconnect": 1}
 COMMANDS = [kind for kind, often in OFTEN.items() for _ in range(often)]
 # After each event, a line that is none parts what it told from what the next one tells.
 MARK, ANSWERED = "x", "? 60"
 HANDED = re.compile(r"(dte|dce) (call|send|int|incoming|message|interrupt) ch=(\d+) at (\S+) (.*)")
 DOWN_OF = {"incoming": "call", "message": "send", "interrupt": "int"}
-# What ends the stretch of a channel at an end, so that data may be lost; and what ends those of all its channels.
-ENDING = re.compile(r"(dte|dce) (?:(?:clear|cleared|reset|wasreset|collided) ch=(\d+)|(?:linkdown|restart|restarted|fault)\b)")
+# What ends the stretch of a channel at an end, so that data may be lost; and what ends those of
+# all its channels.
+ENDING = re.compile(
+    r"(dte|dce) (?:(?:clear|cleared|reset|wasreset|collided) ch=(\d+)|(?:linkdown|restart|"
+    r"restarted|fault)\b)"
+)
 
 
 def octets(dice, most):
@@ -31,10 +38,14 @@ def octets(dice, most):
 
 
 def params(dice):
-    """Packet sizes and windows: the defaults, which may always be answered, or any that may be proposed."""
+    """Packet sizes and windows: the defaults, which may always be answered, or any that may be
+    proposed."""
     if dice.chance(0.5):
         return " 7 7 2 2"
-    return "".join(f" {number}" for number in (4 + dice.below(9), 4 + dice.below(9), 1 + dice.below(7), 1 + dice.below(7)))
+    return "".join(
+        f" {number}"
+        for number in (4 + dice.below(9), 4 + dice.below(9), 1 + dice.below(7), 1 + dice.below(7))
+    )
 
 
 def command(dice, channels):
@@ -67,21 +78,31 @@ def event(dice, channels):
 
 
 def played(seed):
-    """The events of a list, each with its kind and the lines that it told; at the end all users are ready, and the line is good for a moment."""
+    """The events of a list, each with its kind and the lines that it told; at the end all users
+    are ready, and the line is good for a moment."""
     dice = losses.Dice(seed)
     k, n2, channels = 1 + dice.below(7), 1 + dice.below(20), 1 + dice.below(3)
     events = [event(dice, channels) for _ in range(EVENTS)]
-    events += [("ready", f"{end} ready {1 + channel}") for end in ENDS for channel in range(channels)] + [("heal", "heal")]
+    events += [
+        ("ready", f"{end} ready {1 + channel}") for end in ENDS for channel in range(channels)
+    ] + [("heal", "heal")]
     script = "".join(f"{line}\n{MARK}\n" for _, line in [("set-up", MARK), *events])
     words = ["sim", "--k", str(k), "--n2", str(n2), "--channels", str(channels)]
-    done = subprocess.run([PROGRAM, *words], input=script.encode(), stdout=subprocess.PIPE, stderr=subprocess.DEVNULL, timeout=60)
+    done = subprocess.run(
+        [PROGRAM, *words],
+        input=script.encode(),
+        stdout=subprocess.PIPE,
+        stderr=subprocess.DEVNULL,
+        timeout=60,
+    )
     told = [part.splitlines() for part in done.stdout.decode().split(f"{ANSWERED}\n")]
     # The first is what set-up told, the second is between two marks, and the last is after all.
     return [(kind, lines) for (kind, _), lines in zip(events, told[2:-1], strict=True)]
 
 
 def handed(lines):
-    """What was handed down or up: the number of its line, whether it is up, the end that it is from, its kind and stretch, and what it is."""
+    """What was handed down or up: the number of its line, whether it is up, the end that it is
+    from, its kind and stretch, and what it is."""
     for number, match in enumerate(map(HANDED.match, lines)):
         if match:
             end, word, channel, name, content = match.groups()
@@ -91,7 +112,8 @@ def handed(lines):
 
 
 def breaks(lines):
-    """What was handed up in a stretch that wasn't handed down before as the same in number, in the same stretch at the other end."""
+    """What was handed up in a stretch that wasn't handed down before as the same in number, in the
+    same stretch at the other end."""
     down, up = collections.defaultdict(list), collections.Counter()
     for _, is_up, place, content in handed(lines):
         if not is_up:
@@ -103,8 +125,12 @@ def breaks(lines):
 
 
 def open_stretches(lines):
-    """Of the stretches that nothing has ended, by their places: how many messages and interrupts were handed down, and how many up."""
-    ended = collections.defaultdict(lambda: -1, {match.groups(): number for number, match in enumerate(map(ENDING.match, lines)) if match})
+    """Of the stretches that nothing has ended, by their places: how many messages and interrupts
+    were handed down, and how many up."""
+    ended = collections.defaultdict(
+        lambda: -1,
+        {match.groups(): number for number, match in enumerate(map(ENDING.match, lines)) if match},
+    )
     counts = collections.defaultdict(lambda: [0, 0])
     for number, is_up, place, _ in handed(lines):
         giver, kind, channel, _ = place
@@ -133,7 +159,10 @@ class Order(ToolCase):
                     self.assertEqual(down, up, f"seed {seed}, {place}")
                     came += up
             self.assertEqual(list(breaks(told)), [], f"seed {seed}")
-        self.assertEqual({kind for kind in accepted if accepted[kind]}, {*OFTEN, "deliver", "lose", "damage", "t1", "heal"})
+        self.assertEqual(
+            {kind for kind in accepted if accepted[kind]},
+            {*OFTEN, "deliver", "lose", "damage", "t1", "heal"},
+        )
         self.assertGreater(came, support.runs(200))
         # In a tenth of the lists, those of an unproved program, none need begin anew.
         self.assertTrue(anew or LISTS < 1000)
@@ -142,8 +171,17 @@ class Order(ToolCase):
         sent = ["dte send ch=1 at 1.0.0 q=0 data=41", "dte send ch=1 at 1.0.0 q=1 data=42"]
         came = ["dce message ch=1 at 1.0.0 q=0 data=41", "dce message ch=1 at 1.0.0 q=1 data=42"]
         self.assertEqual(list(breaks(sent + came)), [])
-        others = ["dce message ch=1 at 1.0.1 q=0 data=41"], ["dte message ch=1 at 1.0.0 q=0 data=41"], ["dce message ch=1 at 1.0.0 q=0 data=-"]
-        for lines in (came + sent, sent + came[::-1], sent + [came[0]] * 2, *(sent + other for other in others)):
+        others = (
+            ["dce message ch=1 at 1.0.1 q=0 data=41"],
+            ["dte message ch=1 at 1.0.0 q=0 data=41"],
+            ["dce message ch=1 at 1.0.0 q=0 data=-"],
+        )
+        for lines in (
+            came + sent,
+            sent + came[::-1],
+            sent + [came[0]] * 2,
+            *(sent + other for other in others),
+        ):
             self.assertNotEqual(list(breaks(lines)), [], lines)
         self.assertEqual(open_stretches(sent + came[:1]), {("dte", "send", "1", "1.0.0"): [2, 1]})
         self.assertEqual(open_stretches(sent + ["dte reset ch=1"]), {})

@@ -1,6 +1,9 @@
-"""Tests of x25pad.py: what is typed and what comes, character by character; and two of them over two bridges, one at a terminal."""
+"""Tests of x25pad.py: what is typed and what comes, character by character; and two of them over
+two bridges, one at a terminal."""
 
+import argparse
 import contextlib
+import io
 import os
 import re
 import signal
@@ -77,7 +80,9 @@ class Half(unittest.TestCase):
         self.types("hi\r")
         self.comes(MESSAGE + "0 data=6f6b0d0a")
         self.types("\x10STAT\r\x10clr\r")
-        self.assertEqual((self.asked(), self.pad.stage), (["dte send 1 0 68690d", "dte clear 1"], "clearing"))
+        self.assertEqual(
+            (self.asked(), self.pad.stage), (["dte send 1 0 68690d", "dte clear 1"], "clearing")
+        )
         self.comes("dte clear ch=1", "dte cleardone ch=1")
         self.assertEqual(self.seen(), "hi\rok\r\n*STAT\r\nENGAGED\r\n*clr\r\nCLR CONF\r\n*")
         self.assertEqual((self.pad.stage, self.pad.status), ("free", 0))
@@ -113,20 +118,34 @@ class Half(unittest.TestCase):
                 self.assertEqual(self.asked(), [f"dte {asked}"])
 
     def test_more_text_than_a_call_has_room_for(self):
-        for typed, count in (("123D" + 13 * "x", 13), ("G07-123D" + 13 * "x", 13), ("R-123D" + 7 * "\u00e9", 14), ("F-123D" + 125 * "x", 125)):
+        for typed, count in (
+            ("123D" + 13 * "x", 13),
+            ("G07-123D" + 13 * "x", 13),
+            ("R-123D" + 7 * "\u00e9", 14),
+            ("F-123D" + 125 * "x", 125),
+        ):
             with self.subTest(typed):
                 self.begin()
                 self.seen()
                 for octet in f"{typed}\r".encode():
                     self.pad.types(octet)
                 self.assertEqual((self.asked(), self.pad.stage, self.pad.status), ([], "free", 1))
-                self.assertIn(f"ERR  the text has {count} octets: 12 at most, with fast select 124", self.seen())
+                self.assertIn(
+                    f"ERR  the text has {count} octets: 12 at most, with fast select 124",
+                    self.seen(),
+                )
 
     def test_what_comes_beside(self):
         self.begin()
         self.seen()
-        self.comes("dte incoming ch=1 at 1.0.0 called=1 calling=4567 data=-", "dte beside ch=1 fac=01010307 data=-", "dte accept ch=1")
-        self.assertEqual(self.seen(), "\r\n4567 COM\r\n# reverse charging, closed user group selection 07\r\n")
+        self.comes(
+            "dte incoming ch=1 at 1.0.0 called=1 calling=4567 data=-",
+            "dte beside ch=1 fac=01010307 data=-",
+            "dte accept ch=1",
+        )
+        self.assertEqual(
+            self.seen(), "\r\n4567 COM\r\n# reverse charging, closed user group selection 07\r\n"
+        )
         self.connect()
         self.comes("dte beside ch=1 fac=- data=57656c636f6d65", "dte beside ch=2 fac=0101 data=41")
         self.assertEqual(self.seen(), "Welcome")
@@ -138,8 +157,14 @@ class Half(unittest.TestCase):
             (("dte call ch=1 at 1.0.0", "dte cleared ch=1 cause=13 diag=67"), "CLR NP C:13 D:67"),
             (("dte call ch=1 at 1.0.0", "dte cleared ch=1 cause=0 diag=0"), "CLR DTE C:0 D:0"),
             (("dte call ch=1 at 1.0.0", "dte collided ch=1"), "CLR OCC  both ends called"),
-            (("dte call ch=1 at 1.0.0", "dte fault ch=1 diag=20", "dte cleardone ch=1"), "CLR ERR"),
-            (("! 41", "# ! 41, no channel is free: 'dte call 123'"), "# ! 41, no channel is free: 'dte call 123'"),
+            (
+                ("dte call ch=1 at 1.0.0", "dte fault ch=1 diag=20", "dte cleardone ch=1"),
+                "CLR ERR",
+            ),
+            (
+                ("! 41", "# ! 41, no channel is free: 'dte call 123'"),
+                "# ! 41, no channel is free: 'dte call 123'",
+            ),
         ):
             with self.subTest(said):
                 self.begin()
@@ -157,11 +182,18 @@ class Half(unittest.TestCase):
             with self.subTest(data):
                 self.begin()
                 self.seen()
-                self.comes(f"dte incoming ch=2 at 1.0.0 called=1 calling={calling} data={data}", "dte accept ch=2")
+                self.comes(
+                    f"dte incoming ch=2 at 1.0.0 called=1 calling={calling} data={data}",
+                    "dte accept ch=2",
+                )
                 asked = [f"dte {it}" for it in asked]
                 self.assertEqual((self.seen().split("\r\n")[1], self.asked()), (said, asked))
         self.connect()
-        self.comes("dte incoming ch=2 at 1.0.0 called=1 calling=2 data=01", "dte clear ch=2", "dte cleardone ch=2")
+        self.comes(
+            "dte incoming ch=2 at 1.0.0 called=1 calling=2 data=01",
+            "dte clear ch=2",
+            "dte cleardone ch=2",
+        )
         self.assertEqual((self.asked(), self.pad.stage), (["dte clear 2"], "open"))
 
     def test_the_user_data_of_a_call_that_comes_is_shown(self):
@@ -239,20 +271,39 @@ class Half(unittest.TestCase):
             ("set 6:5", ""),
             ("par? 1,2,3,4", "PAR 1:0,2:0,3:0,4:20"),
             ("prof 90", ""),
-            ("par?", "PAR 1:1,2:1,3:126,4:0,5:0,6:5,7:2,8:0,9:0,10:0,11:14,12:0,13:0,14:0,15:0,16:127,17:24,18:18,19:2,20:0,21:0,22:0"),
+            (
+                "par?",
+                "PAR 1:1,2:1,3:126,4:0,5:0,6:5,7:2,8:0,9:0,10:0,11:14,12:0,13:0,14:0,15:0,16:127,"
+                "17:24,18:18,19:2,20:0,21:0,22:0",
+            ),
         ):
             with self.subTest(typed):
                 self.seen()
                 self.types(f"{typed}\r")
-                self.assertEqual([line for line in self.seen().split("\r\n") if line.startswith("PAR ")], [said] if said else [])
+                self.assertEqual(
+                    [line for line in self.seen().split("\r\n") if line.startswith("PAR ")],
+                    [said] if said else [],
+                )
         self.types("help\r")
         shown = self.seen()
-        for name in ("STAT", "CLR", "ICLR", "INT", "RESET", "BREAK", "PAR?", "SET", "SET?", "PROF 90", "RPAR?", "RSET", "RSET?", "QUIT"):
+        for name in (
+            "STAT", "CLR", "ICLR", "INT", "RESET", "BREAK", "PAR?", "SET", "SET?", "PROF 90",
+            "RPAR?", "RSET", "RSET?", "QUIT",
+        ):
             self.assertIn(name, shown)
 
     def test_what_forwards(self):
         every = bytes(range(128)).decode()
-        for value, octets in ((0, ""), (1, "0-9A-Za-z"), (2, "\r"), (4, "\x1b\x07\x05\x06"), (8, "\x7f\x18\x12"), (16, "\x03\x04"), (32, "\t\n\x0b\x0c"), (64, "\0-\x02\x08\x0e-\x11\x13-\x17\x19\x1a\x1c-\x1f")):
+        for value, octets in (
+            (0, ""),
+            (1, "0-9A-Za-z"),
+            (2, "\r"),
+            (4, "\x1b\x07\x05\x06"),
+            (8, "\x7f\x18\x12"),
+            (16, "\x03\x04"),
+            (32, "\t\n\x0b\x0c"),
+            (64, "\0-\x02\x08\x0e-\x11\x13-\x17\x19\x1a\x1c-\x1f"),
+        ):
             with self.subTest(value):
                 self.connect()
                 self.pad.parameters.update({1: 0, 3: value})
@@ -292,7 +343,18 @@ class Half(unittest.TestCase):
         self.pad.parameters.update({2: 0})
         self.seen()
         self.types("no\x18yes\r")
-        self.assertEqual((self.asked(), self.seen()), (["dte send 1 0 617f", "dte send 1 0 0d", "dte send 1 0 61630d", "dte send 1 0 7965730d"], ""))
+        self.assertEqual(
+            (self.asked(), self.seen()),
+            (
+                [
+                    "dte send 1 0 617f",
+                    "dte send 1 0 0d",
+                    "dte send 1 0 61630d",
+                    "dte send 1 0 7965730d",
+                ],
+                "",
+            ),
+        )
 
     def test_line_feeds(self):
         self.connect()
@@ -328,9 +390,17 @@ class Half(unittest.TestCase):
         self.assertEqual(self.asked(), ["dte int 1 00", "dte reset 1", "dte send 1 1 01"])
         self.types("abc")
         self.seen()
-        self.comes("dte interrupt ch=1 at 1.0.0 data=00", "dte resetdone ch=1", "dte wasreset ch=1 cause=5 diag=1", "dte intdone ch=1")
+        self.comes(
+            "dte interrupt ch=1 at 1.0.0 data=00",
+            "dte resetdone ch=1",
+            "dte wasreset ch=1 cause=5 diag=1",
+            "dte intdone ch=1",
+        )
         self.types("\r")
-        self.assertEqual((self.seen(), self.asked()), ("\r\nINT\r\nRESET\r\nRESET ERR C:5 D:1\r\n\r", ["dte send 1 0 0d"]))
+        self.assertEqual(
+            (self.seen(), self.asked()),
+            ("\r\nINT\r\nRESET\r\nRESET ERR C:5 D:1\r\n\r", ["dte send 1 0 0d"]),
+        )
 
     def test_messages_of_x29(self):
         self.connect()
@@ -351,12 +421,18 @@ class Half(unittest.TestCase):
             ("07", "050107"),
             ("030801", "020800"),
             ("0502ff", ""),
-            ("04", "0001010201037e0400050006050702080009000a000b0e0c000d000e000f00107f111812121302140015001600"),
+            (
+                "04",
+                "0001010201037e0400050006050702080009000a000b0e0c000d000e000f00107f11181212130214"
+                "0015001600",
+            ),
         ):
             with self.subTest(came):
                 self.comes(MESSAGE + f"1 data={came}")
                 self.assertEqual(self.asked(), [f"dte send 1 1 {answer}"] if answer else [])
-        self.assertIn("BREAK\r\n# the other end takes a message of X.29 for wrong: 0502ff\r\n", self.seen())
+        self.assertIn(
+            "BREAK\r\n# the other end takes a message of X.29 for wrong: 0502ff\r\n", self.seen()
+        )
         self.comes(MESSAGE + "1 data=00020183010901")
         self.assertIn("RPAR 2:1,3:INV,9:1\r\n", self.seen())
 
@@ -371,18 +447,58 @@ class Half(unittest.TestCase):
     def test_the_pad_at_the_other_end(self):
         self.connect()
         self.types("\x10rpar?\r\x10rpar? 2\r\x10rset 2:0\r\x10RSET?3:2,4:0\r\x10rset\r")
-        self.assertEqual(self.asked(), ["dte send 1 1 04", "dte send 1 1 040200", "dte send 1 1 020200", "dte send 1 1 0603020400"])
+        self.assertEqual(
+            self.asked(),
+            [
+                "dte send 1 1 04",
+                "dte send 1 1 040200",
+                "dte send 1 1 020200",
+                "dte send 1 1 0603020400",
+            ],
+        )
 
     def test_a_link_that_goes_down(self):
         self.connect()
         self.comes("dte linkdown retries")
-        self.assertEqual((self.seen(), self.pad.status, self.pad.has_ended), ("CLR DER\r\n# linkdown retries\r\n", 1, True))
+        self.assertEqual(
+            (self.seen(), self.pad.status, self.pad.has_ended),
+            ("CLR DER\r\n# linkdown retries\r\n", 1, True),
+        )
 
     def test_no_signals(self):
         self.connect()
         self.pad.parameters.update({6: 0})
         self.comes("dte cleared ch=1 cause=0 diag=0", "# the connection has ended")
         self.assertEqual(self.seen(), "# the connection has ended\r\n")
+
+
+class Told(unittest.TestCase):
+    """A PAD of a file, which a bridge tells several lines at once."""
+
+    CALL = "dce restarted cause=0 diag=0\ndce incoming ch=1 at 1.0.0 called=1 calling=- data=-\n"
+
+    def ended(self, *lines):
+        """The status once these lines have come after a call."""
+        face = Seen()
+        face.is_terminal = False
+        pad = x25pad.Pad("dce", "-", {}, face)
+        (out, tells), (asked, into) = os.pipe(), os.pipe()
+        with open(out, "rb") as told, open(into, "wb") as asks:
+            self.addCleanup(os.close, asked)
+            child = mock.Mock(stdout=told, stdin=asks, wait=lambda: 0)
+            options = argparse.Namespace(answer=True, quiet=60.0)
+            session = x25pad.Session(pad, face, child, options, asked)
+            session._is_over = True
+            os.write(tells, (self.CALL + "".join(f"dce {line}\n" for line in lines)).encode())
+            os.close(tells)
+            with contextlib.redirect_stderr(io.StringIO()):
+                return session.run()
+
+    def test_a_line_that_goes_after_the_call_is_no_failure(self):
+        cleared = "cleared ch=1 cause=0 diag=0"
+        self.assertEqual(self.ended(cleared), 0)
+        self.assertEqual(self.ended(cleared, "linkdown disc"), 0)
+        self.assertEqual(self.ended("linkdown disc"), 1)
 
 
 @support.needs_station
@@ -392,7 +508,14 @@ class Two(ToolCase):
     def begin(self, *words):
         """Runs a PAD, whose user is a file."""
         command = [*script("x25pad.py", *words), "--x25", support.PROGRAM]
-        child = subprocess.Popen(command, stdin=subprocess.PIPE, stdout=subprocess.PIPE, stderr=subprocess.PIPE, text=True, bufsize=1)
+        child = subprocess.Popen(
+            command,
+            stdin=subprocess.PIPE,
+            stdout=subprocess.PIPE,
+            stderr=subprocess.PIPE,
+            text=True,
+            bufsize=1,
+        )
         self.addCleanup(self.end, child)
         return child
 
@@ -413,7 +536,10 @@ class Two(ToolCase):
         return child, re.search(r":(\d+)$", said)[1]
 
     def test_text_both_ways(self):
-        for near, far, sizes in (("--connect", "--listen", ""), ("--xot", "--xot-listen", "packet size 128/128, window size 2/2, ")):
+        for near, far, sizes in (
+            ("--connect", "--listen", ""),
+            ("--xot", "--xot-listen", "packet size 128/128, window size 2/2, "),
+        ):
             with self.subTest(near):
                 host, port = self.host("--set", "13:2", "--quiet", "60", line=far)
                 caller = self.begin("dte", near, f"127.0.0.1:{port}", "--address", "4567")
@@ -423,7 +549,10 @@ class Two(ToolCase):
                 caller.stdin.close()
                 self.assertEqual((caller.stdout.read(), caller.wait(60)), ("Welcome\nto all\n", 0))
                 self.assertEqual((host.stdout.read(), host.wait(60)), ("hello\nhost", 0))
-                self.assertEqual(re.findall("^[A-Z0-9].*", caller.stderr.read(), re.MULTILINE), ["COM", "CLR CONF"])
+                self.assertEqual(
+                    re.findall("^[A-Z0-9].*", caller.stderr.read(), re.MULTILINE),
+                    ["COM", "CLR CONF"],
+                )
                 asked = "reverse charging and fast select without restriction"
                 asked += ", closed user group selection 07"
                 told = f"4567 COM\n# user data: {124 * 'h'!r}\n# {sizes}{asked}\nCLR DTE C:0 D:0\n"
@@ -523,10 +652,21 @@ class Two(ToolCase):
             (("dte", "--listen", "0", "--set", "9:1"), "'9:1' are no parameters", 2),
         ):
             with self.subTest(words):
-                done = subprocess.run(script("x25pad.py", *words, "--x25", support.PROGRAM), stdin=subprocess.DEVNULL, capture_output=True, text=True, timeout=60)
+                done = subprocess.run(
+                    script("x25pad.py", *words, "--x25", support.PROGRAM),
+                    stdin=subprocess.DEVNULL,
+                    capture_output=True,
+                    text=True,
+                    timeout=60,
+                )
                 self.assertIn(said, done.stderr)
                 self.assertEqual((done.returncode, done.stdout), (status, ""))
-        bridge = subprocess.Popen([*script("bridge.py", "dce", "--listen", port), "--x25", support.PROGRAM], stdin=subprocess.PIPE, stdout=subprocess.PIPE, stderr=subprocess.PIPE)
+        bridge = subprocess.Popen(
+            [*script("bridge.py", "dce", "--listen", port), "--x25", support.PROGRAM],
+            stdin=subprocess.PIPE,
+            stdout=subprocess.PIPE,
+            stderr=subprocess.PIPE,
+        )
         self.addCleanup(self.end, bridge)
         while b"listening" not in (told := bridge.stderr.readline()):
             self.assertTrue(told)
@@ -541,7 +681,9 @@ class Two(ToolCase):
     def test_a_signal_leaves_the_terminal_as_it_was(self):
         self.addCleanup(signal.signal, signal.SIGHUP, signal.signal(signal.SIGHUP, signal.SIG_DFL))
         for number in (signal.SIGTERM, signal.SIGHUP):
-            terminal = Terminal([*script("x25pad.py", "dce", "--listen", "0"), "--x25", support.PROGRAM])
+            terminal = Terminal([
+                *script("x25pad.py", "dce", "--listen", "0"), "--x25", support.PROGRAM
+            ])
             self.addCleanup(terminal.close)
             terminal.shows("listening on")
             self.assertFalse(terminal.echoes())
@@ -550,7 +692,9 @@ class Two(ToolCase):
 
     def test_x29_at_a_terminal(self):
         host, port = self.host()
-        terminal = Terminal([*script("x25pad.py", "dte", "--connect", f"127.0.0.1:{port}"), "--x25", support.PROGRAM])
+        terminal = Terminal([
+            *script("x25pad.py", "dte", "--connect", f"127.0.0.1:{port}"), "--x25", support.PROGRAM
+        ])
         self.addCleanup(terminal.close)
         terminal.shows("\n*")
         for typed, shown in (
@@ -578,16 +722,23 @@ class Two(ToolCase):
         self.assertEqual((terminal.end()[0], terminal.echoes()), (0, True))
         host.stdin.close()
         self.assertEqual(host.stdout.read(), "")
-        self.assertEqual(re.findall("^[A-Z].*", "".join([*told, host.stderr.read()]), re.MULTILINE), ["COM", "INT", "BREAK", "RESET DTE C:0 D:0", "CLR PAD"])
+        self.assertEqual(
+            re.findall("^[A-Z].*", "".join([*told, host.stderr.read()]), re.MULTILINE),
+            ["COM", "INT", "BREAK", "RESET DTE C:0 D:0", "CLR PAD"],
+        )
 
     def test_the_session_of_the_manual(self):
         """What stands in docs/BRIDGE.md, against the other end that stands above it."""
         text = re.sub("^    ", "", support.read("docs/BRIDGE.md").decode(), flags=re.MULTILINE)
-        says, words = re.search(r"^printf '(.*)' \| x25 pad dce --xot-listen 7000 (.*)$", text, re.MULTILINE).groups()
+        says, words = re.search(
+            r"^printf '(.*)' \| x25 pad dce --xot-listen 7000 (.*)$", text, re.MULTILINE
+        ).groups()
         host, port = self.host(*words.split()[1:], line="--xot-listen")
         host.stdin.write(says.replace("\\n", "\n"))
         host.stdin.close()
-        command, *lines = re.search(r"^x25 pad dte --xot localhost:7000\n(?:.+\n)*", text, re.MULTILINE)[0].replace("7000", port).splitlines()
+        command, *lines = re.search(
+            r"^x25 pad dte --xot localhost:7000\n(?:.+\n)*", text, re.MULTILINE
+        )[0].replace("7000", port).splitlines()
         terminal = Terminal([*script("x25pad.py", *command.split()[2:]), "--x25", support.PROGRAM])
         self.addCleanup(terminal.close)
         shown = ""

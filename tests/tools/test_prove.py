@@ -1,4 +1,5 @@
-"""Tests of how `make x25` has a program proved with all that it stands on, with a stand-in for `rt`."""
+"""Tests of how `make x25` has a program proved with all that it stands on, with a stand-in for
+`rt`."""
 
 import os
 import shutil
@@ -7,8 +8,9 @@ import subprocess
 import support
 from support import ToolCase
 
-# Proves the crates of the rows in order, but for one with a file `false`, and those that come after it; and builds a program of each. It
-# refuses a copy with wrong bodies, or with what was built before. Of a static library it builds the archive by `rt lib`.
+# Proves the crates of the rows in order, but for one with a file `false`, and those that come
+# after it; and builds a program of each. It refuses a copy with wrong bodies, or with what was
+# built before. Of a static library it builds the archive by `rt lib`.
 RT = b"""#!/bin/sh
 if [ "$1" = lib ]; then
     crate=$(basename "$PWD")
@@ -23,7 +25,11 @@ for crate in $(sed "s/:.*//" crates.txt); do
     echo "== $crate"
     [ -e crates/$crate/false ] && { echo "an open goal"; echo "rt: $crate NOT PROVED"; exit 1; }
     echo "fn $crate::f: proved"
-    if [ $crate = kept ]; then echo "rt: kept is kept: an earlier run proved it"; else echo "rt: $crate proved"; fi
+    if [ $crate = kept ]; then
+        echo "rt: kept is kept: an earlier run proved it"
+    else
+        echo "rt: $crate proved"
+    fi
     mkdir crates/$crate/out
     echo "$(ls crates)" > crates/$crate/out/$crate
 done
@@ -31,12 +37,16 @@ done
 echo "5 passed, 0 failed"
 """
 
-CRATES = {"low": "", "kept": "low", "right": "low", "high": "kept right low", "apart": "", "program": "high low", "archive staticlib": "right"}
+CRATES = {
+    "low": "", "kept": "low", "right": "low", "high": "kept right low", "apart": "",
+    "program": "high low", "archive staticlib": "right",
+}
 
 
 class Prove(ToolCase):
     def proves(self, name, *first, broken=()):
-        """The status, the crates that are said to be proved, and what is said of an error, in a repository of CRATES."""
+        """The status, the crates that are said to be proved, and what is said of an error, in a
+        repository of CRATES."""
         rows = "".join(f"{crate}: {low} thiserror\n" for crate, low in CRATES.items())
         self.file("crates.txt", f"# lowest first\n{rows}".encode())
         for crate in (row.split()[0] for row in CRATES):
@@ -51,14 +61,27 @@ class Prove(ToolCase):
         os.chmod(self.file("rt", RT), 0o755)
         self.file("HANDLES", b"Handles allowed: none.\n")
         environment = dict(os.environ, PATH=f"{self.folder}:{os.environ['PATH']}", PROVE_LEAD="0")
-        ran = subprocess.run([f"{self.folder}/.ci/prove", name, *first], env=environment, capture_output=True, text=True)
-        return ran.returncode, [line.partition(":")[0] for line in ran.stdout.splitlines()], ran.stderr
+        ran = subprocess.run(
+            [f"{self.folder}/.ci/prove", name, *first],
+            env=environment,
+            capture_output=True,
+            text=True,
+        )
+        return (
+            ran.returncode,
+            [line.partition(":")[0] for line in ran.stdout.splitlines()],
+            ran.stderr,
+        )
 
     def test_what_it_stands_on_and_itself(self):
-        self.assertEqual(self.proves("program"), (0, ["low", "kept", "right", "high", "program"], ""))
+        self.assertEqual(
+            self.proves("program"), (0, ["low", "kept", "right", "high", "program"], "")
+        )
 
     def test_a_run_before_over_some_of_them_changes_nothing(self):
-        self.assertEqual(self.proves("program", "right"), (0, ["low", "kept", "right", "high", "program"], ""))
+        self.assertEqual(
+            self.proves("program", "right"), (0, ["low", "kept", "right", "high", "program"], "")
+        )
 
     def test_the_program_is_left_in_build(self):
         self.proves("program")
@@ -90,7 +113,10 @@ class Prove(ToolCase):
 
     def test_one_is_not_proved(self):
         status, proved, said = self.proves("program", broken=["right"])
-        self.assertEqual((status, proved, said), (1, ["low", "kept"], "== right\nan open goal\nrt: right NOT PROVED\n"))
+        self.assertEqual(
+            (status, proved, said),
+            (1, ["low", "kept"], "== right\nan open goal\nrt: right NOT PROVED\n"),
+        )
         self.assertFalse(os.path.exists(f"{self.folder}/build"))
 
     def test_the_program_runs_wrong(self):

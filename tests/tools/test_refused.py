@@ -1,4 +1,5 @@
-"""Tests of the programs where memory is refused: each allocation of some runs of `x25`, and of `x25_refusals`, in turn."""
+"""Tests of the programs where memory is refused: each allocation of some runs of `x25`, and of
+`x25_refusals`, in turn."""
 
 import collections
 import contextlib
@@ -39,7 +40,10 @@ class Played(unittest.TestCase):
         "World::establish",
         "World::heal",
         "World::step with something given",
-        *(f"World::step({asked})" for asked in ("Accept", "Call", "Connect", "Damage", "Deliver", "Send")),
+        *(
+            f"World::step({asked})"
+            for asked in ("Accept", "Call", "Connect", "Damage", "Deliver", "Send")
+        ),
         *(f"World::step({asked}) with sizes" for asked in ("Accept", "Call")),
     }
 
@@ -82,7 +86,12 @@ class Answers(unittest.TestCase):
 
     def test_what_differs(self):
         twice = self.WHOLE + b"Link::hear refused\n" * 2
-        for done in [(b"", 0, b""), (self.WHOLE, 1, b"it changed\n"), (twice, 0, b""), (self.WHOLE + b"x\n", 0, b"")]:
+        for done in [
+            (b"", 0, b""),
+            (self.WHOLE, 1, b"it changed\n"),
+            (twice, 0, b""),
+            (self.WHOLE + b"x\n", 0, b""),
+        ]:
             with self.subTest(done):
                 name, difference = self.answer(*done)
                 self.assertIsNone(name)

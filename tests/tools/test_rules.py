@@ -10,7 +10,9 @@ import rules
 import rules_runs
 from rules import INFO, UNREAD, UNSEEN, Frame
 from rules_runs import BEGINNING, packet
-from runs import ACCEPTED, CALL, CLEAR, CLEAR_CONFIRMATION, DISC, DM, INTERRUPT, INTERRUPT_CONFIRMATION, OTHERS
+from runs import (
+    ACCEPTED, CALL, CLEAR, CLEAR_CONFIRMATION, DISC, DM, INTERRUPT, INTERRUPT_CONFIRMATION, OTHERS
+)
 from runs import RESET, RESET_CONFIRMATION, RESTART, RESTART_CONFIRMATION, RNR, RR, SABM, UA
 
 from x25tools.x25lines import is_sealed  # where runs finds it
@@ -65,7 +67,8 @@ BROKEN_PACKETS = {
     OPEN + ">confirmed": 19,
     OPEN + "<int >confirmed >confirmed": 19,
 }
-# None of these breaks one: collisions; what is sent again, with one answer or one each; what ends what waits for an answer.
+# None of these breaks one: collisions; what is sent again, with one answer or one each; what ends
+# what waits for an answer.
 KEPT_PACKETS = (
     ">call <call <accepted",
     OPEN + ">clear <clear >call",
@@ -104,10 +107,11 @@ KEPT_FRAMES = (
     "<sabm <disc >rr:1",
     ">sabm >dm <ua >rr:0",
     "<disc >ua <sabm >ua >rr:0",
-    f">sabm <ua <i:0:0:{packet(0, RESTART).hex()} >sabm >i:0:1:{packet(0, RESTART_CONFIRMATION).hex()}",
+    f">sabm <ua <i:0:0:{packet(0, RESTART).hex()} >sabm "
+    f">i:0:1:{packet(0, RESTART_CONFIRMATION).hex()}",
 )
-# The same where something is missing: the beginning of a tape, frames that can't be read, or in place of which a gap stands, and, in front of
-# the DTE, what the line lost of the DCE.
+# The same where something is missing: the beginning of a tape, frames that can't be read, or in
+# place of which a gap stands, and, in front of the DTE, what the line lost of the DCE.
 BROKEN_FROM_THE_MIDST = {
     ">disc >rr:1": 20,
     ">sabm >rr:1": 20,
@@ -164,12 +168,14 @@ KEPT_AT_THE_DTE = (
     "<i:3:1:a <i:1:1:b",
     ">sabm <rr:0",
 )
-# Of two frames that can't be read one is SABM; the other one is an I frame by the packet that goes next, and SABM too by the second UA.
+# Of two frames that can't be read one is SABM; the other one is an I frame by the packet that goes
+# next, and SABM too by the second UA.
 EITHER_WAY = f"<unread <unread >ua >i:0:0:{packet(1, RR).hex()} >ua"
 
 
 class Tape:
-    """A tape by its words: each has an end, a kind and numbers. A packet goes in an I frame that comes at once."""
+    """A tape by its words: each has an end, a kind and numbers. A packet goes in an I frame that
+    comes at once."""
 
     def __init__(self):
         self.counts = dict.fromkeys(OTHERS, 1)
@@ -178,11 +184,16 @@ class Tape:
         end, (kind, *numbers) = word[0], word[1:].split(":")
         if kind in ("data", "more", "qualified"):
             ps, pr, size = (*map(int, numbers), 1)[:3]
-            octets = packet(1, pr << 5 | (kind == "more") << 4 | ps << 1, bytes(size), kind == "qualified")
+            octets = packet(
+                1, pr << 5 | (kind == "more") << 4 | ps << 1, bytes(size), kind == "qualified"
+            )
         elif kind in ("call", "accepted") and numbers:
             octets = packet(1, KINDS[kind], rules_runs.SMALL)
         else:
-            octets = packet(0 if kind in ("restart", "restarted") else 1, KINDS[kind] | int((numbers or [0])[0]) << 5)
+            octets = packet(
+                0 if kind in ("restart", "restarted") else 1,
+                KINDS[kind] | int((numbers or [0])[0]) << 5,
+            )
         self.counts[end] += 1
         return Frame(end, INFO, self.counts[OTHERS[end]] % 8, (self.counts[end] - 1) % 8, octets)
 
@@ -190,7 +201,13 @@ class Tape:
     def frame(word):
         end, (kind, *rest) = word[0], word[1:].split(":")
         if kind == "i":
-            return Frame(end, INFO, int(rest[1]), int(rest[0]), bytes.fromhex(rest[2]) if len(rest[2]) > 1 else rest[2].encode())
+            return Frame(
+                end,
+                INFO,
+                int(rest[1]),
+                int(rest[0]),
+                bytes.fromhex(rest[2]) if len(rest[2]) > 1 else rest[2].encode(),
+            )
         return Frame(end, KINDS[kind], *map(int, rest))
 
 
@@ -210,7 +227,8 @@ class Rules(unittest.TestCase):
                 self.assertEqual((ends.links, ends.packets), ({}, {text.split()[-1][0]: last}))
 
     def test_they_do_in_front_of_an_end_too(self):
-        """Those of the near end, of which nothing is missing; of the far end one may have been lost that explains them."""
+        """Those of the near end, of which nothing is missing; of the far end one may have been
+        lost that explains them."""
         for text in BROKEN_PACKETS:
             with self.subTest(text):
                 ends, last = played(map(Tape().packet, text.split()), at=text.split()[-1][0])
@@ -248,7 +266,9 @@ class Rules(unittest.TestCase):
             for text in (*broken, *kept):
                 with self.subTest(text, **given):
                     ends, last = played(map(Tape.frame, text.split()), **given)
-                    self.assertEqual(ends.links, {text.split()[-1][0]: last} if text in broken else {})
+                    self.assertEqual(
+                        ends.links, {text.split()[-1][0]: last} if text in broken else {}
+                    )
 
 
 class Faults(unittest.TestCase):
@@ -257,7 +277,11 @@ class Faults(unittest.TestCase):
         right = rules_runs.Told(last, ">", True, True)
         self.assertEqual([*rules_runs.faults(ends, [right])], [])
         self.assertEqual([*rules_runs.faults(ends, [])], [("missed", last, ">", True)])
-        for told in (right._replace(place=last - 1), right._replace(end="<"), right._replace(is_of_packets=False)):
+        for told in (
+            right._replace(place=last - 1),
+            right._replace(end="<"),
+            right._replace(is_of_packets=False),
+        ):
             self.assertIn("accused", [fault.what for fault in rules_runs.faults(ends, [told])])
 
     def test_packets_are_compared_where_all_are_known(self):
@@ -267,33 +291,49 @@ class Faults(unittest.TestCase):
             with self.subTest(**given):
                 ends, last = played(map(Tape().packet, words), **given)
                 accused = [("accused", last, ">", True)] if given in ({}, {"at": ">"}) else []
-                self.assertEqual([*rules_runs.faults(ends, [rules_runs.Told(last, ">", True, True)])], accused)
+                self.assertEqual(
+                    [*rules_runs.faults(ends, [rules_runs.Told(last, ">", True, True)])], accused
+                )
 
     def test_manners_tell_of_a_number_out_of_order_alone(self):
         ends, last = played(map(Tape.frame, ">i:2:1:a".split()))
         told = rules_runs.Told(last, ">", False, False)
         self.assertEqual([*rules_runs.faults(ends, [told])], [])
-        self.assertEqual([*rules_runs.faults(ends, [told._replace(place=last - 1)])], [("missed", last, ">", False)])
+        self.assertEqual(
+            [*rules_runs.faults(ends, [told._replace(place=last - 1)])],
+            [("missed", last, ">", False)],
+        )
 
 
 class Stored(unittest.TestCase):
     def test_no_answer_accuses_an_end_that_broke_nothing(self):
-        """The golden cases of `judge` that are whole traces from a set-up on, and short."""
+        """The golden cases of `judge` that are whole traces from a set-up on, and short, on a
+        network with the defaults that rules.py knows."""
         count = 0
         for case in golden.cases(golden.chosen(["judge"])[0]):
             lines = case.input.decode("latin1").splitlines()
             words = {*re.sub("--at line", "", " ".join(case.words)).split()}
-            if words & {"--at", "--wide", "--loose", "--long"} or len(lines) > 60 or not all(re.fullmatch("[<>] (?:[0-9a-f]{2}){4,}", line) for line in lines):
+            if (
+                words & {"--at", "--wide", "--loose", "--long", "--size", "--window"}
+                or len(lines) > 60
+                or not all(re.fullmatch("[<>] (?:[0-9a-f]{2}){4,}", line) for line in lines)
+            ):
                 continue
             octets = [bytes.fromhex(line[2:]) for line in lines]
             frames = [rules.frame_of(line[0], frame[:-2]) for line, frame in zip(lines, octets)]
-            if all(map(is_sealed, octets)) and [frame.kind for frame in frames[:2]] == [SABM, UA] and frames[0].end != frames[1].end:
+            if (
+                all(map(is_sealed, octets))
+                and [frame.kind for frame in frames[:2]] == [SABM, UA]
+                and frames[0].end != frames[1].end
+            ):
                 count += 1
                 ends = rules.Ends()
                 for frame in frames:
                     ends.passes(frame)
                 told = [*rules_runs.told_of(case.output.decode().splitlines())]
-                self.assertNotIn("accused", [fault.what for fault in rules_runs.faults(ends, told)], case.name)
+                self.assertNotIn(
+                    "accused", [fault.what for fault in rules_runs.faults(ends, told)], case.name
+                )
         self.assertGreater(count, 100)
 
 

@@ -1,4 +1,5 @@
-"""Tests of two stations with clocks where some of what one answers doesn't come, and of a bridge whose other end is silenced."""
+"""Tests of two stations with clocks where some of what one answers doesn't come, and of a bridge
+whose other end is silenced."""
 
 import itertools
 import os
@@ -18,9 +19,11 @@ from silent_runs import ENDS, OTHER
 from x25tools.piped import Station
 from x25tools.x25lines import fcs
 
-# Random runs of all, a second each with a program that isn't proved; and of those that are watched more closely.
+# Random runs of all, a second each with a program that isn't proved; and of those that are watched
+# more closely.
 RUNS, FEW = 240 // (1 if support.SHARE == 1 else 20), 4
-# What leads to each state of a circuit, asked of the end that hears less, or of the other one; and what can be asked there.
+# What leads to each state of a circuit, asked of the end that hears less, or of the other one; and
+# what can be asked there.
 IN_A_CALL = ("call", "clear {}", "restart", "relink")
 OPEN = (*IN_A_CALL, "reset {}", "send {} 0 4142", "int {} 01")
 STATES = {
@@ -62,7 +65,11 @@ class Leaves(silent_runs.Run):
         # A DTE calls on the highest channel, a DCE on the lowest.
         caller = self.deaf if self.state in ("calling", "open") else OTHER[self.deaf]
         channel = silent_runs.CHANNELS if caller == "dte" else 1
-        event = silent_runs.CALLS[end.name] if command == "call" else f"{end.name} {command.format(channel)}"
+        event = (
+            silent_runs.CALLS[end.name]
+            if command == "call"
+            else f"{end.name} {command.format(channel)}"
+        )
         if refusal := self.ask(end, event):
             raise silent_runs.Failed(f"{event}: {refusal}")
 
@@ -89,8 +96,10 @@ class NoT26(Leaves):
 
 
 class Heals(silent_runs.Run):
-    """Frames alone are lost, and both users send: no one helps but the clocks."""
+    """Frames alone are lost, and both users send: no one helps but the clocks. T25, which resets
+    a call, is off."""
 
+    TIMES = {**silent_runs.TIMES, "t25": 0}
     N2, ACCEPTS, MESSAGES = 30, 1, 20
 
     def plays(self):
@@ -105,13 +114,20 @@ class Heals(silent_runs.Run):
                 while self.ask(end, f"{end.name} send {silent_runs.CHANNELS} 0 {number:04x}"):
                     self.lasts(self.now + 1000)
         self.lasts(self.now + 120_000)
-        return [[entry[-4:] for entry in end.entries if " message " in entry] for end in (dte, dce)]
+        return [
+            [entry[-4:] for entry in end.entries if " message " in entry] for end in (dte, dce)
+        ]
 
 
 class Twins:
-    """A station with a clock, and one without, whose user asks in the place of each time what is due then: both have to say the same."""
+    """A station with a clock, and one without, whose user asks in the place of each time what is
+    due then: both have to say the same."""
 
-    LINES = {"T1": "t1 {0}", "T3": "{0} probe", "T20": "{0} relink", "T10": "{0} relink", "T23": "{0} restart", "T13": "{0} restart", "T26": "{0} reset {1}"}
+    LINES = {
+        "T1": "t1 {0}", "T3": "{0} probe", "T20": "{0} relink", "T10": "{0} relink",
+        "T23": "{0} restart", "T13": "{0} restart", "T25": "{0} reset {1} diag=146",
+        "T26": "{0} reset {1}",
+    }
 
     def __init__(self, timed, plain):
         self.timed, self.plain, self.passed = timed, plain, []
@@ -129,19 +145,25 @@ class Twins:
         passed = [notice for notice in answer.notices if " timeout " in notice]
         self.passed += passed
         is_time = event.startswith("@ ")
-        said = [self.plain.ask(line) for line in (map(self.line_for, passed) if is_time else [event])]
+        said = [
+            self.plain.ask(line) for line in (map(self.line_for, passed) if is_time else [event])
+        ]
         told = [(one.notices, one.frames, one.refusal) for one in said]
         notices, frames, refusals = map(list, zip(*told)) if told else ([], [], [None])
         kept = [notice for notice in answer.notices if notice not in passed]
         is_idle = said[-1].is_idle if said else answer.is_idle
-        if (kept, answer.frames, answer.refusal, answer.is_idle) != (sum(notices, []), sum(frames, []), refusals[-1], is_idle):
+        if (kept, answer.frames, answer.refusal, answer.is_idle) != (
+            sum(notices, []), sum(frames, []), refusals[-1], is_idle
+        ):
             raise silent_runs.Failed(f"{event}: {answer}, and without a clock {said}")
         return answer
 
     def line_for(self, notice):
         """The line of a user for a timer that has passed."""
         end, _, timer, *channel = notice.split(" ")
-        return self.LINES.get(timer, "{0} clear {1}").format(end, *(word.removeprefix("ch=") for word in channel))
+        return self.LINES.get(timer, "{0} clear {1}").format(
+            end, *(word.removeprefix("ch=") for word in channel)
+        )
 
 
 class Twofold(silent_runs.Run):
@@ -159,13 +181,19 @@ class Twofold(silent_runs.Run):
 class SilentPeers(unittest.TestCase):
     def test_nothing_is_awaited_for_ever(self):
         with ProcessPoolExecutor() as pool:
-            told = list(pool.map(partial(silent_runs.play, support.PROGRAM), range(RUNS), chunksize=4))
+            told = list(
+                pool.map(partial(silent_runs.play, support.PROGRAM), range(RUNS), chunksize=4)
+            )
         self.assertEqual([lines for lines, _ in told], [[]] * RUNS)
         self.assertTrue(all(frames for _, frames in told))
 
     def test_nothing_is_in_any_state_whatever_is_left_out(self):
         places = itertools.product(ENDS, silent_runs.KINDS, STATES)
-        rows = [(deaf, kind, state, asked) for deaf, kind, state in places for asked in STATES[state][1]]
+        rows = [
+            (deaf, kind, state, asked)
+            for deaf, kind, state in places
+            for asked in STATES[state][1]
+        ]
         with ProcessPoolExecutor() as pool:
             for row, end in zip(rows, pool.map(left, rows, chunksize=8)):
                 with self.subTest(row):
@@ -177,18 +205,39 @@ class SilentPeers(unittest.TestCase):
             with self.subTest(seed):
                 run = Twofold(support.PROGRAM, seed)
                 run.play()
-                passed.update(notice.split(" ")[2] for end in run.ends.values() for notice in end.station.passed)
+                passed.update(
+                    notice.split(" ")[2]
+                    for end in run.ends.values()
+                    for notice in end.station.passed
+                )
         self.assertLessEqual({"T1", "T3", "T20", "T21"}, passed)
 
     def test_it_is_where_a_timer_is_for_ever(self):
-        for kind, why in ((NoT1, "awaits link|hears nothing since"), (NoT3, "hears nothing since"), (AsksNothing, "awaits (restart|call|reset|clear|fault) on channel")):
+        for kind, why in (
+            (NoT1, "awaits link|hears nothing since"),
+            (NoT3, "hears nothing since"),
+            (AsksNothing, "awaits (restart|call|reset|clear|fault) on channel"),
+        ):
             with self.subTest(kind.__name__):
                 with ProcessPoolExecutor() as pool:
-                    told = pool.map(partial(silent_runs.play, support.PROGRAM, kind=kind), range(4 * FEW))
+                    told = pool.map(
+                        partial(silent_runs.play, support.PROGRAM, kind=kind), range(4 * FEW)
+                    )
                     self.assertRegex("\n".join(line for lines, _ in told for line in lines), why)
 
         with self.assertRaisesRegex(silent_runs.Failed, "awaits int on channel 3"):
-            NoT26(support.PROGRAM, "dte", silent_runs.INTERRUPT_CONFIRMATION, "open", "int {} 01").play()
+            NoT26(
+                support.PROGRAM, "dte", silent_runs.INTERRUPT_CONFIRMATION, "open", "int {} 01"
+            ).play()
+
+    def test_data_that_is_not_acknowledged_is_reset(self):
+        run = Leaves(support.PROGRAM, "dte", silent_runs.RR, "open", "send {} 0 4142")
+        run.play()
+        entries = run.ends["dte"].entries
+        place = entries.index("dte timeout T25 ch=3")
+        self.assertEqual(
+            entries[place + 1 : place + 3], ["dte reset ch=3 diag=146", "dte resetdone ch=3"]
+        )
 
     def test_losses_heal(self):
         messages = [f"{number:04x}" for number in range(Heals.MESSAGES)]
@@ -196,7 +245,12 @@ class SilentPeers(unittest.TestCase):
             with self.subTest(seed):
                 run = Heals(support.PROGRAM, seed)
                 self.assertEqual(run.play(), [messages] * 2)
-                self.assertTrue(all(any("timeout T1" in entry for entry in end.entries) for end in run.ends.values()))
+                self.assertTrue(
+                    all(
+                        any("timeout T1" in entry for entry in end.entries)
+                        for end in run.ends.values()
+                    )
+                )
 
 
 def sent(octets):
@@ -206,8 +260,19 @@ def sent(octets):
 
 # The answers to SABM, RESTART and polls; what sets the link up, so that a DTE is at rest.
 POLLED = sent(b"\x01\x31")
-SET_UP = ("@ 0", "dte connect", sent(b"\x01\x73"), sent(b"\x03\x00\x10\x00\xfb\x07\x00"), sent(b"\x01\x21"))
-NOISE = {"an octet": "< 03", "a damaged frame": "< 03010000", "another address": sent(b"\x07\x01"), "an answer to nothing": sent(b"\x01\x21")}
+SET_UP = (
+    "@ 0",
+    "dte connect",
+    sent(b"\x01\x73"),
+    sent(b"\x03\x00\x10\x00\xfb\x07\x00"),
+    sent(b"\x01\x21"),
+)
+NOISE = {
+    "an octet": "< 03",
+    "a damaged frame": "< 03010000",
+    "another address": sent(b"\x07\x01"),
+    "an answer to nothing": sent(b"\x01\x21"),
+}
 
 
 @support.needs_station
@@ -232,11 +297,16 @@ class OtherEnds(unittest.TestCase):
                 told = [notice for notice in answer.notices if " timeout T1" not in notice]
                 if not told and any(frame.octets[1] & 0x13 == 0x11 for frame in answer.frames):
                     answer = station.ask(POLLED)
-        self.assertEqual((now, told[:3]), (200_000, ["dte timeout T21 ch=38", "dte relink", "dte linkdown local"]))
+        self.assertEqual(
+            (now, told[:3]),
+            (200_000, ["dte timeout T21 ch=38", "dte relink", "dte linkdown local"]),
+        )
 
     def test_no_noise_hides_a_dead_line(self):
         for kind, line in NOISE.items():
-            with self.subTest(kind), Station(support.PROGRAM, "dte", ["--clock", "--t1", "1000", "--t3", "18000", "--n2", "3"]) as station:
+            with self.subTest(kind), Station(
+                support.PROGRAM, "dte", ["--clock", "--t1", "1000", "--t3", "18000", "--n2", "3"]
+            ) as station:
                 answer, now, tick = self.set_up(station), 0, 17_000
                 while "dte linkdown retries" not in answer.notices and now < 100_000:
                     now = min(answer.due, tick)
@@ -246,8 +316,8 @@ class OtherEnds(unittest.TestCase):
                 self.assertLessEqual(now, 18_000 + (3 + 1) * 1000)
 
 
-# What leads a bridge to each state, asked of it or of the station at the other end, and what it tells then; `hush` keeps the other end's
-# packets from it from then on.
+# What leads a bridge to each state, asked of it or of the station at the other end, and what it
+# tells then; `hush` keeps the other end's packets from it from then on.
 RESTARTED = [("connect", "restarted")]
 CALLED = [*RESTARTED, ("other call 1 2 -", "incoming"), ("accept 1", "accept")]
 WAYS = {
@@ -263,10 +333,12 @@ WAYS = {
 }
 # What is asked there, so that an answer is awaited.
 ASKS = {"down": "connect", "free": "restart", "called": "clear 1", "open": "clear 1"}
-# How the other end is silenced: its packet layer alone, a cable that is cut, a connection that ends.
+# How the other end is silenced: its packet layer alone, a cable that is cut, a connection that
+# ends.
 MANNERS = ("packets", "cable", "connection")
 SECONDS = {"t1": 0.5, "t3": 1, "t20": 1, "t21": 1, "t22": 1, "t23": 1}
-# Before the link is told down: the times of a call, a clearing and a restart, or T3 and four times T1; on a machine that does much else.
+# Before the link is told down: the times of a call, a clearing and a restart, or T3 and four times
+# T1; on a machine that does much else.
 LONGEST = 5 * max(1 + 1 + 1, 1 + 4 * 0.5)
 
 
@@ -279,7 +351,17 @@ class Silenced:
         self.server = socket.create_server(("127.0.0.1", 0))
         times = [word for name, time in SECONDS.items() for word in (f"--{name}", str(time))]
         line = ["--connect", f"127.0.0.1:{self.server.getsockname()[1]}", "--retry", "--stay"]
-        command = [sys.executable, os.path.join(support.TOOLS, "bridge.py"), end, "--x25", support.PROGRAM, "--n2", "3", *times, *line]
+        command = [
+            sys.executable,
+            os.path.join(support.TOOLS, "bridge.py"),
+            end,
+            "--x25",
+            support.PROGRAM,
+            "--n2",
+            "3",
+            *times,
+            *line,
+        ]
         self.child = subprocess.Popen(command, stdin=subprocess.PIPE, stdout=subprocess.PIPE)
         self.line = self.server.accept()[0]
         self.rests = {self.line: b"", self.child.stdout: b""}
@@ -296,7 +378,8 @@ class Silenced:
         self.server.close()
 
     def goes(self, state, manner):
-        """Goes to a state, and is silenced there; answers True where the link is told down in time, else what came."""
+        """Goes to a state, and is silenced there; answers True where the link is told down in
+        time, else what came."""
         for words, event in WAYS[state]:
             if words == "hush":
                 self.manner = "packets"
@@ -315,7 +398,10 @@ class Silenced:
         last = time.monotonic() + LONGEST
         if words.startswith("other "):
             # It may await that its restart is confirmed.
-            while self.takes(f"{OTHER[self.end]} {words.removeprefix('other ')}") and self.turn(last - time.monotonic()):
+            while (
+                self.takes(f"{OTHER[self.end]} {words.removeprefix('other ')}")
+                and self.turn(last - time.monotonic())
+            ):
                 pass
         elif words:
             self.child.stdin.write(f"{self.end} {words}\n".encode())
@@ -340,7 +426,8 @@ class Silenced:
         return bool(ready)
 
     def takes(self, event):
-        """Something happens to the other end, unless its cable is cut; what it sends goes to the bridge. Answers its refusal."""
+        """Something happens to the other end, unless its cable is cut; what it sends goes to the
+        bridge. Answers its refusal."""
         if self.manner == "cable":
             return None
         answer = self.far.ask(event)
@@ -355,7 +442,8 @@ class Silenced:
 @support.needs_station
 class SilencedBridges(unittest.TestCase):
     def test_the_link_is_told_down_in_each_state(self):
-        """Or nothing is awaited any more: whatever the state, at either end, as the other end's packet layer or its line is silenced."""
+        """Or nothing is awaited any more: whatever the state, at either end, as the other end's
+        packet layer or its line is silenced."""
 
         def goes(row):
             end, state, manner = row
@@ -363,7 +451,11 @@ class SilencedBridges(unittest.TestCase):
                 return silenced.goes(state, manner)
 
         # Without a connection `connect` waits.
-        rows = [row for row in itertools.product(ENDS, WAYS, MANNERS) if row[1:] != ("down", "connection")]
+        rows = [
+            row
+            for row in itertools.product(ENDS, WAYS, MANNERS)
+            if row[1:] != ("down", "connection")
+        ]
         with ThreadPoolExecutor(16) as pool:
             for row, came in zip(rows, pool.map(goes, rows)):
                 with self.subTest(row):

@@ -17,7 +17,8 @@ class End(Exception):
 
 
 def ahead(things: Iterable[T]) -> Iterator[T]:
-    """Yields what an iterable makes, which a process of its own goes over. What it raises is raised here, after what was made before."""
+    """Yields what an iterable makes, which a process of its own goes over. What it raises is
+    raised here, after what was made before."""
     reader, writer = os.pipe()
     child = os.fork()
     if child == 0:
@@ -26,7 +27,8 @@ def ahead(things: Iterable[T]) -> Iterator[T]:
             with os.fdopen(writer, "wb") as out:
                 _give(things, out)
         finally:
-            # Nothing that waits in this process's copy of standard output is to be written twice, and nobody above is to go on.
+            # Nothing that waits in this process's copy of standard output is to be written twice,
+            # and nobody above is to go on.
             os._exit(0)
     os.close(writer)
     try:

@@ -1,62 +1,25 @@
-"""Runs a station, `x25 station --clock`, and joins it to a line; its user writes commands and reads notices.
+"""Runs a station, `x25 station --clock`, and joins it to a line; its user writes commands and
+reads notices.
 
     printf 'wait dce incoming\\ndce accept 1\\n' | bridge.py dce --listen 7000
-    printf 'dte connect\\nwait dte restarted\\ndte call 123 4567 41\\nwait dte connected\\n' | bridge.py dte --connect localhost:7000
+    bridge.py dte --connect localhost:7000
     bridge.py dce --udp 5601:5600 --trace frames
     bridge.py dce --xot-listen --channels 8 --stay
 
-The line is one of these:
+Commands are lines of a script of this end (`dte call 123 4567 41`), and `wait TEXT`, which holds
+those after it until a notice comes that begins so. Notices are the entries of the transcript, `!
+N` for a command that is refused, `? 60` for one that is none, and lines that begin with `#`: the
+bridge's own words, in UTF-8. At a terminal the bridge is a console, where `help` shows what can be
+typed, and `quit` ends it.
 
-  --listen PORT        a connection over TCP that another makes, to this host alone, or to HOST:PORT; it has lines of a trace. While
-                       there is one, others are told that the line is taken. With --stay the next one is waited for where it ends.
-                       One that brings something else, as XOT or the frames of an end of the same kind, is told so and closed
-  --connect HOST:PORT  such a connection to one who listens; with --retry it is made again and again, with a growing pause
-  --stdio              standard input and output, with lines of a trace
-  --ethernet IFACE     an interface of Ethernet, with frames as Linux's lapbether has them (type 6000, two octets of length, the low
-                       one first, no frame check sequence: it is cut and added); only root may. Where it is down it is waited for, and
-                       calls whose packets wouldn't fit its MTU are refused
-  --udp LOCAL:REMOTE   the same in datagrams between two ports of this host, or LOCAL:HOST:REMOTE, as qemu's network `dgram` has them
-  --xot HOST[:PORT], --xot-listen [PORT]
-                       X.25 over TCP (XOT, RFC 1613), port 1998: each circuit is a connection, which a call makes, or another makes,
-                       to this host alone or to HOST:PORT; both may be given. There is no link on the line: the bridge plays one
+The bridge ends when the commands have, nothing is left to do, and no frame went or came for
+--quiet seconds. CTRL-C, SIGTERM and SIGHUP end it too: it sends DISC, and waits no longer than T1
+for the answer. docs/BRIDGE.md says what becomes of a line that goes away, of slow readers and full
+queues, and how to choose the timers.
 
-An address of IPv6 stands in brackets, [::1]:7000. With --library the station is that of `libx25.so` at a path, in this process.
-
-Commands are lines of a script of this end (`dte call 123 4567 41`), of standard input or --commands, and `wait TEXT`, which holds those
-after it until a notice comes that begins so; a carriage return at the end of a line is left out. Notices are the entries of the
-transcript; `! N` for a command that is refused, and `? 60` for one that is none; and lines that begin with `#`, the bridge's own words,
-in UTF-8: why that was, and what becomes of the line. They go to standard output or to --notices. With --stdio commands have to come by
---commands, and notices go to standard error. A `wait` for what can't come any more, as the answer to a call that was cleared, and one
-that has lasted --wait seconds, is refused (61), and those after it go on; one that has lasted 10 seconds says so.
-
-At a terminal the bridge is a console: `help` shows what can be typed there, without this end and with octets as text in quotes, too, and
-`quit`, as the end of the input, ends the bridge as SIGTERM does, but with status 0, or 1.
-
-A message that is refused because 8 of its circuit wait (31) stands aside, with those after it for that circuit, and is asked again
-after the next frame; all else goes on, but for `clear` and `reset` of the circuit, `restart` and `disconnect`, which let the messages go
-first as long as one is taken every --quiet seconds. A command that is refused because 256 packets wait (10) is asked again after the
-next frame, and those after it wait; so do all while the line isn't there. `connect` after `disconnect` begins a new station, once DISC
-is answered or T1 has passed.
-
-T1 fires --t1 seconds after it began anew, where nothing that came is unread; let it be longer than the way to the other end and
-back. Where nothing came for --t3 seconds, the other end is asked whether it is there: by a poll of the link, which it has to answer, and
-of a connection over TCP by the system. Where an interrupt isn't confirmed in --t26 seconds its call is reset; where a call or a reset
-isn't answered in --t21 or --t22 seconds it is cleared; where a clearing isn't in --t23, the station restarts; and where a restart isn't
-in --t20, the link is set up anew. A reader of notices may be slow: 256 KB are kept for him, then channels
-by which messages come are held (`notready`) until he has read half of it. The bridge ends when the commands have, nothing is left to
-do, and no frame went or came for --quiet seconds; with --stay only when the line does. CTRL-C, SIGTERM and SIGHUP end it too: it sends DISC,
-and waits no longer than T1 for the answer.
-
---lose and --damage try a line: each frame that goes or comes is lost, or damaged so that its frame check sequence shows it, with
-that probability; without frame check sequence a damaged frame can't be sent, and is lost. With --heal the line is good once no
-command is left: what was sent arrives then, as long as T1 has tries left, which --n2 gives. --trace has frames as the line has them:
-those that the station sent, before they are lost here, and those that came, before that. So where one of two bridges alone has --lose,
-its trace is whole. The station reads packets in other forms than it writes too (`x25 station --wide`), as other equipment sends them;
-with --no-wide it doesn't.
-
-Exit status: 0; 1 where a command was refused or was none, the line ended before all was done, or nobody reads notices any more; 2 for
-bad words, or anything else that stops the bridge, which standard error names; 130 after CTRL-C, 143 after SIGTERM and
-129 after SIGHUP, as when the terminal is closed.
+Exit status: 0; 1 where a command was refused or was none, the line ended before all was done, or
+nobody reads notices any more; 2 for bad words, or anything else that stops the bridge, which
+standard error names; 130 after CTRL-C, 143 after SIGTERM and 129 after SIGHUP.
 """
 
 from __future__ import annotations
@@ -85,8 +48,8 @@ if TYPE_CHECKING:
 
     Station = Union[piped.Station, linked.Station]
 
-# What a station answers where there is room again once something is acknowledged, where the link was ended for good, for a parameter
-# out of range, and for a line that asks for nothing.
+# What a station answers where there is room again once something is acknowledged, where the link
+# was ended for good, for a parameter out of range, and for a line that asks for nothing.
 FULL, CIRCUIT_FULL, DEAD, OUT_OF_RANGE, NOTHING = "! 10", "! 31", "! 13", "! 34", "? 60"
 # What the bridge answers a `wait` for what doesn't come.
 IN_VAIN = "! 61"
@@ -101,7 +64,10 @@ OTHER = {">": "<", "<": ">"}
 CALL, UA, DM = 0x0B, 0x63, 0x0F
 SABME, DISC, P_OR_F = 0x6F, 0x43, 0x10
 # A call, and an acceptance, with the two packet sizes that they may say.
-SIZED = re.compile(r"(?:with \S+ \S+ (?:d )?)?(?:call \S+ \S+ \S+|accept (?P<channel>\d+))(?: (?P<called>\d{1,3}) (?P<calling>\d{1,3}) \d+ \d+)?")
+SIZED = re.compile(
+    r"(?:with \S+ \S+ (?:d )?)?(?:call \S+ \S+ \S+|accept (?P<channel>\d+))(?: "
+    r"(?P<called>\d{1,3}) (?P<calling>\d{1,3}) \d+ \d+)?"
+)
 SENDS = re.compile(r"\w+ send ")
 TIMEOUT = re.compile(r"\w+ timeout (?P<timer>T\d+)(?: ch=(?P<channel>\d+))?")
 # What it means that a timer of the packet layer has passed, by the last figure of its name.
@@ -110,6 +76,7 @@ OVERDUE = {
     "1": "the call on channel {} isn't answered",
     "2": "the reset of channel {} isn't confirmed",
     "3": "the clearing of channel {} isn't confirmed",
+    "5": "the data of channel {} isn't acknowledged",
     "6": "the interrupt of channel {} isn't confirmed",
 }
 # The options of these timers.
@@ -118,6 +85,7 @@ ANSWERS = {
     "t21": "a call waits for its answer (200, at a DCE 180)",
     "t22": "a reset waits for its answer (180, at a DCE 60)",
     "t23": "a clearing waits for its answer (180, at a DCE 60)",
+    "t25": "a data packet waits for its acknowledgement (0)",
     "t26": "an interrupt waits for its confirmation (180, at a DCE 0)",
 }
 READY = re.compile(r"\w+ (?:not)?ready (\d+)")
@@ -125,7 +93,9 @@ READY = re.compile(r"\w+ (?:not)?ready (\d+)")
 
 def called_channel(octets: bytes) -> int | None:
     """The channel of a CALL in a frame, or None where it brings none."""
-    is_call = len(octets) >= 7 and not octets[1] & 1 and octets[4] == CALL and x25lines.is_sealed(octets)
+    is_call = (
+        len(octets) >= 7 and not octets[1] & 1 and octets[4] == CALL and x25lines.is_sealed(octets)
+    )
     return (octets[2] & 15) << 8 | octets[3] if is_call else None
 
 
@@ -143,17 +113,31 @@ def as_disc(octets: bytes) -> bytes:
 
 
 class Bridge:
-    """A station, its line and its user, and when its timers pass. `status` is what the script ends with."""
+    """A station, its line and its user, and when its timers pass. `status` is what the script ends
+    with."""
 
-    def __init__(self, station: Station, wire: wires.Wire, user: User, options: argparse.Namespace, trace: Outlet | None, signals: Signals) -> None:
-        self._station, self._wire, self._user, self._options, self._trace, self._signals = station, wire, user, options, trace, signals
+    def __init__(
+        self,
+        station: Station,
+        wire: wires.Wire,
+        user: User,
+        options: argparse.Namespace,
+        trace: Outlet | None,
+        signals: Signals,
+    ) -> None:
+        self._station, self._wire, self._user, self._options, self._trace, self._signals = (
+            station, wire, user, options, trace, signals
+        )
         self._end = options.end
         self._direction = ">" if options.end == "dte" else "<"
-        self._going, self._coming = (Mishaps(options.lose, options.damage, 2 * options.seed + way) for way in (0, 1))
+        self._going, self._coming = (
+            Mishaps(options.lose, options.damage, 2 * options.seed + way) for way in (0, 1)
+        )
         self._quiet = quiet(options)
         self._outlets = [it for it in (user.notices, trace) if it is not None]
         self._circuits = Circuits()
-        # When something is due of the station's timers, in milliseconds from when the bridge began; whether an answer is due.
+        # When something is due of the station's timers, in milliseconds from when the bridge
+        # began; whether an answer is due.
         self._began = time.monotonic()
         self._due: int | None = None
         self._is_idle = self._awaits = False
@@ -161,7 +145,8 @@ class Bridge:
         self._held: set[int] = set()
         self._unknown: set[int] = set()
         self._last_frame = time.monotonic()
-        # Whether the link was ended here, and until when an answer to that, or to what T1 sent again, may come.
+        # Whether the link was ended here, and until when an answer to that, or to what T1 sent
+        # again, may come.
         self._is_dead, self._answers = False, [0, 0]
         self._leaves = None
         self.status = 0
@@ -193,8 +178,9 @@ class Bridge:
         return True
 
     def _ready(self) -> set[int]:
-        """Waits until the bridge has something to do; answers the files that are ready. Nothing else waits: as the station is asked one line at a
-        time, tasks of asyncio would all wait for it."""
+        """Waits until the bridge has something to do; answers the files that are ready. Nothing
+        else waits: as the station is asked one line at a time, tasks of asyncio would all wait for
+        it."""
         wire = self._wire
         if not wire.has_begun:
             self._last_frame = time.monotonic()
@@ -205,8 +191,12 @@ class Bridge:
         return waiting.ready(readers, writers, patience)
 
     def _patience(self) -> float | None:
-        """How long nothing may happen before the bridge itself has to act, in seconds; None where it has nothing to do."""
-        if self._leaves is None and (self._command() is not None or self._has_caught_up() or self._in_vain()):
+        """How long nothing may happen before the bridge itself has to act, in seconds; None where
+        it has nothing to do."""
+        if (
+            self._leaves is None
+            and (self._command() is not None or self._has_caught_up() or self._in_vain())
+        ):
             return 0
         now = time.monotonic()
         own = [self._leaves] if self._leaves is not None else [self._passes(), *self._waits()]
@@ -258,27 +248,47 @@ class Bridge:
         if why := never_comes(text, self._end):
             return why
         is_over = self._options.wait is not None and time.monotonic() >= since + self._options.wait
-        return self._circuits.cannot_come(text) or (f"it hasn't come in {self._options.wait:g} seconds" if is_over else "")
+        return (
+            self._circuits.cannot_come(text)
+            or (f"it hasn't come in {self._options.wait:g} seconds" if is_over else "")
+        )
 
     def _waits(self) -> list[float | None]:
-        """When a `wait` is given up, when it is told that it holds commands, and when a command goes before messages that stand aside."""
+        """When a `wait` is given up, when it is told that it holds commands, and when a command
+        goes before messages that stand aside."""
         awaited = self._user.awaits()
         passes = None if self._is_held_up() else self._user.commands.due()
-        return [awaited[1] + self._options.wait if awaited and self._options.wait is not None else None, self._user.silence(), passes]
+        return [
+            awaited[1] + self._options.wait
+            if awaited and self._options.wait is not None
+            else None,
+            self._user.silence(),
+            passes,
+        ]
 
     def _is_settling(self) -> bool:
-        """Whether an answer may still come though the link was ended: a new station would take it for one to its SABM."""
+        """Whether an answer may still come though the link was ended: a new station would take it
+        for one to its SABM."""
         return self._is_dead and time.monotonic() < max(self._answers)
 
     def _is_at_rest(self) -> bool:
         """Whether nothing is left to do here, if nothing comes any more."""
-        is_still = (self._is_idle or not self._circuits.is_up and self._due is None) and not self._wire.waits and not self._user.notices
-        return not self._options.stay and self._wire.has_begun and self._user.has_done() and is_still
+        is_still = (
+            (self._is_idle or not self._circuits.is_up and self._due is None)
+            and not self._wire.waits
+            and not self._user.notices
+        )
+        return (
+            not self._options.stay and self._wire.has_begun and self._user.has_done() and is_still
+        )
 
     def _has_ended(self) -> bool:
         now = time.monotonic()
         if self._leaves is not None:
-            return now >= self._leaves or not (self._is_settling() or self._wire.waits or self._user.notices)
+            return (
+                now >= self._leaves
+                or not (self._is_settling() or self._wire.waits or self._user.notices)
+            )
         return self._is_at_rest() and now >= self._last_frame + self._quiet
 
     def _is_cut_off(self) -> bool:
@@ -315,20 +325,28 @@ class Bridge:
             self._answers[0] = 0
 
     def _is_down(self) -> bool:
-        """Whether SABME is to be answered by DM, which is what DISC is answered by: then the other end goes on by SABM (2.4.4.1)."""
+        """Whether SABME is to be answered by DM, which is what DISC is answered by: then the other
+        end goes on by SABM (2.4.4.1)."""
         return self._options.wide and not self._circuits.is_up and self._due is None
 
     def _look_for_channel(self, octets: bytes) -> None:
-        """Tells of a call on a channel that the station doesn't have, once for each: nothing answers it."""
+        """Tells of a call on a channel that the station doesn't have, once for each: nothing
+        answers it."""
         channel = called_channel(octets)
-        if channel is not None and channel > self._options.channels and channel not in self._unknown:
+        if (
+            channel is not None
+            and channel > self._options.channels
+            and channel not in self._unknown
+        ):
             self._unknown.add(channel)
             self._user.note(
-                f"a call came on channel {channel}, and there are {self._options.channels}: nothing answers it; --channels {channel} would have it"
+                f"a call came on channel {channel}, and there are {self._options.channels}: "
+                f"nothing answers it; --channels {channel} would have it"
             )
 
     def _make_room(self) -> None:
-        """What was refused as too much waits is asked again: a frame came, or the user did something else than send."""
+        """What was refused as too much waits is asked again: a frame came, or the user did
+        something else than send."""
         self._is_full = False
         self._user.commands.make_room()
 
@@ -337,22 +355,27 @@ class Bridge:
         return int(1000 * (time.monotonic() - self._began))
 
     def _asked(self, event: str) -> Answer:
-        """What the station answers to an event at this time, though before anything is due: that waits until all that came is read."""
+        """What the station answers to an event at this time, though before anything is due: that
+        waits until all that came is read."""
         now = self._now()
         return self._station.ask(event, now if self._due is None else min(now, self._due - 1))
 
     def _passes(self) -> float | None:
-        """When something is due of the station's timers; None where nothing is, or nothing is left to do but to see whether the line is there."""
+        """When something is due of the station's timers; None where nothing is, or nothing is left
+        to do but to see whether the line is there."""
         is_over = self._is_at_rest() and not self._awaits
         return None if self._due is None or is_over else self._began + self._due / 1000
 
     def _pass(self) -> None:
-        """The station asks for what is due. Where the link goes down by it, no frame comes, so what waited for one is asked again."""
+        """The station asks for what is due. Where the link goes down by it, no frame comes, so
+        what waited for one is asked again."""
         self._make_room()
         answer = self._station.ask(f"@ {self._now()}")
         self._heed(answer)
         if answer.refusal is not None:
-            self._user.note(f"what is asked as a timer passed is refused: {x25names.refusal(answer.refusal)}")
+            self._user.note(
+                f"what is asked as a timer passed is refused: {x25names.refusal(answer.refusal)}"
+            )
 
     def _heed_timeout(self, timer: str, channel: str) -> None:
         """A timer of the station has passed."""
@@ -407,8 +430,13 @@ class Bridge:
         found = SIZED.fullmatch(command.partition(" ")[2])
         if found and self._wire.most_size < wires.MOST_SIZE:
             said = max(int(found["called"] or 0), int(found["calling"] or 0))
-            if said > self._wire.most_size or not said and self._circuits.proposed.get(int(found["channel"] or 0), 0) > self._wire.most_size:
-                return f"packet sizes over {self._wire.most_size} ({1 << self._wire.most_size} octets) don't fit the line"
+            if said > self._wire.most_size or not said and self._circuits.proposed.get(
+                int(found["channel"] or 0), 0
+            ) > self._wire.most_size:
+                return (
+                    f"packet sizes over {self._wire.most_size} ({1 << self._wire.most_size} "
+                    "octets) don't fit the line"
+                )
         return ""
 
     def _refuse(self, refusal: str, why: str, command: str) -> None:
@@ -425,7 +453,8 @@ class Bridge:
         self._heed(self._station.first)
 
     def _heed(self, answer: Answer) -> None:
-        """Tells and sends what the station answers, and keeps when something is due, as its mark says."""
+        """Tells and sends what the station answers, and keeps when something is due, as its mark
+        says."""
         slow = set()
         for notice in answer.notices:
             if found := TIMEOUT.fullmatch(notice):
@@ -458,7 +487,8 @@ class Bridge:
             self._wire.send(befallen)
 
     def _befallen(self, octets: bytes, mishaps: Mishaps) -> bytes | None:
-        """What comes of a frame; with --heal nothing happens to it any more once no command is left."""
+        """What comes of a frame; with --heal nothing happens to it any more once no command is
+        left."""
         return octets if self._options.heal and self._user.has_done() else mishaps.happen(octets)
 
     def _note(self, direction: str, octets: bytes) -> None:
@@ -468,8 +498,14 @@ class Bridge:
 
     def stats(self) -> None:
         """Says on standard error what went and came."""
-        lost, damaged = (f"{getattr(self._going, kind)} + {getattr(self._coming, kind)} {kind}" for kind in ("lost", "damaged"))
-        x25lines.warn(f"frames: {self.counts['sent']} sent, {self.counts['came']} came; {lost}, {damaged}; T1 fired {self.counts['fired']} times")
+        lost, damaged = (
+            f"{getattr(self._going, kind)} + {getattr(self._coming, kind)} {kind}"
+            for kind in ("lost", "damaged")
+        )
+        x25lines.warn(
+            f"frames: {self.counts['sent']} sent, {self.counts['came']} came; {lost}, {damaged}; "
+            f"T1 fired {self.counts['fired']} times"
+        )
 
 
 def is_xot(options: argparse.Namespace) -> bool:
@@ -480,19 +516,69 @@ def is_xot(options: argparse.Namespace) -> bool:
 def add_station_words(parser: argparse.ArgumentParser) -> None:
     """Adds the words that the station gets."""
     parser.add_argument("end", choices=["dte", "dce"], help="which end the station is")
-    parser.add_argument("--k", type=within(int, 1, 7), metavar="N", help="the window of the link, 1 to 7 (7)")
-    parser.add_argument("--n2", type=within(int, 1, 255), metavar="N", help="how often a command is sent again, 1 to 255 (10)")
-    parser.add_argument("--channels", type=within(int, 1, MOST_CHANNELS), default=1, metavar="N", help="logical channels, 1 to 4095 (1)")
-    for name, kept in (("incoming", "1 to N, on which a DTE doesn't call"), ("outgoing", "the N highest, on which a DCE doesn't call")):
-        parser.add_argument(f"--{name}", type=within(int, 0, MOST_CHANNELS), metavar="N", help=f"one-way {name} channels: {kept} (0)")
-    parser.add_argument("--message", type=within(int, 1, 65535), metavar="N", help="how many octets a message may have, 1 to 65535 (65535)")
-    parser.add_argument("--long", action="store_true", help="a call may have up to 128 octets of user data")
-    parser.add_argument("--no-wide", dest="wide", action="store_false", help="read packets only in the form that a station writes")
-    parser.add_argument("--t1", type=within(float, 0.001, 86_400), default=1, metavar="SECONDS", help="how long T1 is (1)")
-    parser.add_argument("--t3", type=within(float, 0, 86_400), default=60, metavar="SECONDS", help="how long nothing comes before the other end is asked; 0 for never (60)")
+    parser.add_argument(
+        "--k", type=within(int, 1, 7), metavar="N", help="the window of the link, 1 to 7 (7)"
+    )
+    parser.add_argument(
+        "--n2",
+        type=within(int, 1, 255),
+        metavar="N",
+        help="how often a command is sent again, 1 to 255 (10)",
+    )
+    parser.add_argument(
+        "--channels",
+        type=within(int, 1, MOST_CHANNELS),
+        default=1,
+        metavar="N",
+        help="logical channels, 1 to 4095 (1)",
+    )
+    for name, kept in (
+        ("incoming", "1 to N, on which a DTE doesn't call"),
+        ("outgoing", "the N highest, on which a DCE doesn't call"),
+    ):
+        parser.add_argument(
+            f"--{name}",
+            type=within(int, 0, MOST_CHANNELS),
+            metavar="N",
+            help=f"one-way {name} channels: {kept} (0)",
+        )
+    parser.add_argument(
+        "--message",
+        type=within(int, 1, 65535),
+        metavar="N",
+        help="how many octets a message may have, 1 to 65535 (65535)",
+    )
+    parser.add_argument(
+        "--long", action="store_true", help="a call may have up to 128 octets of user data"
+    )
+    parser.add_argument(
+        "--no-wide",
+        dest="wide",
+        action="store_false",
+        help="read packets only in the form that a station writes",
+    )
+    parser.add_argument(
+        "--t1",
+        type=within(float, 0.001, 86_400),
+        default=1,
+        metavar="SECONDS",
+        help="how long T1 is (1)",
+    )
+    parser.add_argument(
+        "--t3",
+        type=within(float, 0, 86_400),
+        default=60,
+        metavar="SECONDS",
+        help="how long nothing comes before the other end is asked; 0 for never (60)",
+    )
     for name, what in ANSWERS.items():
-        of_dce = "" if name == "t26" else f", at a DCE T1{name[-1]}"
-        parser.add_argument(f"--{name}", type=within(float, 0, 86_400), metavar="SECONDS", help=f"how long {what}{of_dce}; 0 for ever")
+        of_dce = "" if name in ("t25", "t26") else f", at a DCE T1{name[-1]}"
+        parser.add_argument(
+            f"--{name}",
+            type=within(float, 0, 86_400),
+            metavar="SECONDS",
+            help=f"how long {what}{of_dce}; 0 for ever",
+        )
     decoding.add_program(parser)
 
 
@@ -500,8 +586,15 @@ def station_words(options: argparse.Namespace) -> list[str]:
     """The words that the station gets after its end."""
     given = {name: getattr(options, name) for name in NUMBERS} | milliseconds(options)
     pairs = [(f"--{name}", str(number)) for name, number in given.items() if number is not None]
-    flags = {"--long": options.long, "--say-sizes": is_xot(options), "--wide": options.wide, "--clock": True}
-    return [word for pair in pairs for word in pair] + [word for word, is_asked in flags.items() if is_asked]
+    flags = {
+        "--long": options.long,
+        "--say-sizes": is_xot(options),
+        "--wide": options.wide,
+        "--clock": True,
+    }
+    return [word for pair in pairs for word in pair] + [
+        word for word, is_asked in flags.items() if is_asked
+    ]
 
 
 def milliseconds(options: argparse.Namespace) -> dict[str, int | None]:
@@ -516,25 +609,96 @@ def station_of(options: argparse.Namespace) -> Station:
         return piped.Station(options.x25, options.end, station_words(options))
     from x25tools import linked
 
-    given = {name: getattr(options, name) for name in NUMBERS if getattr(options, name) is not None}
-    return linked.Station(options.library, options.end, milliseconds(options), long_data=options.long, say_sizes=is_xot(options), wide=options.wide, **given)
+    given = {
+        name: getattr(options, name) for name in NUMBERS if getattr(options, name) is not None
+    }
+    return linked.Station(
+        options.library,
+        options.end,
+        milliseconds(options),
+        long_data=options.long,
+        say_sizes=is_xot(options),
+        wide=options.wide,
+        **given,
+    )
 
 
 def add_line_words(parser: argparse.ArgumentParser) -> None:
     """Adds the words that say what the line is."""
-    parser.add_argument("--listen", type=host_and_port, metavar="PORT", help="lines of a trace over a connection that another makes")
-    parser.add_argument("--connect", type=host_and_port, metavar="HOST:PORT", help="lines of a trace over a connection to HOST")
-    parser.add_argument("--stdio", action="store_true", help="lines of a trace on standard input and output")
-    parser.add_argument("--ethernet", metavar="IFACE", help="lapbether on an interface")
-    parser.add_argument("--udp", type=ports, metavar="LOCAL:REMOTE", help="lapbether in datagrams between two ports")
-    parser.add_argument("--xot", type=xot_host, metavar="HOST[:PORT]", help="XOT: calls make connections to HOST")
-    own = ("127.0.0.1", XOT_PORT)
-    parser.add_argument("--xot-listen", type=host_and_port, nargs="?", const=own, metavar="PORT", help="XOT: others make connections")
-    parser.add_argument("--retry", action="store_true", help="with --connect: where there is no connection, make one again and again")
-    parser.add_argument("--lose", type=within(float, 0, 1), default=0, metavar="P", help="the probability that a frame is lost (0)")
-    parser.add_argument("--damage", type=within(float, 0, 1), default=0, metavar="P", help="the probability that it is damaged (0)")
-    parser.add_argument("--heal", action="store_true", help="lose and damage nothing any more once no command is left")
-    parser.add_argument("--seed", type=within(int, 0, 2**63), default=1, metavar="N", help="what these chances come from (1)")
+    line = parser.add_argument_group(
+        "the line", "One of these. An address of IPv6 stands in brackets: [::1]:7000."
+    )
+    line.add_argument(
+        "--listen",
+        type=host_and_port,
+        metavar="PORT",
+        help="lines of a trace over a connection that another makes, to this host or to HOST:PORT",
+    )
+    line.add_argument(
+        "--connect",
+        type=host_and_port,
+        metavar="HOST:PORT",
+        help="lines of a trace over a connection to HOST",
+    )
+    line.add_argument(
+        "--stdio",
+        action="store_true",
+        help="lines of a trace on standard input and output; commands come by --commands",
+    )
+    line.add_argument(
+        "--ethernet",
+        metavar="IFACE",
+        help="lapbether on an interface: only root may; where it is down it is waited for",
+    )
+    line.add_argument(
+        "--udp",
+        type=ports,
+        metavar="LOCAL:REMOTE",
+        help="lapbether in datagrams between two ports, or LOCAL:HOST:REMOTE, as qemu has them",
+    )
+    line.add_argument(
+        "--xot",
+        type=xot_host,
+        metavar="HOST[:PORT]",
+        help="X.25 over TCP (XOT, RFC 1613): calls make connections to HOST",
+    )
+    line.add_argument(
+        "--xot-listen",
+        type=host_and_port,
+        nargs="?",
+        const=("127.0.0.1", XOT_PORT),
+        metavar="PORT",
+        help="XOT: others make connections, to this host or to HOST:PORT; also beside --xot",
+    )
+    line.add_argument(
+        "--retry",
+        action="store_true",
+        help="with --connect: where there is no connection, make one again and again",
+    )
+    tried = parser.add_argument_group(
+        "losses", "Each frame that goes or comes is lost or damaged with a probability."
+    )
+    chance = within(float, 0, 1)
+    tried.add_argument("--lose", type=chance, default=0, metavar="P", help="lost (0)")
+    tried.add_argument(
+        "--damage",
+        type=chance,
+        default=0,
+        metavar="P",
+        help="damaged so that its frame check sequence shows it; where there is none, lost (0)",
+    )
+    tried.add_argument(
+        "--heal",
+        action="store_true",
+        help="lose and damage nothing any more once no command is left",
+    )
+    tried.add_argument(
+        "--seed",
+        type=within(int, 0, 2**63),
+        default=1,
+        metavar="N",
+        help="what these chances come from (1)",
+    )
 
 
 def words() -> argparse.Namespace:
@@ -542,18 +706,51 @@ def words() -> argparse.Namespace:
     parser = x25lines.parser(__doc__)
     add_station_words(parser)
     add_line_words(parser)
-    parser.add_argument("--library", metavar="PATH", help="a libx25.so, in place of the program")
-    parser.add_argument("--quiet", type=within(float, 0, 86_400), metavar="SECONDS", help=f"how long nothing comes at the end ({QUIET_T1S} times T1)")
-    parser.add_argument("--wait", type=within(float, 0, 86_400), metavar="SECONDS", help="how long a `wait` waits (as long as it may come)")
+    parser.add_argument(
+        "--library", metavar="PATH", help="a libx25.so in this process, in place of the program"
+    )
+    parser.add_argument(
+        "--quiet",
+        type=within(float, 0, 86_400),
+        metavar="SECONDS",
+        help=f"how long nothing comes at the end ({QUIET_T1S} times T1)",
+    )
+    parser.add_argument(
+        "--wait",
+        type=within(float, 0, 86_400),
+        metavar="SECONDS",
+        help="how long a `wait` waits (as long as it may come)",
+    )
     parser.add_argument("--stay", action="store_true", help="end only when the line does")
-    parser.add_argument("--commands", metavar="FILE", help="where commands come from (standard input)")
+    parser.add_argument(
+        "--commands", metavar="FILE", help="where commands come from (standard input)"
+    )
     parser.add_argument("--notices", metavar="FILE", help="where notices go to (standard output)")
-    parser.add_argument("--trace", metavar="FILE", help="write the frames that the station sent and those that came, each with its time")
-    parser.add_argument("--stats", action="store_true", help="say at the end how many frames went and came")
+    parser.add_argument(
+        "--trace",
+        metavar="FILE",
+        help=(
+            "write the frames that the station sent and those that came, each with its time, "
+            "before any is lost here"
+        ),
+    )
+    parser.add_argument(
+        "--stats", action="store_true", help="say at the end how many frames went and came"
+    )
     options = parser.parse_args()
-    lines = [options.listen, options.connect, options.stdio, options.ethernet, options.udp, is_xot(options)]
+    lines = [
+        options.listen,
+        options.connect,
+        options.stdio,
+        options.ethernet,
+        options.udp,
+        is_xot(options),
+    ]
     if sum(map(bool, lines)) != 1:
-        parser.error("name one line: --listen, --connect, --stdio, --ethernet, --udp, or --xot and --xot-listen")
+        parser.error(
+            "name one line: --listen, --connect, --stdio, --ethernet, --udp, or --xot and "
+            "--xot-listen"
+        )
     if options.lose + options.damage > 1:
         parser.error("the two probabilities come to more than 1")
     if is_xot(options) and options.lose + options.damage > 0:
@@ -614,8 +811,14 @@ def user_of(options: argparse.Namespace, files: contextlib.ExitStack) -> User:
 
 
 def has_console(options: argparse.Namespace) -> bool:
-    """Whether the user sits at a terminal that can make room for a line, and the bridge isn't one of its jobs in the background."""
-    if options.stdio or options.commands or options.notices or os.environ.get("TERM", "dumb") == "dumb":
+    """Whether the user sits at a terminal that can make room for a line, and the bridge isn't one
+    of its jobs in the background."""
+    if (
+        options.stdio
+        or options.commands
+        or options.notices
+        or os.environ.get("TERM", "dumb") == "dumb"
+    ):
         return False
     return sys.stdin.isatty() and sys.stdout.isatty() and os.tcgetpgrp(0) == os.getpgrp()
 

@@ -2,9 +2,10 @@
 
 The formats are those of the IETF drafts draft-ietf-opsawg-pcap and draft-ietf-opsawg-pcapng.
 
-A record is one captured packet, a tuple: its number from 1, the link type, its octets, whether they are a part of it alone, its time in
-nanoseconds, whether the host that captured sent it, how many of its octets are a frame check sequence, its flags, how many packets the program
-that captured dropped just before it. None is what the capture doesn't say.
+A record is one captured packet, a tuple: its number from 1, the link type, its octets, whether
+they are a part of it alone, its time in nanoseconds, whether the host that captured sent it, how
+many of its octets are a frame check sequence, its flags, how many packets the program that
+captured dropped just before it. None is what the capture doesn't say.
 """
 
 from __future__ import annotations
@@ -25,7 +26,8 @@ PCAP_MAGIC = {
     b"\x4d\x3c\xb2\xa1": ("<", 1),
 }
 SECTION, INTERFACE, OLD_PACKET, SIMPLE_PACKET, STATISTICS, PACKET = 0x0A0D0D0A, 1, 2, 3, 5, 6
-# What the blocks of packets begin with: the interface, the time, how many octets were captured and how many there were; of a simple one, that alone.
+# What the blocks of packets begin with: the interface, the time, how many octets were captured and
+# how many there were; of a simple one, that alone.
 FIELDS = {PACKET: "IIIII", OLD_PACKET: "HxxIIII", SIMPLE_PACKET: "I"}
 LENGTHS = {kind: struct.calcsize("<" + form) for kind, form in FIELDS.items()}
 SECTION_TYPE = struct.pack("<I", SECTION)
@@ -54,7 +56,8 @@ MOST_BLOCK = 16_777_216
 
 
 class Interface(NamedTuple):
-    """What a section says of one of its interfaces; `ticks` of its clock are `tick` nanoseconds, and it began at `offset`."""
+    """What a section says of one of its interfaces; `ticks` of its clock are `tick` nanoseconds,
+    and it began at `offset`."""
 
     link_type: int
     tick: int
@@ -64,10 +67,12 @@ class Interface(NamedTuple):
 
 
 def blocks(file: x25lines.Readable, notes: Counter[str] | None = None) -> Iterator[list[Record]]:
-    """Yields the records of a capture, of whichever format, in lists, each of those that are there at once.
+    """Yields the records of a capture, of whichever format, in lists, each of those that are there
+    at once.
 
-    A file that isn't one, or breaks off, is bad input, told after the records before that; an empty one has none. `notes` counts what the capture says
-    was dropped, of which no record says where.
+    A file that isn't one, or breaks off, is bad input, told after the records before that; an
+    empty one has none. `notes` counts what the capture says was dropped, of which no record says
+    where.
     """
     reader: _Pcap | _Pcapng | None = None
     rest = b""
@@ -107,7 +112,9 @@ class _Pcap:
     dropped: dict[tuple[int, bytes], int] = {}
 
     def __init__(self, order: str, tick: int) -> None:
-        self._file_header, self._header = struct.Struct(order + "IHHiIII"), struct.Struct(order + "IIII")
+        self._file_header, self._header = (
+            struct.Struct(order + "IHHiIII"), struct.Struct(order + "IIII")
+        )
         self._tick = tick
         self._link_type = self._number = 0
         self._fcs_octets: int | None = None
@@ -133,7 +140,17 @@ class _Pcap:
                 break
             self._number += 1
             time = whole * NANOSECONDS + part * self._tick
-            records.append((self._number, self._link_type, octets[at + 16 : end], captured < length, time, None, self._fcs_octets, 0, 0))
+            records.append((
+                self._number,
+                self._link_type,
+                octets[at + 16 : end],
+                captured < length,
+                time,
+                None,
+                self._fcs_octets,
+                0,
+                0,
+            ))
             at = end
         return at
 
@@ -147,7 +164,11 @@ class _Pcap:
 
 def _wrong_length(captured: int, number: int) -> BadInput:
     """What is told of a record that says it has so many octets."""
-    return BadInput(f"record {number} has a wrong length, {captured:,} octets" if captured else f"record {number} holds no octets")
+    return BadInput(
+        f"record {number} has a wrong length, {captured:,} octets"
+        if captured
+        else f"record {number} holds no octets"
+    )
 
 
 class _Pcapng:
@@ -195,7 +216,11 @@ class _Pcapng:
     def _count(self, body: bytes) -> None:
         """Reads the statistics of an interface."""
         options = _options(body[12:], self._order) or {}
-        counts = [struct.unpack(self._order + "Q", options[code])[0] for code in DROPS if len(options.get(code, b"")) == 8]
+        counts = [
+            struct.unpack(self._order + "Q", options[code])[0]
+            for code in DROPS
+            if len(options.get(code, b"")) == 8
+        ]
         if sum(counts):
             self.dropped[self._sections, body[:4]] = sum(counts)
 
@@ -205,8 +230,12 @@ class _Pcapng:
             raise BadInput("a section header has no byte order")
         self._sections += 1
         order = self._order = BYTE_ORDERS[magic]
-        self._head, self._word = struct.Struct(order + "II").unpack_from, struct.Struct(order + "I").unpack_from
-        self._fields = {kind: struct.Struct(order + form).unpack_from for kind, form in FIELDS.items()}
+        self._head, self._word = (
+            struct.Struct(order + "II").unpack_from, struct.Struct(order + "I").unpack_from
+        )
+        self._fields = {
+            kind: struct.Struct(order + form).unpack_from for kind, form in FIELDS.items()
+        }
         self._interfaces: list[Interface] = []
 
     def _packet(self, kind: int, octets: bytes, start: int, end: int) -> Record:
@@ -224,7 +253,9 @@ class _Pcapng:
         if captured > MOST_CAPTURED or not length or start + captured > end:
             raise _wrong_length(captured, number)
         if index >= len(self._interfaces):
-            raise BadInput(f"record {number} names the interface {index}, which the file doesn't describe")
+            raise BadInput(
+                f"record {number} names the interface {index}, which the file doesn't describe"
+            )
         link_type, tick, ticks, offset, fcs_octets = self._interfaces[index]
         packet = octets[start : start + captured]
         if kind == SIMPLE_PACKET:
@@ -235,7 +266,17 @@ class _Pcapng:
         flags, dropped = read
         time = (high << 32 | low) * tick // ticks + offset
         is_outbound, fcs_octets = IS_OUTBOUND[flags & DIRECTION], flags >> 5 & 0xF or fcs_octets
-        return number, link_type, packet, captured < length, time if time > 0 else 0, is_outbound, fcs_octets, flags, dropped
+        return (
+            number,
+            link_type,
+            packet,
+            captured < length,
+            time if time > 0 else 0,
+            is_outbound,
+            fcs_octets,
+            flags,
+            dropped,
+        )
 
 
 def _interface(body: bytes, order: str) -> Interface:
@@ -250,23 +291,33 @@ def _interface(body: bytes, order: str) -> Interface:
     offset, fcs_octets = options.get(CLOCK_OFFSET, b""), options.get(FCS_LENGTH)
     seconds = struct.unpack(order + "q", offset)[0] if len(offset) == 8 else 0
     link_type = struct.unpack_from(order + "H", body)[0]
-    return Interface(link_type, NANOSECONDS // shared, ticks // shared, seconds * NANOSECONDS, fcs_octets[0] if fcs_octets else None)
+    return Interface(
+        link_type,
+        NANOSECONDS // shared,
+        ticks // shared,
+        seconds * NANOSECONDS,
+        fcs_octets[0] if fcs_octets else None,
+    )
 
 
 # The options of most packets of a file are the same.
 @functools.lru_cache(maxsize=256)
 def _flags(octets: bytes, order: str) -> tuple[int, int] | None:
-    """The flags of a packet with these options, and how many packets were dropped before it, 0 where none of these has them; None where the
-    options can't be read."""
+    """The flags of a packet with these options, and how many packets were dropped before it, 0
+    where none of these has them; None where the options can't be read."""
     options = _options(octets, order)
     if options is None:
         return None
     flags, dropped = options.get(FLAGS, b""), options.get(DROP_COUNT, b"")
-    return struct.unpack(order + "I", flags)[0] if len(flags) == 4 else 0, struct.unpack(order + "Q", dropped)[0] if len(dropped) == 8 else 0
+    return (
+        struct.unpack(order + "I", flags)[0] if len(flags) == 4 else 0,
+        struct.unpack(order + "Q", dropped)[0] if len(dropped) == 8 else 0,
+    )
 
 
 def _options(octets: bytes, order: str) -> dict[int, bytes] | None:
-    """The options of a block, by their code, or None where one has a wrong length; of a code that comes twice the first counts."""
+    """The options of a block, by their code, or None where one has a wrong length; of a code that
+    comes twice the first counts."""
     options: dict[int, bytes] = {}
     at = 0
     while at + 4 <= len(octets):
@@ -286,11 +337,18 @@ class Writer:
     def __init__(self, file: BinaryIO, link_type: int) -> None:
         self._file = file
         self._block(SECTION, struct.pack("<IHHq", BYTE_ORDER, 1, 0, -1))
-        self._block(INTERFACE, struct.pack("<HHI", link_type, 0, 0) + _option(RESOLUTION, b"\x09") + _option(END_OF_OPTIONS, b""))
+        self._block(
+            INTERFACE,
+            struct.pack("<HHI", link_type, 0, 0)
+            + _option(RESOLUTION, b"\x09")
+            + _option(END_OF_OPTIONS, b""),
+        )
 
     def packet(self, octets: bytes, time: int, flags: int) -> None:
         """Writes one packet, with its time in nanoseconds and its flags."""
-        head = struct.pack("<IIIII", 0, time >> 32 & 0xFFFF_FFFF, time & 0xFFFF_FFFF, len(octets), len(octets))
+        head = struct.pack(
+            "<IIIII", 0, time >> 32 & 0xFFFF_FFFF, time & 0xFFFF_FFFF, len(octets), len(octets)
+        )
         options = _option(FLAGS, struct.pack("<I", flags)) + _option(END_OF_OPTIONS, b"")
         self._block(PACKET, head + _padded(octets) + options)
 

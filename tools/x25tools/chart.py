@@ -13,10 +13,11 @@ reads it, one connection is drawn. A run alone doesn't say which of its frames w
 --script the run is made here from its script, by `x25 sim --tap`, and what the script loses or
 damages is marked.
 
-The program is the one that --x25 or the variable X25 names, or `x25` of the PATH, or else the one that was built or
-installed with this script, or that of `make look`, which is unproved.
+The program is the one that --x25 or the variable X25 names, or `x25` of the PATH, or else the one
+that was built or installed with this script, or that of `make look`, which is unproved.
 
-Exit status: 0, 1 where something of a capture was left out, or 2 for bad words or bad input, where a chart as text has the rows before it.
+Exit status: 0, 1 where something of a capture was left out, or 2 for bad words or bad input, where
+a chart as text has the rows before it.
 """
 
 from __future__ import annotations
@@ -39,7 +40,8 @@ def rows(
     blocks: Iterable[tuple[int, list[bytes]]],
     sent_by: str | None = None,
 ) -> Iterator[list[Row]]:
-    """Yields the rows of the lines of each block, which is given with the number of its first line. Bad input is told after the rows before."""
+    """Yields the rows of the lines of each block, which is given with the number of its first
+    line. Bad input is told after the rows before."""
     for first, lines in blocks:
         found: list[Row] = []
         try:
@@ -80,15 +82,25 @@ def row(number: int, line: written.Line) -> Row:
     )
 
 
-def lines_of_capture(converter: pcap2x25.Converter, file: x25lines.Readable, options: argparse.Namespace) -> Iterator[tuple[int, list[bytes]]]:
+def lines_of_capture(
+    converter: pcap2x25.Converter, file: x25lines.Readable, options: argparse.Namespace
+) -> Iterator[tuple[int, list[bytes]]]:
     """Yields the lines of a connection with their times, as blocks of lines."""
     number = 1
     for times, lines in pcap2x25.lines_of(converter, file, options):
-        yield number, [f"{x25lines.seconds(time)}\t{line}".rstrip("\n").encode() for time, line in zip(times, lines)]
+        yield (
+            number,
+            [
+                f"{x25lines.seconds(time)}\t{line}".rstrip("\n").encode()
+                for time, line in zip(times, lines)
+            ],
+        )
         number += len(lines)
 
 
-def rows_of_script(decoder: decoding.Decoder, program: str, file: x25lines.Readable, words: list[str]) -> list[list[Row]]:
+def rows_of_script(
+    decoder: decoding.Decoder, program: str, file: x25lines.Readable, words: list[str]
+) -> list[list[Row]]:
     """The rows of the run of a script, with what became of each frame."""
     run = simruns.run(program, b"".join(x25lines.pieces(file)), words)
     drawn, = rows(decoder, [(1, run.lines)])
@@ -101,13 +113,22 @@ def rows_of_script(decoder: decoding.Decoder, program: str, file: x25lines.Reada
 def draw(blocks: Iterable[list[Row]], options: argparse.Namespace, out: TextIO) -> None:
     """Writes the chart of the rows of some blocks."""
     if options.svg:
-        blocks = [list(itertools.islice(itertools.chain.from_iterable(blocks), drawing.Svg.MOST_ROWS + 1))]
+        blocks = [
+            list(
+                itertools.islice(itertools.chain.from_iterable(blocks), drawing.Svg.MOST_ROWS + 1)
+            )
+        ]
         if len(blocks[0]) > drawing.Svg.MOST_ROWS:
-            raise BadInput(f"a picture has at most {drawing.Svg.MOST_ROWS:,} rows: cut the trace, or draw it as text")
+            raise BadInput(
+                f"a picture has at most {drawing.Svg.MOST_ROWS:,} rows: cut the trace, or draw it "
+                "as text"
+            )
         chart: drawing.Svg | drawing.Text = drawing.Svg(options.width, len(blocks[0]))
     else:
         chart = drawing.Text(options.width)
-    for lines in itertools.chain([chart.begin()], (map(chart.row, block) for block in blocks), [chart.end()]):
+    for lines in itertools.chain(
+        [chart.begin()], (map(chart.row, block) for block in blocks), [chart.end()]
+    ):
         out.write("".join([f"{line}\n" for line in lines]))
 
 
@@ -116,16 +137,25 @@ def words() -> argparse.Namespace:
     parser = x25lines.parser(__doc__)
     x25lines.add_input(parser, "what to draw")
     parser.add_argument("--script", action="store_true", help="the input is a script: run it")
-    parser.add_argument("--sim", default="", metavar="WORDS", help="with --script, more words for `x25 sim`, as in --sim '--k 2'")
+    parser.add_argument(
+        "--sim",
+        default="",
+        metavar="WORDS",
+        help="with --script, more words for `x25 sim`, as in --sim '--k 2'",
+    )
     parser.add_argument("--svg", action="store_true", help="draw SVG")
-    parser.add_argument("--width", type=int, default=76, metavar="N", help="characters between the two ends (76)")
+    parser.add_argument(
+        "--width", type=int, default=76, metavar="N", help="characters between the two ends (76)"
+    )
     pcap2x25.add_capture_words(parser)
     decoding.add_program(parser)
     options = parser.parse_args()
     if not LEAST_WIDTH <= options.width <= MOST_WIDTH:
         parser.error(f"the width is from {LEAST_WIDTH} to {MOST_WIDTH}")
     if options.script and options.x25 is None:
-        parser.error("a script needs the program x25: build it (make look, make x25) or name it (--x25)")
+        parser.error(
+            "a script needs the program x25: build it (make look, make x25) or name it (--x25)"
+        )
     return options
 
 
@@ -133,7 +163,9 @@ def main() -> int:
     options = words()
     with x25lines.opened(options.file) as file, decoding.Decoder(options.x25, DECODING) as decoder:
         if options.script:
-            drawn: Iterable[list[Row]] = rows_of_script(decoder, options.x25, file, options.sim.split())
+            drawn: Iterable[list[Row]] = rows_of_script(
+                decoder, options.x25, file, options.sim.split()
+            )
         elif captures.is_capture(file):
             converter = pcap2x25.Converter(options)
             draw(rows(decoder, lines_of_capture(converter, file, options)), options, sys.stdout)

@@ -1,28 +1,41 @@
-"""What the entries of a station tell of its link and its circuits, and by that what can't be told any more."""
+"""What the entries of a station tell of its link and its circuits, and by that what can't be told
+any more."""
 
 from __future__ import annotations
 
 import re
+from collections import Counter
 
 CHANNEL = re.compile(r" ch=(\d+)")
+# The channel that a text names, or the first digits of it, where no blank comes after these.
+NAMED = re.compile(r"ch=([1-9]\d*)(?:$|( ))")
+MOST_DIGITS = 4
 PROPOSED = re.compile(r" size=(\d+),(\d+) ")
 EVENT = re.compile(r"(d[tc]e) ([a-z]+)(?: |$)")
 # The state of a circuit after an event; after a fault the station clears or resets it.
-BECOMES = {"call": "calling", "incoming": "called", "accept": "open", "connected": "open", "clear": "clearing", "reset": "resetting"}
+BECOMES = {
+    "call": "calling", "incoming": "called", "accept": "open", "connected": "open",
+    "clear": "clearing", "reset": "resetting",
+}
 BECOMES |= {"resetdone": "open", "wasreset": "open", "fault": "fault"}
 ENDS = ("cleared", "cleardone", "collided")
 OPEN = ("open", "resetting", "fault")
-# In which states of a circuit an event may come next, or after what the other end does first; and what is said where none is in such a one.
+# In which states of a circuit an event may come next, or after what the other end does first; and
+# what is said where none is in such a one.
 COMES_IN = {
     "connected": (("calling",), "no call waits for an answer"),
     "cleardone": (("clearing", "fault"), "nothing is being cleared"),
     "resetdone": (("resetting", "fault"), "nothing is being reset"),
-    **dict.fromkeys(("message", "interrupt", "intdone", "confirmed", "wasreset"), (("calling", *OPEN), "no call is up")),
+    **dict.fromkeys(
+        ("message", "interrupt", "intdone", "confirmed", "wasreset"),
+        (("calling", *OPEN), "no call is up"),
+    ),
 }
 # The events of all notices.
 EVENTS = frozenset(
     "accept beside call clear cleardone cleared collided confirmed connect connected diagnostic"
-    " disconnect fault incoming int intdone interrupt linkdown linkup message notready ready"
+    " disconnect disconnected fault incoming int intdone interrupt linkdown linkup message "
+    "notready ready"
     " relink reset resetdone restart restartdone restarted send timeout wasreset".split()
 )
 # What comes of the link that this end sets up.
@@ -30,14 +43,18 @@ OF_THE_LINK = ("linkup", "restarted", "incoming")
 
 
 class Circuits:
-    """The states of the circuits by their channels, those of which the user isn't ready, what calls propose, and whether the link is up."""
+    """The states of the circuits by their channels, those of which the user isn't ready, what
+    calls propose, and whether the link is up."""
 
     def __init__(self) -> None:
         self._states: dict[int, str] = {}
+        # How many circuits are in each state.
+        self._counts: Counter[str] = Counter()
         self.not_ready: set[int] = set()
         self.proposed: dict[int, int] = {}
         self.is_up = False
-        # Whether this end asked for the link, whether that came to nothing, and whether it ended it; whether it has restarted.
+        # Whether this end asked for the link, whether that came to nothing, and whether it ended
+        # it; whether it has restarted.
         self._connects = self._has_failed = self._has_ended = self._restarts = False
 
     def heed(self, notice: str) -> tuple[str, int | None]:
@@ -56,10 +73,8 @@ class Circuits:
 
     def _heed_a_circuit(self, event: str, channel: int, notice: str) -> None:
         """Takes an entry on a circuit."""
-        if event in BECOMES:
-            self._states[channel] = BECOMES[event]
-        elif event in ENDS:
-            self._states.pop(channel, None)
+        if event in BECOMES or event in ENDS:
+            self._become(channel, BECOMES.get(event))
         if event == "incoming":
             said = PROPOSED.search(notice)
             self.proposed[channel] = max(int(said[1]), int(said[2])) if said else 0
@@ -68,6 +83,15 @@ class Circuits:
         elif event in ("clear", "cleared", "cleardone", "reset", "wasreset", "resetdone"):
             # Both ends are ready after a reset.
             self.not_ready.discard(channel)
+
+    def _become(self, channel: int, state: str | None) -> None:
+        """A circuit is in a state, or there is none any more."""
+        was = self._states.pop(channel, None)
+        if was is not None:
+            self._counts[was] -= 1
+        if state is not None:
+            self._states[channel] = state
+            self._counts[state] += 1
 
     def _heed_the_link(self, event: str) -> None:
         """Takes an entry on the link, or on all circuits."""
@@ -78,6 +102,7 @@ class Circuits:
             self._connects, self._has_ended = False, True
             return
         self._states.clear()
+        self._counts.clear()
         self.not_ready.clear()
         self._restarts = event == "restart"
         if event == "linkdown":
@@ -100,7 +125,8 @@ class Circuits:
         return [link, *(f"channel {it}: {state}{held.get(it, '')}" for it, state in states)]
 
     def cannot_come(self, text: str) -> str:
-        """Why no notice that begins with a text can come any more, while this end asks for nothing; nothing where one can."""
+        """Why no notice that begins with a text can come any more, while this end asks for
+        nothing; nothing where one can."""
         found = EVENT.match(text)
         if not found:
             return ""
@@ -108,11 +134,23 @@ class Circuits:
         if self._has_ended:
             return "the link was ended here"
         states, why = COMES_IN.get(event, ((), ""))
-        if why and not any(_may_begin(f"{end} {event} ch={it}", text) for it, state in self._states.items() if state in states):
+        if why and not self._is_one_in(states, text[found.end() :]):
             return why if self.is_up else "the link isn't up"
         if event == "restartdone" and not self._restarts:
             return "no restart is under way"
         return "the link didn't come up" if event in OF_THE_LINK and self._has_failed else ""
+
+    def _is_one_in(self, states: tuple[str, ...], rest: str) -> bool:
+        """Whether a circuit is in one of these states, and a notice of it may begin so after its
+        event."""
+        if "ch=".startswith(rest):
+            return any(self._counts[state] for state in states)
+        found = NAMED.match(rest)
+        if not found:
+            return False
+        first, steps = int(found[1]), [10**more for more in range(1 if found[2] else MOST_DIGITS)]
+        numbers = (it for step in steps for it in range(first * step, (first + 1) * step))
+        return any(self._states.get(it) in states for it in numbers)
 
 
 def never_comes(text: str, end: str) -> str:
@@ -128,8 +166,3 @@ def never_comes(text: str, end: str) -> str:
     if event in EVENTS or not is_whole and any(it.startswith(event) for it in EVENTS):
         return ""
     return f"no notice tells of {event!r}"
-
-
-def _may_begin(notice: str, text: str) -> bool:
-    """Whether a notice that goes on after these words, or ends there, may begin with a text."""
-    return f"{notice} ".startswith(text) or text.startswith(f"{notice} ")

@@ -1,6 +1,7 @@
 """The scripts by one name.
 
-Each COMMAND is one of them, and COMMAND --help shows its words. Where they are installed, `x25 COMMAND` does the same.
+Each COMMAND is one of them, and COMMAND --help shows its words. Where they are installed, `x25
+COMMAND` does the same.
 """
 
 import importlib
@@ -27,7 +28,9 @@ def main() -> int:
     if name not in COMMANDS:
         rows = "".join(f"  {name:8} {what}\n" for name, (_, what) in COMMANDS.items())
         is_help = name in ("-h", "--help")
-        (sys.stdout if is_help else sys.stderr).write(f"usage: x25tools COMMAND ..\n\n{__doc__}\n{rows}")
+        (sys.stdout if is_help else sys.stderr).write(
+            f"usage: x25tools COMMAND ..\n\n{__doc__}\n{rows}"
+        )
         return 0 if is_help else 2
     sys.argv[:2] = [f"{sys.argv[0]} {name}"]
     status: int = importlib.import_module(f"x25tools.{COMMANDS[name][0]}").main()

@@ -1,7 +1,9 @@
-"""The console of a bridge: what its user types on a terminal, and how notices are shown there, above the line that he types.
+"""The console of a bridge: what its user types on a terminal, and how notices are shown there,
+above the line that he types.
 
-A line that is typed is one of a script without its end, with octets as hexadecimal digits or as text in quotes. Notices are shown as they
-come, with what they say in words. Readline edits the line, in a thread of its own, and hands it to the bridge by a pipe.
+A line that is typed is one of a script without its end, with octets as hexadecimal digits or as
+text in quotes. Notices are shown as they come, with what they say in words. Readline edits the
+line, in a thread of its own, and hands it to the bridge by a pipe.
 """
 
 from __future__ import annotations
@@ -31,7 +33,9 @@ COMMANDS = {
     "disconnect": ("", "ends the link"),
     "relink": ("", "has the link set up anew"),
     "probe": ("", "polls the other end"),
-    "call": ("CALLED CALLING [DATA] [S S W W]", "calls an address, from another: digits, or - for none"),
+    "call": (
+        "CALLED CALLING [DATA] [S S W W]", "calls an address, from another: digits, or - for none"
+    ),
     "accept": ("CHANNEL [S S W W]", "accepts the call that came on a channel"),
     "clear": ("CHANNEL [cause=N] [diag=N]", "refuses a call, or ends it"),
     "with": ("FAC DATA [d] COMMAND", "calls, accepts or clears with facilities, user data and D"),
@@ -47,8 +51,9 @@ COMMANDS = {
     "help": ("[COMMAND]", "shows this; so does ?"),
     "quit": ("", "ends the link, and this program"),
 }
-NOTES = """DATA and FAC are hexadecimal digits, text in quotes, both, as "ab"0d0a, or - for none. S S W W are
-packet sizes, 8 for 2 to the power of 8, and windows: of the called end's data and of the calling's."""
+NOTES = """\
+DATA and FAC are hexadecimal digits, text in quotes, both, as "ab"0d0a, or - for none. S S W W are
+packet sizes, 8 for 2 to the power of 8, and windows: of the called end's data, and the other's."""
 TEXT = re.compile(r'"([^"]*)"')
 DATA = re.compile(r"-|(?:[0-9a-fA-F]{2})+")
 OPTIONAL = re.compile(r"\[.*?\]")
@@ -101,7 +106,9 @@ def spelled(typed: str, end: str) -> str:
     """The line that something typed stands for."""
     if typed.count('"') % 2:
         raise Unknown("a quote isn't closed")
-    words = TEXT.sub(lambda found: found[1].encode(errors="surrogateescape").hex() or "-", typed).split()
+    words = TEXT.sub(
+        lambda found: found[1].encode(errors="surrogateescape").hex() or "-", typed
+    ).split()
     if words[0] == end and len(words) > 1:
         del words[0]
     if words[0] == "wait" and len(words) > 1:
@@ -118,7 +125,10 @@ def command(words: list[str]) -> list[str]:
     name = words[0]
     if name not in COMMANDS:
         near = difflib.get_close_matches(name, COMMANDS, 1)
-        raise Unknown(f"no command {name!r}: " + (f"did you mean `{near[0]}`?" if near else "`help` names all"))
+        raise Unknown(
+            f"no command {name!r}: "
+            + (f"did you mean `{near[0]}`?" if near else "`help` names all")
+        )
     fields = COMMANDS[name][0]
     if name == "with":
         at = 4 if words[3:4] == ["d"] else 3
@@ -126,7 +136,11 @@ def command(words: list[str]) -> list[str]:
             raise Unknown(f"it is `with {fields}`, with call, accept or clear as COMMAND")
         return [name, *map(checked, words[1:3]), *words[3:at], *command(words[at:])]
     least, most = (len(text.split()) for text in (OPTIONAL.sub("", fields), fields))
-    if name == "send" and words[3:-1] not in ([], ["d"]) or not least < len(words) <= most + 1 or "cause=N" in fields and not GIVEN.fullmatch(" ".join(words[least + 1 :])):
+    if (
+        name == "send" and words[3:-1] not in ([], ["d"])
+        or not least < len(words) <= most + 1
+        or "cause=N" in fields and not GIVEN.fullmatch(" ".join(words[least + 1 :]))
+    ):
         raise Unknown(f"it is `{name} {fields}`" if fields else f"`{name}` stands alone")
     for field, word in zip(fields.split(), words[1:]):
         if why := misfit(field, word):
@@ -158,7 +172,10 @@ def checked(word: str) -> str:
 
 def helped(name: str = "") -> str:
     """What `help` says, of one command or of all."""
-    rows = [f"  {it} {COMMANDS[it][0]}".ljust(40) + f" {COMMANDS[it][1]}" for it in ([name] if name in COMMANDS else COMMANDS)]
+    rows = [
+        f"  {it} {COMMANDS[it][0]}".ljust(40) + f" {COMMANDS[it][1]}"
+        for it in ([name] if name in COMMANDS else COMMANDS)
+    ]
     return "\n".join([*rows, NOTES])
 
 
@@ -170,22 +187,34 @@ def text_of(octets: bytes) -> str:
             return f'"{text}"' if text else ""
     parts = RUNS.split(octets)
     is_text = 2 * sum(map(len, parts[1::2])) >= len(octets)
-    return "".join(f'"{part.decode()}"' if place % 2 else part.hex() for place, part in enumerate(parts)) if is_text else ""
+    return "".join(
+        f'"{part.decode()}"' if place % 2 else part.hex() for place, part in enumerate(parts)
+    ) if is_text else ""
 
 
 def shown(notice: str) -> list[str]:
-    """The lines that a notice is shown by; none for a refusal, which the bridge's own words after it repeat."""
+    """The lines that a notice is shown by; none for a refusal, which the bridge's own words after
+    it repeat."""
     first, _, entry = notice.partition(" ")
     if first not in ENDS:
         return [] if first in ("!", "?") else [notice]
     event, channel, data = entry.split(" ")[0], CHANNEL.search(entry), OCTETS.search(entry)
     octets = bytes.fromhex(data[1]) if data else b""
-    means = REASONS.get(entry.split(" ")[-1], "") if event == "linkdown" else MEANS.get(event, "").format(channel and channel[1])
+    means = (
+        REASONS.get(entry.split(" ")[-1], "")
+        if event == "linkdown"
+        else MEANS.get(event, "").format(channel and channel[1])
+    )
     rows = []
     if data and len(octets) > A_ROW:
         entry = f"{entry[: data.start()]}data: {len(octets):,} octets{entry[data.end(1) :]}"
-        rows = [*dumped(octets[:MOST_SHOWN]).split("\n"), *([f"    and {len(octets) - MOST_SHOWN:,} more"] if len(octets) > MOST_SHOWN else [])]
-    words = "; ".join(filter(None, [x25names.words(notice), "" if rows else text_of(octets), means]))
+        rows = [
+            *dumped(octets[:MOST_SHOWN]).split("\n"),
+            *([f"    and {len(octets) - MOST_SHOWN:,} more"] if len(octets) > MOST_SHOWN else []),
+        ]
+    words = "; ".join(
+        filter(None, [x25names.words(notice), "" if rows else text_of(octets), means])
+    )
     return [f"{entry}  ({words})" if words else entry, *rows]
 
 
@@ -199,13 +228,19 @@ def place(options: argparse.Namespace) -> str:
         return f"on datagrams to {tcp.written(options.udp[1:])}"
     if options.ethernet:
         return f"on {options.ethernet}"
-    return " and ".join([f"calling {tcp.written(options.xot)}"] * bool(options.xot) + ["waiting for connections"] * bool(options.xot_listen)) + " by XOT"
+    return " and ".join(
+        [f"calling {tcp.written(options.xot)}"] * bool(options.xot)
+        + ["waiting for connections"] * bool(options.xot_listen)
+    ) + " by XOT"
 
 
 def greeting(options: argparse.Namespace) -> str:
     """Who is there, and what can be typed."""
     channels = f"{options.channels} channel{'s' * (options.channels != 1)}"
-    return f"This is the {options.end.upper()}, {place(options)}, with {channels}.\n`help` shows what can be typed, as `connect`; `quit` ends."
+    return (
+        f"This is the {options.end.upper()}, {place(options)}, with {channels}.\n`help` shows "
+        "what can be typed, as `connect`; `quit` ends."
+    )
 
 
 class Screen(Outlet):
@@ -225,14 +260,20 @@ class Screen(Outlet):
         return self._number
 
     def spelled(self, line: str) -> str:
-        """What shows a line: makes room for each row above that of the cursor, writes it there, and goes back to the place where it was."""
+        """What shows a line: makes room for each row above that of the cursor, writes it there,
+        and goes back to the place where it was."""
         width = os.get_terminal_size(1).columns or WIDTH
-        rows = [part for row in shown(line) for part in textwrap.wrap(row, width, subsequent_indent="    ")]
+        rows = [
+            part
+            for row in shown(line)
+            for part in textwrap.wrap(row, width, subsequent_indent="    ")
+        ]
         return "".join(f"\x1bD\x1b[A\x1b7\r\x1b[L{row}\x1b8\x1b[B" for row in rows)
 
 
 class Console:
-    """What is typed. `commands` is the number of a file that commands come by; `leave` is called where the user wants to end."""
+    """What is typed. `commands` is the number of a file that commands come by; `leave` is called
+    where the user wants to end."""
 
     def __init__(self, options: argparse.Namespace, leave: Callable[[], None]) -> None:
         self._options, self._end, self._leave = options, options.end, leave
@@ -246,7 +287,9 @@ class Console:
         print(greeting(self._options))
         if "readline" in sys.modules:
             # Readline is to know of one row alone, above which notices come.
-            for it in ("set horizontal-scroll-mode on", "set enable-bracketed-paste off", "tab: complete"):
+            for it in (
+                "set horizontal-scroll-mode on", "set enable-bracketed-paste off", "tab: complete"
+            ):
                 readline.parse_and_bind(it)
             readline.set_completer_delims(" ")
             readline.set_completer(self._completion)
@@ -275,16 +318,24 @@ class Console:
             elif typed == "status":
                 print("\n".join(self._said()))
             else:
-                os.write(self._writer, f"{spelled(typed, self._end)}\n".encode(errors="surrogateescape"))
+                os.write(
+                    self._writer, f"{spelled(typed, self._end)}\n".encode(errors="surrogateescape")
+                )
                 if not self._wire.is_there:
                     print("that waits: the line isn't there yet")
         except Unknown as error:
             print(error)
 
     def _completion(self, text: str, number: int) -> str | None:
-        """The completion of a word, by its number: of the first one, or after `help`, a command; after `wait` an event."""
+        """The completion of a word, by its number: of the first one, or after `help`, a command;
+        after `wait` an event."""
         before = readline.get_line_buffer()[: readline.get_begidx()].split()
-        words = {(): COMMANDS, ("help",): COMMANDS, ("?",): COMMANDS, ("wait",): sorted([*MEANS, "message", "interrupt", "linkdown"])}
+        words = {
+            (): COMMANDS,
+            ("help",): COMMANDS,
+            ("?",): COMMANDS,
+            ("wait",): sorted([*MEANS, "message", "interrupt", "linkdown"]),
+        }
         found = [f"{word} " for word in words.get(tuple(before), ()) if word.startswith(text)]
         return found[number] if number < len(found) else None
 

@@ -1,4 +1,5 @@
-"""The program's `decode` as a child process that answers what it is asked, and where the program is found."""
+"""The program's `decode` as a child process that answers what it is asked, and where the program
+is found."""
 
 from __future__ import annotations
 
@@ -15,16 +16,29 @@ from typing import IO, Any, Protocol, Sequence
 from x25tools import x25lines
 from x25tools.x25lines import BadInput
 
-# The program that was built or installed together with the scripts, which stand in tools/ or lib/x25/; then the one of `make look`.
+# The program that was built or installed together with the scripts, which stand in tools/ or
+# lib/x25/; then the one of `make look`.
 FOLDER = os.path.dirname(os.path.dirname(os.path.realpath(__file__)))
 UNPROVED = "x25-unproved"
-PLACES = [os.path.normpath(os.path.join(FOLDER, place)) for place in ("../build/x25", "../../libexec/x25", f"../build/{UNPROVED}")]
-MISSING = "frames in hexadecimal digits need the program x25: build it (make look, make x25) or name it (--x25)"
-MISSING_STATION = "a station needs the program x25: build it (make look, make x25) or name it (--x25)"
+PLACES = [
+    os.path.normpath(os.path.join(FOLDER, place))
+    for place in ("../build/x25", "../../libexec/x25", f"../build/{UNPROVED}")
+]
+MISSING = (
+    "frames in hexadecimal digits need the program x25: build it (make look, make x25) or name it "
+    "(--x25)"
+)
+MISSING_STATION = (
+    "a station needs the program x25: build it (make look, make x25) or name it (--x25)"
+)
 # The answer to a line that is none of a trace.
 REFUSED = "? 60"
-# The kinds of frames, in the order of a statistic: those of LAPB modulo 8, and those that `decode --wide` names.
-FRAMES = ("I", "RR", "RNR", "REJ", "SABM", "DISC", "UA", "DM", "FRMR", "SREJ", "SABME", "SARM", "XID", "TEST", "UI", "fault")
+# The kinds of frames, in the order of a statistic: those of LAPB modulo 8, and those that `decode
+# --wide` names.
+FRAMES = (
+    "I", "RR", "RNR", "REJ", "SABM", "DISC", "UA", "DM", "FRMR", "SREJ", "SABME", "SARM", "XID",
+    "TEST", "UI", "fault",
+)
 # A line of `decode`.
 TEXT_LINE = re.compile(rb"[<>] (?:%b) [ -~]*" % "|".join(FRAMES).encode())
 # Data in such a line that isn't digits of octets: then it is none.
@@ -42,9 +56,13 @@ class Asked(Protocol):
 
 
 def find_program() -> str | None:
-    """The program that the variable X25 names, or `x25` of the PATH, or else the one that was built or installed with this file; None where
-    there is none."""
-    return os.environ.get("X25") or shutil.which("x25") or next((place for place in PLACES if os.path.isfile(place)), None)
+    """The program that the variable X25 names, or `x25` of the PATH, or else the one that was
+    built or installed with this file; None where there is none."""
+    return (
+        os.environ.get("X25")
+        or shutil.which("x25")
+        or next((place for place in PLACES if os.path.isfile(place)), None)
+    )
 
 
 @functools.lru_cache(maxsize=None)
@@ -82,7 +100,8 @@ def last_lines(child: Child) -> list[str]:
 
 
 def let_end(child: Child) -> None:
-    """Closes the pipes of a program that is asked line by line, which ends it, and waits for its end."""
+    """Closes the pipes of a program that is asked line by line, which ends it, and waits for its
+    end."""
     given, made = pipes(child)
     made.close()
     with contextlib.suppress(BrokenPipeError):
@@ -91,10 +110,12 @@ def let_end(child: Child) -> None:
 
 
 class Decoder:
-    """Gives frames to a task of the program, which answers each by a line: those that are there at once together, so that what comes live is
-    answered before the next is there."""
+    """Gives frames to a task of the program, which answers each by a line: those that are there at
+    once together, so that what comes live is answered before the next is there."""
 
-    def __init__(self, program: str | None, words: Sequence[str] = ("--wide",), task: str = "decode") -> None:
+    def __init__(
+        self, program: str | None, words: Sequence[str] = ("--wide",), task: str = "decode"
+    ) -> None:
         self._program = program
         self._words = words
         self._task = task
@@ -108,7 +129,8 @@ class Decoder:
             let_end(self._child)
 
     def texts(self, asked: str, connections: Sequence[object] = ()) -> list[str]:
-        """The answers to the lines of a trace in a text, each with what stands before the frame's digits, whatever the connection of each."""
+        """The answers to the lines of a trace in a text, each with what stands before the frame's
+        digits, whatever the connection of each."""
         if not asked:
             return []
         if self._child is None:
@@ -121,7 +143,8 @@ class Decoder:
 
     @staticmethod
     def _answers(child: Child, asked: bytes, count: int) -> list[str]:
-        """Writes what is asked and reads so many lines, each as there is room for it or as it is there: so neither pipe can fill."""
+        """Writes what is asked and reads so many lines, each as there is room for it or as it is
+        there: so neither pipe can fill."""
         writer, reader = (pipe.fileno() for pipe in pipes(child))
         texts: list[str] = []
         left, rest = memoryview(asked), ""
@@ -150,7 +173,12 @@ class Decoder:
         say_if_unproved(self._program)
         try:
             # In a session of its own CTRL-C doesn't end it before the one who asks it.
-            child = subprocess.Popen([self._program, self._task, *self._words], start_new_session=True, stdin=subprocess.PIPE, stdout=subprocess.PIPE)
+            child = subprocess.Popen(
+                [self._program, self._task, *self._words],
+                start_new_session=True,
+                stdin=subprocess.PIPE,
+                stdout=subprocess.PIPE,
+            )
         except OSError as error:
             raise BadInput(f"{self._program}: {error.strerror}") from error
         # So that a write takes what there is room for.

@@ -15,7 +15,8 @@ STROKES = {DAMAGED: "~", WAITING: "."}
 
 
 class Frame(NamedTuple):
-    """A frame put on the line: `>` or `<`, its text, what became of it (None: it was delivered), the time or nothing."""
+    """A frame put on the line: `>` or `<`, its text, what became of it (None: it was delivered),
+    the time or nothing."""
 
     direction: str
     text: str
@@ -62,7 +63,11 @@ class Text:
             return f"   |{line}|  {row.time}".rstrip()
         if isinstance(row, Entry):
             text = elided(row.text, self._width - 4)
-            return f"   o {text.ljust(self._width - 1)}|" if row.end == "dte" else f"   |{text.rjust(self._width - 1)} o"
+            return (
+                f"   o {text.ljust(self._width - 1)}|"
+                if row.end == "dte"
+                else f"   |{text.rjust(self._width - 1)} o"
+            )
         return f"   |{elided(row.text, self._width - 4).center(self._width)}|"
 
     def end(self) -> list[str]:
@@ -97,9 +102,11 @@ class Svg:
     STYLE = """
   text { font: 11px monospace; fill: #222 }
   .end { font-weight: bold; font-size: 13px; text-anchor: middle }
-  .middle { text-anchor: middle } .right { text-anchor: end } .note { font-style: italic; fill: #666 }
+  .middle { text-anchor: middle } .right { text-anchor: end }
+  .note { font-style: italic; fill: #666 }
   line { stroke: #222; stroke-width: 1.2 } .life { stroke: #999 }
-  path.lost { stroke-width: 1.8 } .lost, .damaged { stroke: #b00020 } .damaged, .waiting { stroke-dasharray: 5 3 }
+  path.lost { stroke-width: 1.8 } .lost, .damaged { stroke: #b00020 }
+  .damaged, .waiting { stroke-dasharray: 5 3 }
 """
 
     def __init__(self, width: int, rows: int) -> None:
@@ -112,12 +119,20 @@ class Svg:
         """The lines above the rows: the size, the style, the life lines."""
         width, height = self._right + self.MARGIN, self._height
         return [
-            f'<svg xmlns="http://www.w3.org/2000/svg" width="{width}" height="{height}" viewBox="0 0 {width} {height}">',
+            f'<svg xmlns="http://www.w3.org/2000/svg" width="{width}" height="{height}" '
+            f'viewBox="0 0 {width} {height}">',
             f"<style>{self.STYLE}</style>",
-            '<marker id="head" viewBox="0 0 8 8" refX="8" refY="4" markerWidth="8" markerHeight="8" orient="auto"><path d="M0 0 8 4 0 8z" fill="#222"/></marker>',
+            '<marker id="head" viewBox="0 0 8 8" refX="8" refY="4" markerWidth="8" '
+            'markerHeight="8" orient="auto"><path d="M0 0 8 4 0 8z" fill="#222"/></marker>',
             f'<rect width="{width}" height="{height}" fill="#fff"/>',
-            *(f'<text class="end" x="{x}" y="22">{name}</text>' for x, name in ((self._left, "DTE"), (self._right, "DCE"))),
-            *(f'<line class="life" x1="{x}" y1="30" x2="{x}" y2="{height - 8}"/>' for x in (self._left, self._right)),
+            *(
+                f'<text class="end" x="{x}" y="22">{name}</text>'
+                for x, name in ((self._left, "DTE"), (self._right, "DCE"))
+            ),
+            *(
+                f'<line class="life" x1="{x}" y1="30" x2="{x}" y2="{height - 8}"/>'
+                for x in (self._left, self._right)
+            ),
         ]
 
     def row(self, row: Row) -> str:
@@ -134,33 +149,52 @@ class Svg:
         return ["</svg>"]
 
     def _text(self, sort: str, x: int, text: str) -> str:
-        return f'<text class="{sort}" x="{x}" y="{self._y - 4}">{escape(elided(text, self._most))}</text>'
+        return (
+            f'<text class="{sort}" x="{x}" '
+            f'y="{self._y - 4}">{escape(elided(text, self._most))}</text>'
+        )
 
     def _entry(self, entry: Entry) -> str:
-        x, step, sort = (self._left, 8, "left") if entry.end == "dte" else (self._right, -8, "right")
-        return f'<circle cx="{x}" cy="{self._y - 8}" r="3"/>' + self._text(sort, x + step, entry.text)
+        x, step, sort = (
+            (self._left, 8, "left") if entry.end == "dte" else (self._right, -8, "right")
+        )
+        return (
+            f'<circle cx="{x}" cy="{self._y - 8}" r="3"/>' + self._text(sort, x + step, entry.text)
+        )
 
     def _arrow(self, frame: Frame) -> str:
-        start, end = (self._left, self._right) if frame.direction == ">" else (self._right, self._left)
+        start, end = (
+            (self._left, self._right) if frame.direction == ">" else (self._right, self._left)
+        )
         if frame.fate == LOST:
             end = start + (end - start) * 3 // 4
-        sort = {LOST: "lost", DAMAGED: "damaged", WAITING: "waiting"}.get(frame.fate or "", "frame")
+        sort = {LOST: "lost", DAMAGED: "damaged", WAITING: "waiting"}.get(
+            frame.fate or "", "frame"
+        )
         head = "" if frame.fate == LOST else ' marker-end="url(#head)"'
-        line = f'<line class="{sort}" x1="{start}" y1="{self._y}" x2="{end}" y2="{self._y}"{head}/>'
+        line = (
+            f'<line class="{sort}" x1="{start}" y1="{self._y}" x2="{end}" y2="{self._y}"{head}/>'
+        )
         # The text of a lost frame ends before the cross.
         most = self._most * 3 // 4 - 2 if frame.fate == LOST else self._most
-        return line + self._cross(end, frame.fate) + self._text("middle", (start + end) // 2, label(frame, most))
+        return line + self._cross(end, frame.fate) + self._text(
+            "middle", (start + end) // 2, label(frame, most)
+        )
 
     def _cross(self, x: int, fate: str | None) -> str:
         """The cross where the arrow of a lost frame ends."""
         if fate != LOST:
             return ""
         left, right, above, below = x - 5, x + 5, self._y - 5, self._y + 5
-        return f'<path class="lost" d="M{left} {above} {right} {below}M{right} {above} {left} {below}"/>'
+        return (
+            f'<path class="lost" d="M{left} {above} {right} {below}M{right} {above} {left} '
+            f'{below}"/>'
+        )
 
 
 def label(frame: Frame, most: int) -> str:
-    """The text of a frame with its time before it and what became of it after it, where there is that to say."""
+    """The text of a frame with its time before it and what became of it after it, where there is
+    that to say."""
     time = f"{frame.time}  " if frame.time else ""
     fate = f"  ({frame.fate})" if frame.fate else ""
     return time + elided(frame.text, max(most - len(time) - len(fate), 2)) + fate

@@ -3,10 +3,9 @@ programs."""
 
 from __future__ import annotations
 
-import re
 from typing import Dict, NamedTuple, Optional, Union
 
-from x25tools import judging, x25names
+from x25tools import judging, records, x25names
 
 Fields = Dict[str, Union[str, int]]
 # What may stand after a frame: by its mark, whether it is a rule, manners or a note, and whether
@@ -19,9 +18,7 @@ MARKS = {
     " ~ note: ": ("note", False),
 }
 TOLD = [mark for mark, (kind, _) in MARKS.items() if kind != "note"]
-MARK = re.compile("|".join(map(re.escape, MARKS)))
 NUMBERS = frozenset(("P", "F", "S", "R", "M", "Q", "D", "A", "ch", "cause", "diag"))
-FAULT = re.compile(r"fault (\d+) ?(.*)")
 WIDE = " ~ wide"
 
 
@@ -49,9 +46,9 @@ class Frame(NamedTuple):
 
 def fields_of(text: str) -> Fields:
     """The kind of a frame or a packet, and its fields; a number where it is one."""
-    if found := FAULT.fullmatch(text):
-        return {"kind": "fault", "number": int(found[1]), "why": found[2]}
     kind, *words = text.split(" ")
+    if kind == "fault":
+        return {"kind": kind, "number": int(words[0]), "why": " ".join(words[1:])}
     fields: Fields = {"kind": kind}
     for word in words:
         name, is_field, value = word.partition("=")
@@ -64,9 +61,12 @@ def fields_of(text: str) -> Fields:
     return fields
 
 
-def verdict_of(mark: str, text: str) -> Verdict:
-    """What is told after a mark."""
-    kind, is_in_doubt = MARKS[mark]
+def verdict_of(told: str) -> Optional[Verdict]:
+    """What is told of a frame, from its mark on; None where nothing is."""
+    mark = next((mark for mark in MARKS if told.startswith(mark[1:])), None)
+    if mark is None:
+        return None
+    (kind, is_in_doubt), text = MARKS[mark], told[len(mark) - 1 :]
     end, has_end, rest = text.partition(": ")
     if kind == "note" or not has_end or end not in judging.ENDS:
         return Verdict(kind, is_in_doubt, None, text)
@@ -75,15 +75,15 @@ def verdict_of(mark: str, text: str) -> Verdict:
 
 def read(text: str, is_made_up: bool) -> Frame:
     """A line of the program without its time; the frame around a packet may be made up."""
-    found = MARK.search(text)
-    whole = text[: found.start()] if found else text
-    verdict = verdict_of(found[0], text[found.end() :]) if found else None
-    frame, _, packet = whole[2:].removesuffix(WIDE).partition(" | ")
+    record = records.read(text)
+    assert record
+    whole = text.removesuffix(f" {record.told}") if record.told else text
+    frame, packet = f"{record.frame} {record.numbers}", f"{record.packet} {record.fields}"
     return Frame(
-        whole[0],
-        None if is_made_up else fields_of(frame),
-        fields_of(packet) if packet else None,
-        (packet if is_made_up else whole[2:]),
+        record.sender,
+        None if is_made_up else fields_of(frame.rstrip()),
+        fields_of(packet.rstrip()) if record.packet else None,
+        packet.rstrip() if is_made_up else whole[2:],
         x25names.words(whole),
-        verdict,
+        verdict_of(record.told),
     )

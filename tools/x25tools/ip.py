@@ -21,8 +21,8 @@ _IPV4 = struct.Struct(">BxHHHxB2x4s4s").unpack_from
 
 
 class Carried(NamedTuple):
-    """What a packet of IP carries: some octets may not be captured. A fragment has a number, which all of its packet have, the place of its octets
-    there, and whether more are to come."""
+    """What a packet of IP carries: some octets may not be captured. A fragment has a number, which
+    all of its packet have, the place of its octets there, and whether more are to come."""
 
     protocol: int
     source: bytes
@@ -39,7 +39,8 @@ class Carried(NamedTuple):
 
 
 def carried(octets: bytes) -> Carried | None:
-    """What a packet of IP carries; None where it is none. One whose length is 0 was captured before the network card wrote that."""
+    """What a packet of IP carries; None where it is none. One whose length is 0 was captured
+    before the network card wrote that."""
     version = octets[0] >> 4 if octets else 0
     return _of_ipv4(octets) if version == 4 else _of_ipv6(octets) if version == 6 else None
 
@@ -52,7 +53,16 @@ def _of_ipv4(octets: bytes) -> Carried | None:
     header = 4 * (first & 0xF)
     if header < 20 or total < header:
         return None
-    return Carried(protocol, source, target, octets[header:total], total - header, number.to_bytes(2, "big"), 8 * (fragment & 0x1FFF), bool(fragment & 0x2000))
+    return Carried(
+        protocol,
+        source,
+        target,
+        octets[header:total],
+        total - header,
+        number.to_bytes(2, "big"),
+        8 * (fragment & 0x1FFF),
+        bool(fragment & 0x2000),
+    )
 
 
 def _of_ipv6(octets: bytes) -> Carried | None:
@@ -69,7 +79,16 @@ def _of_ipv6(octets: bytes) -> Carried | None:
     if protocol != IPV6_FRAGMENT or len(payload) < 8:
         return Carried(protocol, source, target, payload, length)
     place = int.from_bytes(payload[2:4], "big")
-    return Carried(payload[0], source, target, payload[8:], length - 8, payload[4:8], place & 0xFFF8, bool(place & 1))
+    return Carried(
+        payload[0],
+        source,
+        target,
+        payload[8:],
+        length - 8,
+        payload[4:8],
+        place & 0xFFF8,
+        bool(place & 1),
+    )
 
 
 class Fragments:
@@ -79,11 +98,16 @@ class Fragments:
         self._packets: dict[tuple[int, bytes, bytes, bytes], dict[int, Carried]] = {}
 
     def take(self, fragment: Carried) -> tuple[Carried | None, list[Carried]]:
-        """Takes a fragment; answers the packet that is whole with it, and the fragments of a packet for which there is no place any more."""
+        """Takes a fragment; answers the packet that is whole with it, and the fragments of a
+        packet for which there is no place any more."""
         key = fragment.protocol, fragment.source, fragment.target, fragment.number
         parts = self._packets.setdefault(key, {})
         parts[fragment.at] = fragment
-        given_up = self._give_up(next(iter(self._packets))) if len(self._packets) > MOST_IN_FRAGMENTS else []
+        given_up = (
+            self._give_up(next(iter(self._packets)))
+            if len(self._packets) > MOST_IN_FRAGMENTS
+            else []
+        )
         octets = b""
         while (part := parts.get(len(octets))) and len(part.octets) == part.length > 0:
             octets += part.octets

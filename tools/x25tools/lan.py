@@ -1,7 +1,9 @@
-"""What a local network carries of X.25: the header of a captured frame, lapbether's frames of LAPB, LLC's packets.
+"""What a local network carries of X.25: the header of a captured frame, lapbether's frames of
+LAPB, LLC's packets.
 
-lapbether (Linux) sends a frame of LAPB, without its frame check sequence, after its length in two octets, the low one first,
-by Ethernet type 6000 and to all stations. LLC (ISO 8802-2) carries the packets of ISO 8208 by the service access point 7e.
+lapbether (Linux) sends a frame of LAPB, without its frame check sequence, after its length in two
+octets, the low one first, by Ethernet type 6000 and to all stations. LLC (ISO 8802-2) carries the
+packets of ISO 8208 by the service access point 7e.
 """
 
 from __future__ import annotations
@@ -21,7 +23,8 @@ MOST_LLC = 1500
 COOKED_LLC = 4
 X25_ACCESS_POINT = 0x7E
 NUMBERS = 128
-# What a header is followed by: the type of what is carried, the address of its sender and of its receiver, its octets.
+# What a header is followed by: the type of what is carried, the address of its sender and of its
+# receiver, its octets.
 Carried = tuple[int, bytes, bytes, bytes]
 
 
@@ -30,7 +33,11 @@ def _ethernet(octets: bytes) -> Carried:
     while kind in VLAN_TAGS and len(octets) >= header + 4:
         header, kind = header + 4, octets[header + 2] << 8 | octets[header + 3]
     body = octets[header:]
-    return (COOKED_LLC, octets[6:12], octets[:6], body[:kind]) if kind <= MOST_LLC else (kind, octets[6:12], octets[:6], body)
+    return (
+        (COOKED_LLC, octets[6:12], octets[:6], body[:kind])
+        if kind <= MOST_LLC
+        else (kind, octets[6:12], octets[:6], body)
+    )
 
 
 def _cooked(octets: bytes) -> Carried:
@@ -41,8 +48,9 @@ def _cooked_2(octets: bytes) -> Carried:
     return int.from_bytes(octets[0:2], "big"), octets[12:18], b"", octets[20:]
 
 
-# For each link type with a header of a local network, its octets, and what reads it: the type of what is carried, the address of its sender and of its
-# receiver (empty where it isn't captured), its octets.
+# For each link type with a header of a local network, its octets, and what reads it: the type of
+# what is carried, the address of its sender and of its receiver (empty where it isn't captured),
+# its octets.
 HEADERS = {ETHERNET: (14, _ethernet), LINUX_COOKED: (16, _cooked), LINUX_COOKED_2: (20, _cooked_2)}
 
 
@@ -52,7 +60,8 @@ def address(octets: bytes) -> str:
 
 
 def is_of_dte(frame: bytes) -> bool | None:
-    """Whether a frame of LAPB, as its own address has it, is the DTE's; None for a supervisory frame, or none of LAPB.
+    """Whether a frame of LAPB, as its own address has it, is the DTE's; None for a supervisory
+    frame, or none of LAPB.
 
     An I frame, SABM and DISC are commands, UA, DM and FRMR responses; the others are either.
     """
@@ -66,7 +75,8 @@ def is_of_dte(frame: bytes) -> bool | None:
 
 
 class Lapbether:
-    """The line between the first two stations that send frames of LAPB. `notes` counts what was left out, by why.
+    """The line between the first two stations that send frames of LAPB. `notes` counts what was
+    left out, by why.
 
     Which station is the DTE is said beforehand, or by the first frame whose own address tells.
     """
@@ -77,7 +87,8 @@ class Lapbether:
         self._notes = notes
 
     def take(self, source: bytes, octets: bytes, is_cut: bool) -> Iterator[tuple[bool, bytes]]:
-        """Yields whether a frame is the DTE's, and its octets with their frame check sequence: none where they aren't there."""
+        """Yields whether a frame is the DTE's, and its octets with their frame check sequence:
+        none where they aren't there."""
         length = int.from_bytes(octets[:2], "little")
         frame, is_there = octets[2 : 2 + length], len(octets) >= 2 + length >= 2
         if source not in self._stations:
@@ -85,7 +96,11 @@ class Lapbether:
         if self._known is None and is_there and (told := is_of_dte(frame)) is not None:
             self._known = source, told
         if not is_there:
-            self._notes["frame that was captured in part" if is_cut else "frame of lapbether that is shorter than it says"] += 1
+            self._notes[
+                "frame that was captured in part"
+                if is_cut
+                else "frame of lapbether that is shorter than it says"
+            ] += 1
         elif source not in self._stations[:2]:
             self._notes["frame of a third station of lapbether"] += 1
             return
@@ -93,9 +108,14 @@ class Lapbether:
             self._notes["frame that is longer than a line may be"] += 1
             is_there = False
         elif self._known is None:
-            self._notes["frame of lapbether before one that tells which end is the DTE (--dte says it)"] += 1
+            self._notes[
+                "frame of lapbether before one that tells which end is the DTE (--dte says it)"
+            ] += 1
         if self._known is not None:
-            yield (source == self._known[0]) == self._known[1], frame + fcs(frame) if is_there else b""
+            yield (
+                (source == self._known[0]) == self._known[1],
+                frame + fcs(frame) if is_there else b"",
+            )
 
     def name(self) -> str:
         """The line, with its stations."""

@@ -1,4 +1,5 @@
-"""A station of the library for C, `libx25.so`, with a clock: asked event by event, as the one behind a pipe (`piped.py`), in this process."""
+"""A station of the library for C, `libx25.so`, with a clock: asked event by event, as the one
+behind a pipe (`piped.py`), in this process."""
 
 from __future__ import annotations
 
@@ -19,10 +20,12 @@ ENDS = {"dte": (x25.DTE, ">"), "dce": (x25.DCE, "<")}
 
 
 class Station:
-    """The station of an end, by the library at a path. Of its times, in milliseconds, those that aren't given are the standard's. `first` is
-    what it says before anything is asked."""
+    """The station of an end, by the library at a path. Of its times, in milliseconds, those that
+    aren't given are the standard's. `first` is what it says before anything is asked."""
 
-    def __init__(self, path: str, end: str, times: Mapping[str, int | None], **settings: Any) -> None:
+    def __init__(
+        self, path: str, end: str, times: Mapping[str, int | None], **settings: Any
+    ) -> None:
         self._path, self._end, self._settings = path, end, settings
         self._times = {name: time for name, time in times.items() if time is not None}
         self._station: x25.Station | None = None
@@ -44,7 +47,8 @@ class Station:
             raise BadInput(str(error)) from error
         self._station.set_times(self._station.standard_times()._replace(**self._times))
         self._said: int | None = None
-        # The channels on which something is awaited: nothing begins to be but with an event of the channel.
+        # The channels on which something is awaited: nothing begins to be but with an event of the
+        # channel.
         self._awaited: set[int] = set()
         self.first = self._told([], [], None)
 
@@ -53,8 +57,8 @@ class Station:
         return self._station
 
     def ask(self, event: str, now: int | None = None) -> Answer:
-        """The answer to an event, a line without its line feed, at a time in milliseconds at which nothing is due; or to `@` and a time, at
-        which all that is due is asked for."""
+        """The answer to an event, a line without its line feed, at a time in milliseconds at which
+        nothing is due; or to `@` and a time, at which all that is due is asked for."""
         if event.startswith("@ "):
             return self._pass(int(event[2:]))
         if now is not None and now != self._said:
@@ -69,7 +73,9 @@ class Station:
         while answer.due is not None and answer.due <= now:
             more = self._done(lambda: self._held().time(now))
             answer = more._replace(
-                notices=answer.notices + more.notices, frames=answer.frames + more.frames, refusal=more.refusal or answer.refusal
+                notices=answer.notices + more.notices,
+                frames=answer.frames + more.frames,
+                refusal=more.refusal or answer.refusal
             )
         return answer
 
@@ -82,13 +88,17 @@ class Station:
                 raise BadInput("no memory") from refusal
             return self._told([], [], "? 60" if refusal.number == 60 else f"! {refusal.number}")
         self._awaited.update(event.channel for event in answer.events)
-        passed = [self._timeout(event) for event in answer.events if event.kind is x25.Kind.TIMEOUT]
+        passed = [
+            self._timeout(event) for event in answer.events if event.kind is x25.Kind.TIMEOUT
+        ]
         frames = [FrameLine(ENDS[self._end][1], octets) for octets in answer.frames]
         return self._told(passed + [line.rstrip("\n") for line in lines], frames, None)
 
     def _timeout(self, event: x25.Event) -> str:
         """The notice of a timer that has passed."""
-        return f"{self._end} timeout T{event.timeout}" + (f" ch={event.channel}" if event.channel else "")
+        return f"{self._end} timeout T{event.timeout}" + (
+            f" ch={event.channel}" if event.channel else ""
+        )
 
     def _told(self, notices: list[str], frames: list[FrameLine], refusal: str | None) -> Answer:
         """An answer, with what a mark says."""

@@ -1,6 +1,8 @@
-"""Messages out of the frames of a line: what each end's link took, in order and once, and its data joined by the M bit.
+"""Messages out of the frames of a line: what each end's link took, in order and once, and its data
+joined by the M bit.
 
-Where frames weren't recorded, what was begun is broken off: what comes next on its channel may be the rest of it.
+Where frames weren't recorded, what was begun is broken off: what comes next on its channel may be
+the rest of it.
 """
 
 from __future__ import annotations
@@ -12,12 +14,18 @@ from typing import Iterable, Optional, Sequence
 from x25tools.x25lines import LACKS, OTHER, is_gap
 
 # The numbers of a frame: N(S) of an I frame, and N(R) of that and of RR, RNR and REJ.
-NUMBERED = re.compile("[<>] (?:I cmd P=[01] S=([0-7])|(?:RR|RNR|REJ) (?:cmd|rsp) [PF]=[01]) R=([0-7])")
+NUMBERED = re.compile(
+    "[<>] (?:I cmd P=[01] S=([0-7])|(?:RR|RNR|REJ) (?:cmd|rsp) [PF]=[01]) R=([0-7])"
+)
 # What sets the link up.
 SET_UPS = "SABM ", "UA "
 # The packets that have what a user sent, without that.
-DATA, INTERRUPT = re.compile("DATA ch=([0-9]+) S=[0-7] R=[0-7] M=([01]) Q=([01])(?: D=1)?"), re.compile("INT ch=([0-9]+)")
-# What an end sends of these ends what it had begun; where the other end asks for it, the answer does.
+DATA, INTERRUPT = (
+    re.compile("DATA ch=([0-9]+) S=[0-7] R=[0-7] M=([01]) Q=([01])(?: D=1)?"),
+    re.compile("INT ch=([0-9]+)"),
+)
+# What an end sends of these ends what it had begun; where the other end asks for it, the answer
+# does.
 ENDED = re.compile(r"((?:RESTART|CLEAR|RESET)(?:CONF)?|CALL|ACCEPT)\b(?: ch=([0-9]+))?")
 MODULUS = 8
 UNRECORDED = "packet not recorded"
@@ -25,13 +33,15 @@ UNRECORDED = "packet not recorded"
 MOST_MESSAGE = 1 << 20
 # How many forms of frames and packets are kept as they were read.
 KEPT = 4096
-# The time of the frame that completes a message, `>` or `<`, the channel (None: of the whole line), its sort, its octets as digits, and Q if it has one.
+# The time of the frame that completes a message, `>` or `<`, the channel (None: of the whole
+# line), its sort, its octets as digits, and Q if it has one.
 Message = tuple[str, str, Optional[int], str, str, str]
 
 A_ROW = 16
 # Each octet as it is shown as text.
 SHOWN = bytes(octet if 0x20 <= octet < 0x7F else ord(".") for octet in range(256))
-# A row after its line feed, with four digits of its place, and where these, the digits of its octets and their text stand; and how many rows have so few.
+# A row after its line feed, with four digits of its place, and where these, the digits of its
+# octets and their text stand; and how many rows have so few.
 ROW = "\n    0000  " + "   " * A_ROW + " " * (1 + A_ROW)
 PLACE_AT, DIGITS_AT, TEXT_AT, PLACE_DIGITS = 5, 11, 12 + 3 * A_ROW, 4
 MOST_ROWS = 0x10000 // A_ROW
@@ -39,14 +49,18 @@ PLACES = "".join([f"{A_ROW * row:04x}" for row in range(MOST_ROWS)]).encode()
 
 
 def dumped(octets: bytes) -> str:
-    """The rows of some octets, as text: where each stands, its octets in hexadecimal digits and as text."""
+    """The rows of some octets, as text: where each stands, its octets in hexadecimal digits and as
+    text."""
     rows = ((at, octets[at : at + A_ROW]) for at in range(0, len(octets), A_ROW))
-    return "\n".join([f"    {at:04x}  {row.hex(' '):{3 * A_ROW}} {row.translate(SHOWN).decode()}" for at, row in rows])
+    return "\n".join([
+        f"    {at:04x}  {row.hex(' '):{3 * A_ROW}} {row.translate(SHOWN).decode()}"
+        for at, row in rows
+    ])
 
 
 def all_dumped(many: Sequence[str]) -> list[str]:
-    """The rows of each of some octets, given as digits, as `dumped` has them, each after a line feed. They are laid out together, column by column,
-    which is ten times as fast."""
+    """The rows of each of some octets, given as digits, as `dumped` has them, each after a line
+    feed. They are laid out together, column by column, which is ten times as fast."""
     counts = [-(-len(digits) // (2 * A_ROW)) for digits in many]
     if max(counts, default=0) > MOST_ROWS:
         return [f"\n{dumped(bytes.fromhex(digits))}" if digits else "" for digits in many]
@@ -70,9 +84,14 @@ def all_dumped(many: Sequence[str]) -> list[str]:
 
 @functools.lru_cache(KEPT)
 def numbers_of(frame: str) -> tuple[str, int | None, int | None, bool]:
-    """Of a frame, without its packet: its direction, N(S) and N(R) where it has them, and whether it sets the link up."""
+    """Of a frame, without its packet: its direction, N(S) and N(R) where it has them, and whether
+    it sets the link up."""
     found = NUMBERED.match(frame)
-    sent, heard = [None if number is None else int(number) for number in found.groups()] if found else [None, None]
+    sent, heard = (
+        [None if number is None else int(number) for number in found.groups()]
+        if found
+        else [None, None]
+    )
     return frame[0], sent, heard, frame.startswith(SET_UPS, 2)
 
 
@@ -84,10 +103,12 @@ def data_of(packet: str) -> tuple[int, bool, str] | None:
 
 
 class Way:
-    """The packets of the I frames of one way, as the end that receives them takes them; `due` is the number of the first, where that is known.
+    """The packets of the I frames of one way, as the end that receives them takes them; `due` is
+    the number of the first, where that is known.
 
-    The frame that is due is taken at once. One out of order is held: it counts only where the other end acknowledges it, so
-    that the recorder missed a frame and that end didn't. Where the first number isn't known the first N(R) of the other end tells it.
+    The frame that is due is taken at once. One out of order is held: it counts only where the
+    other end acknowledges it, so that the recorder missed a frame and that end didn't. Where the
+    first number isn't known the first N(R) of the other end tells it.
     """
 
     def __init__(self, due: int | None = None) -> None:
@@ -108,10 +129,14 @@ class Way:
         return ()
 
     def acknowledge(self, number: int) -> Sequence[str | None]:
-        """Takes an N(R); returns the packets that it shows were taken, and None for each of these that is missing."""
+        """Takes an N(R); returns the packets that it shows were taken, and None for each of these
+        that is missing."""
         if self.due is None:
             taken: list[str | None] = [*self._begin(number)]
-        elif self.acknowledged is None or (number - self.acknowledged) % MODULUS <= (self.due - self.acknowledged) % MODULUS:
+        elif (
+            self.acknowledged is None
+            or (number - self.acknowledged) % MODULUS <= (self.due - self.acknowledged) % MODULUS
+        ):
             taken = []
         elif (number - 1) % MODULUS not in self.held:
             # What it acknowledges wasn't seen: it tells nothing, and may be wrong.
@@ -126,7 +151,8 @@ class Way:
         return taken
 
     def end(self) -> list[str]:
-        """Returns what is held of a way that nothing was heard of, in the order in which it came."""
+        """Returns what is held of a way that nothing was heard of, in the order in which it
+        came."""
         if self.due is not None or not self.held:
             return []
         self.due = (list(self.held)[-1] + 1) % MODULUS
@@ -135,7 +161,8 @@ class Way:
         return taken
 
     def _begin(self, number: int) -> list[str]:
-        """Begins where the other end stands; returns what is held and lies just before that, or from there on without a gap."""
+        """Begins where the other end stands; returns what is held and lies just before that, or
+        from there on without a gap."""
         first = number
         while (first - 1) % MODULUS in self.held:
             first = (first - 1) % MODULUS
@@ -151,19 +178,22 @@ class Way:
 
 
 class Messages:
-    """Joins the messages of one line; `due` is the first number, if it is known. Frames that were made up bring each packet once."""
+    """Joins the messages of one line; `due` is the first number, if it is known. Frames that were
+    made up bring each packet once."""
 
     def __init__(self, due: int | None = None, is_made_up: bool = False) -> None:
         self._ways = {direction: Way(due) for direction in OTHER}
         self._is_made_up = is_made_up
-        # After frames that weren't recorded the channels on which a message has ended since, by way; None where nothing is missing.
+        # After frames that weren't recorded the channels on which a message has ended since, by
+        # way; None where nothing is missing.
         self._whole: dict[str, set[int] | None] = dict.fromkeys(OTHER)
         self._begun: dict[tuple[str, int], bytearray] = {}
         self._completed: list[Message] = []
         self._time = ""
 
     def take(self, frames: Iterable[tuple[str, str]]) -> list[Message]:
-        """Takes some frames, each its time and its text by `x25 decode`; answers the messages that they complete."""
+        """Takes some frames, each its time and its text by `x25 decode`; answers the messages that
+        they complete."""
         for self._time, text in frames:
             if is_gap(text):
                 self._pass_gap()
@@ -224,8 +254,16 @@ class Messages:
                 if goes_on and len(held) < 2 * MOST_MESSAGE:
                     return
                 digits = self._begun.pop((direction, channel)).decode()
-            beginning = "" if self._is_whole(direction, channel) else ", perhaps without its beginning"
-            self._complete(direction, channel, ("message that goes on" if goes_on else "message") + beginning, digits, q)
+            beginning = (
+                "" if self._is_whole(direction, channel) else ", perhaps without its beginning"
+            )
+            self._complete(
+                direction,
+                channel,
+                ("message that goes on" if goes_on else "message") + beginning,
+                digits,
+                q,
+            )
         elif found := INTERRUPT.fullmatch(head):
             self._complete(direction, int(found[1]), "interrupt", digits)
         elif found := ENDED.match(head):
@@ -237,7 +275,8 @@ class Messages:
                 self._is_whole(direction, ended)
 
     def _is_whole(self, direction: str, channel: int) -> bool:
-        """Whether what an end sent on a channel is there from its beginning; from here on it is."""
+        """Whether what an end sent on a channel is there from its beginning; from here on it
+        is."""
         whole = self._whole[direction]
         if whole is None or channel in whole:
             return True
@@ -246,8 +285,12 @@ class Messages:
 
     def _break_off(self, direction: str, channel: int | None, why: str) -> None:
         """Drops what an end had begun on a channel, or on all, and tells it."""
-        for key in [key for key in self._begun if key[0] == direction and channel in (None, key[1])]:
+        for key in [
+            key for key in self._begun if key[0] == direction and channel in (None, key[1])
+        ]:
             self._complete(*key, f"message broken off by {why}", self._begun.pop(key).decode())
 
-    def _complete(self, direction: str, channel: int | None, sort: str, digits: str = "", q: str = "") -> None:
+    def _complete(
+        self, direction: str, channel: int | None, sort: str, digits: str = "", q: str = ""
+    ) -> None:
         self._completed.append((self._time, direction, channel, sort, digits, q))

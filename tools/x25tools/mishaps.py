@@ -1,4 +1,5 @@
-"""What happens to the frames of one way of a bridge's line: chances by which they are lost and damaged."""
+"""What happens to the frames of one way of a bridge's line: chances by which they are lost and
+damaged."""
 
 from __future__ import annotations
 
@@ -7,14 +8,16 @@ from x25tools.losses import Dice
 
 
 class Mishaps:
-    """Loses and damages the frames of one way, each with its probability; the same seed does the same to the same frames."""
+    """Loses and damages the frames of one way, each with its probability; the same seed does the
+    same to the same frames."""
 
     def __init__(self, lose: float, damage: float, seed: int) -> None:
         self._lose, self._damage, self._dice = lose, damage, Dice(seed)
         self.lost = self.damaged = 0
 
     def happen(self, octets: bytes) -> bytes | None:
-        """What comes of a frame: its octets, others that its frame check sequence shows to be damaged, or None."""
+        """What comes of a frame: its octets, others that its frame check sequence shows to be
+        damaged, or None."""
         draw = self._dice.fraction()
         if draw < self._lose:
             self.lost += 1

@@ -1,8 +1,10 @@
-"""A station behind a pipe, which is the program's `station` as a child process: asked event by event.
+"""A station behind a pipe, which is the program's `station` as a child process: asked event by
+event.
 
-Each line that it is given is answered by notices (entries of its end), frames to send, or a refusal (`! N`, or `? 60` for a line that
-asks for nothing), and then by a mark, `. T1 WORK`, or with `--clock` `. NEXT WORK`; the first mark comes before anything is asked. An
-answer is read up to its mark before the next event, so that neither pipe can fill.
+Each line that it is given is answered by notices (entries of its end), frames to send, or a
+refusal (`! N`, or `? 60` for a line that asks for nothing), and then by a mark, `. T1 WORK`, or
+with `--clock` `. NEXT WORK`; the first mark comes before anything is asked. An answer is read up
+to its mark before the next event, so that neither pipe can fill.
 """
 
 from __future__ import annotations
@@ -21,8 +23,9 @@ WORK = {b"idle": True, b"due": True, b"busy": False}
 
 
 class Answer(NamedTuple):
-    """What an event is answered by: entries as text, frames to send, the refusal as text; what T1 does, nothing where there is a clock, whether
-    all is done, whether an answer of the other end is due then; and by the clock when something is due, in milliseconds."""
+    """What an event is answered by: entries as text, frames to send, the refusal as text; what T1
+    does, nothing where there is a clock, whether all is done, whether an answer of the other end
+    is due then; and by the clock when something is due, in milliseconds."""
 
     notices: List[str]
     frames: List[FrameLine]
@@ -57,7 +60,12 @@ class Station:
         self.__exit__()
         try:
             # In a session of its own CTRL-C doesn't end it before the one who asks it.
-            self._child = subprocess.Popen(self._command, start_new_session=True, stdin=subprocess.PIPE, stdout=subprocess.PIPE)
+            self._child = subprocess.Popen(
+                self._command,
+                start_new_session=True,
+                stdin=subprocess.PIPE,
+                stdout=subprocess.PIPE,
+            )
         except OSError as error:
             raise BadInput(f"{self._command[0]}: {error.strerror}") from error
         self._given, self._made = pipes(self._child)
@@ -65,7 +73,8 @@ class Station:
         self.first = self._answer(b"")
 
     def ask(self, event: str, now: Optional[int] = None) -> Answer:
-        """The answer to an event, a line without its line feed, at a time in milliseconds at which nothing is due."""
+        """The answer to an event, a line without its line feed, at a time in milliseconds at which
+        nothing is due."""
         octets = event.encode("latin-1")
         said = [] if now is None or now == self._said else [b"@ %d" % now]
         self._said = now
@@ -93,12 +102,21 @@ class Station:
             elif x25lines.ENTRY_LINE.fullmatch(line):
                 notices.append(line.decode())
             else:
-                raise BadInput(f"{self._name} wrote {x25lines.shown(line)}, which is no part of an answer")
-        raise BadInput(f"{self._name} ended without a mark" + (f" after {x25lines.shown(event)}" if event else ": is it a program with that word?"))
+                raise BadInput(
+                    f"{self._name} wrote {x25lines.shown(line)}, which is no part of an answer"
+                )
+        raise BadInput(
+            f"{self._name} ended without a mark"
+            + (f" after {x25lines.shown(event)}" if event else ": is it a program with that word?")
+        )
 
     def _mark(self, line: bytes) -> tuple[str, bool, bool, Optional[int]]:
         words = line.split(b" ")
-        if len(words) != 3 or words[1] not in T1 and not NEXT.fullmatch(words[1]) or words[2] not in WORK:
+        if (
+            len(words) != 3
+            or words[1] not in T1 and not NEXT.fullmatch(words[1])
+            or words[2] not in WORK
+        ):
             raise BadInput(f"{self._name} wrote {x25lines.shown(line)}, which is no mark")
         if words[1] in T1:
             return words[1].decode(), WORK[words[2]], False, None

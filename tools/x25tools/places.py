@@ -23,7 +23,9 @@ def host(text: str) -> str:
     """A word that is a name or an address; one of IPv6 stands in brackets."""
     found = re.fullmatch(r"\[([0-9a-fA-F:.%\w]+)\]|([^:\[\]]+)", text)
     if not found:
-        raise argparse.ArgumentTypeError(f"{text!r} is no name of a host and no address; one of IPv6 stands in brackets")
+        raise argparse.ArgumentTypeError(
+            f"{text!r} is no name of a host and no address; one of IPv6 stands in brackets"
+        )
     return found[1] or found[2]
 
 

@@ -1,4 +1,5 @@
-"""A run of `x25 sim --tap --events` from its script: its lines, and what became of each frame that was put on the line."""
+"""A run of `x25 sim --tap --events` from its script: its lines, and what became of each frame that
+was put on the line."""
 
 from __future__ import annotations
 
@@ -27,7 +28,8 @@ class Run(NamedTuple):
 
 
 def answer(program: str, words: Sequence[str], given: bytes) -> tuple[str, str]:
-    """What a program writes for some words and some input, and what it says on standard error; bad input where it can't be run, or refuses."""
+    """What a program writes for some words and some input, and what it says on standard error; bad
+    input where it can't be run, or refuses."""
     decoding.say_if_unproved(program)
     try:
         done = subprocess.run([program, *words], input=given, capture_output=True, timeout=SECONDS)
@@ -36,7 +38,10 @@ def answer(program: str, words: Sequence[str], given: bytes) -> tuple[str, str]:
     except subprocess.TimeoutExpired as error:
         raise BadInput(f"{program} {words[0]} didn't end within {SECONDS} seconds") from error
     if done.returncode not in (0, 1):
-        said = done.stderr.decode(errors="replace").strip().splitlines() or [f"status {done.returncode}"]
+        said = (
+            done.stderr.decode(errors="replace").strip().splitlines()
+            or [f"status {done.returncode}"]
+        )
         raise BadInput(f"{program} {words[0]}: {said[0]}")
     return done.stdout.decode("ascii", "replace"), done.stderr.decode(errors="replace")
 
@@ -49,7 +54,8 @@ def run(program: str, script: bytes, words: Sequence[str]) -> Run:
 
 
 def steps(program: str, script: bytes, words: Sequence[str]) -> Iterator[tuple[str, list[str]]]:
-    """Yields the events of the run of a script, each with the lines that it made; the first also with the frames that are on the line before it."""
+    """Yields the events of the run of a script, each with the lines that it made; the first also
+    with the frames that are on the line before it."""
     text, said = answer(program, ["sim", "--loose", "--tap", "--events", *words], script)
     if found := NO_EVENT.search(said):
         raise BadInput(f"line {found[1]} of the script: {found[2]}")
@@ -82,7 +88,8 @@ def is_refused(made: list[str]) -> bool:
 
 
 class Line:
-    """The line between the stations while a run is followed: for each direction the places of the frames that are on it."""
+    """The line between the stations while a run is followed: for each direction the places of the
+    frames that are on it."""
 
     def __init__(self) -> None:
         self.lines: list[str] = []

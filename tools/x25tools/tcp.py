@@ -17,7 +17,9 @@ MOST_READ = 65_536
 Address = Any
 
 
-def addresses(host: str, port: int, kind: socket.SocketKind = socket.SOCK_STREAM) -> list[tuple[socket.AddressFamily, Address]]:
+def addresses(
+    host: str, port: int, kind: socket.SocketKind = socket.SOCK_STREAM
+) -> list[tuple[socket.AddressFamily, Address]]:
     """The addresses of a host's port, each with its family."""
     try:
         return [(row[0], row[4]) for row in socket.getaddrinfo(host, port, type=kind)]
@@ -51,14 +53,16 @@ def accepted(opened: socket.socket) -> socket.socket | None:
 
 
 class Connection:
-    """A connection over TCP, or one that is being made to an address (`is_open` says which): what waits to be written, and what came.
+    """A connection over TCP, or one that is being made to an address (`is_open` says which): what
+    waits to be written, and what came.
 
-    Where nothing comes for `t3` seconds, the system asks whether the other end is still there; if not, the connection ends.
+    Where nothing comes for `t3` seconds, the system asks whether the other end is still there; if
+    not, the connection ends.
     """
 
     def __init__(self, opened: socket.socket, t3: float, address: Address | None = None) -> None:
         self._socket, self._left = opened, bytearray()
-        # The number of its file, which a loop over thousands of circuits looks at in each turn.
+        # The number of its file, by which a loop knows it.
         self.number = opened.fileno()
         self.is_open, self.why = address is None, ""
         opened.setblocking(False)
@@ -69,7 +73,12 @@ class Connection:
 
     def _keep_alive(self, seconds: int) -> None:
         self._socket.setsockopt(socket.SOL_SOCKET, socket.SO_KEEPALIVE, 1)
-        values = {"TCP_KEEPIDLE": seconds, "TCP_KEEPINTVL": max(1, seconds // 3), "TCP_KEEPCNT": 3, "TCP_USER_TIMEOUT": 2000 * seconds}
+        values = {
+            "TCP_KEEPIDLE": seconds,
+            "TCP_KEEPINTVL": max(1, seconds // 3),
+            "TCP_KEEPCNT": 3,
+            "TCP_USER_TIMEOUT": 2000 * seconds,
+        }
         for name, value in values.items():
             if hasattr(socket, name):
                 self._socket.setsockopt(socket.IPPROTO_TCP, getattr(socket, name), value)
@@ -92,7 +101,8 @@ class Connection:
         self._left += octets
 
     def turn(self, ready: Container[int]) -> bytes | None:
-        """Where its file is ready: writes, and answers the octets that came; None where the connection has ended, or wasn't made."""
+        """Where its file is ready: writes, and answers the octets that came; None where the
+        connection has ended, or wasn't made."""
         if self.number not in ready:
             return b""
         try:

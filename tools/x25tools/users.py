@@ -1,4 +1,5 @@
-"""The user of a bridge: commands that come and are held, notices that are told, signals; and files whose readers may be slow."""
+"""The user of a bridge: commands that come and are held, notices that are told, signals; and files
+whose readers may be slow."""
 
 from __future__ import annotations
 
@@ -7,7 +8,7 @@ import re
 import signal
 import socket
 import time
-from collections import Counter, deque
+from collections import Counter, OrderedDict, deque
 from typing import Callable, Container, Iterable, Protocol
 
 from x25tools import waiting, x25lines
@@ -19,11 +20,16 @@ from x25tools.x25lines import BadInput
 MOST_NOTICES, MOST_OF_A_NOTICE = 10_000, 200
 # A reader is slow while so many octets wait for it, and those after so many more are left out.
 SLOW, FULL = 1 << 18, 1 << 25
-# How long a reader is waited for at the end, and how long a `wait` lasts before that is told, in seconds.
+# How long a reader is waited for at the end, and how long a `wait` lasts before that is told, in
+# seconds.
 PATIENCE, SILENCE = 2, 10
-# A message of a channel; what waits while messages of a channel, or of any, stand aside. So many octets may stand aside.
+# A message of a channel; what waits while messages of a channel, or of any, stand aside. So many
+# octets may stand aside.
 MESSAGE = re.compile(rb"d(?:te|ce) send (\d+) ")
-LATER = re.compile(rb"d(?:te|ce) (?:(?:(?:with \S+ \S+ (?:d )?)?clear|reset) (\d+)|restart|disconnect)(?: (?:cause|diag)=|$)")
+LATER = re.compile(
+    rb"d(?:te|ce) (?:(?:(?:with \S+ \S+ (?:d )?)?clear|reset) (\d+)|restart|disconnect)(?: "
+    rb"(?:cause|diag)=|$)"
+)
 MOST_ASIDE = 1 << 22
 
 
@@ -34,9 +40,12 @@ class Written(Protocol):
 
 
 class Outlet:
-    """Lines that a file is given, as there is room. Those for which a slow reader leaves none are left out, and told by their kinds."""
+    """Lines that a file is given, as there is room. Those for which a slow reader leaves none are
+    left out, and told by their kinds."""
 
-    def __init__(self, file: Written | None, kind_of: Callable[[str], str] = lambda line: "line") -> None:
+    def __init__(
+        self, file: Written | None, kind_of: Callable[[str], str] = lambda line: "line"
+    ) -> None:
         self._file, self._kind_of = file, kind_of
         self._left = bytearray()
         self._left_out: Counter[str] = Counter()
@@ -61,7 +70,9 @@ class Outlet:
             self._left_out[self._kind_of(line)] += 1
             return
         if self._left_out:
-            kinds = ", ".join(f"{count:,} {kind}" for kind, count in sorted(self._left_out.items()))
+            kinds = ", ".join(
+                f"{count:,} {kind}" for kind, count in sorted(self._left_out.items())
+            )
             self._left += self.spelled(f"# left out, while nobody read: {kinds}").encode()
             self._left_out.clear()
         self._left += self.spelled(line).encode()
@@ -80,7 +91,9 @@ class Outlet:
             except BrokenPipeError:
                 raise
             except OSError as error:
-                raise BadInput(f"{getattr(self._file, 'name', self.number)}: {error.strerror}") from error
+                raise BadInput(
+                    f"{getattr(self._file, 'name', self.number)}: {error.strerror}"
+                ) from error
 
     def end(self) -> None:
         """Writes what is left, as long as the reader goes on."""
@@ -95,7 +108,8 @@ def kind(notice: str) -> str:
 
 
 class Signals:
-    """CTRL-C, SIGTERM and SIGHUP as something to read. The first is `number` once it is read; a second one ends the script at once. 0 is for `leave`.
+    """CTRL-C, SIGTERM and SIGHUP as something to read. The first is `number` once it is read; a
+    second one ends the script at once. 0 is for `leave`.
 
     `at_first` is called when the first one comes, before a second one can.
     """
@@ -133,7 +147,8 @@ class Signals:
         return [self._reader.fileno()] if self.number is None else []
 
     def read(self, ready: Container[int]) -> None:
-        """Reads the first that came: what `_come` itself set could be missed by a wait that begins just then."""
+        """Reads the first that came: what `_come` itself set could be missed by a wait that begins
+        just then."""
         if self._reader.fileno() in ready:
             self.number = self._reader.recv(1)[0]
 
@@ -141,8 +156,9 @@ class Signals:
 class Commands:
     """Lines that wait to be asked, in the order in which they came.
 
-    A message for which its circuit has no room stands aside, and after it those of the same channel, so that it holds nothing else; but
-    `clear`, `reset`, `restart` and `disconnect` let the messages go first, as long as one of the circuit is taken within `patience` seconds.
+    A message for which its circuit has no room stands aside, and after it those of the same
+    channel, so that it holds nothing else; but `clear`, `reset`, `restart` and `disconnect` let
+    the messages go first, as long as one of the circuit is taken within `patience` seconds.
     """
 
     def __init__(self, patience: float) -> None:
@@ -150,11 +166,15 @@ class Commands:
         # Those that wait in order, and how many octets these are.
         self._lines: deque[bytes] = deque()
         self.octets = 0
-        # By channels: the messages that stand aside, and when one was taken last; the channels whose circuit has no room. The octets of these.
+        # By channels: the messages that stand aside, and when one was taken last. The octets of
+        # these.
         self._aside: dict[bytes, deque[bytes]] = {}
         self._last: dict[bytes, float] = {}
-        self._full: set[bytes] = set()
         self._beside = 0
+        # How often there may have been room, and of these channels how often that was when their
+        # circuit had none: the one that was asked longest ago is first.
+        self._rooms = 0
+        self._full: OrderedDict[bytes, int] = OrderedDict()
         # The channel whose message `next` answered.
         self._at: bytes | None = None
 
@@ -184,7 +204,8 @@ class Commands:
 
     def next(self) -> bytes | None:
         """The command whose time has come, or None; a `wait` holds those after it."""
-        self._at = next((channel for channel in self._aside if channel not in self._full), None)
+        first = next(iter(self._full), None)
+        self._at = first if first is not None and self._full[first] < self._rooms else None
         if self._at is not None:
             return self._aside[self._at][0]
         while self._lines and not self._lines[0].startswith(b"wait "):
@@ -199,9 +220,13 @@ class Commands:
         return None
 
     def due(self) -> float | None:
-        """When the first line goes before messages that stand aside; None where it lets none go first."""
+        """When the first line goes before messages that stand aside; None where it lets none go
+        first."""
         found = LATER.match(self.first())
-        return max((last + self._patience for at, last in self._last.items() if found[1] in (at, None)), default=None) if found else None
+        if not found or not self._last:
+            return None
+        last = max(self._last.values()) if found[1] is None else self._last.get(found[1])
+        return None if last is None else last + self._patience
 
     def take(self) -> None:
         """The line that `next` answered was asked."""
@@ -211,10 +236,11 @@ class Commands:
         self._beside -= len(self._aside[self._at].popleft())
         self._last[self._at] = time.monotonic()
         if not self._aside[self._at]:
-            del self._aside[self._at], self._last[self._at]
+            del self._aside[self._at], self._last[self._at], self._full[self._at]
 
     def have_no_room(self) -> None:
-        """The message that `next` answered was refused, as its circuit has no room before `make_room`."""
+        """The message that `next` answered was refused, as its circuit has no room before
+        `make_room`."""
         channel = self._at
         if channel is None:
             found = MESSAGE.match(self._lines[0])
@@ -222,7 +248,8 @@ class Commands:
             channel = found[1]
             self._last[channel] = time.monotonic()
             self._put_aside(channel)
-        self._full.add(channel)
+        self._full[channel] = self._rooms
+        self._full.move_to_end(channel)
 
     def _put_aside(self, channel: bytes) -> None:
         line = self.drop_first()
@@ -231,17 +258,21 @@ class Commands:
 
     def make_room(self) -> None:
         """Something happened by which there may be room in any circuit."""
-        self._full.clear()
+        self._rooms += 1
 
 
 class User:
-    """The user of an end. `commands` is the number of the file that they come by, or None; `notices` is an outlet; `patience` is theirs."""
+    """The user of an end. `commands` is the number of the file that they come by, or None;
+    `notices` is an outlet; `patience` is theirs."""
 
-    def __init__(self, commands: int | None, notices: Outlet, patience: float, is_at_terminal: bool = False) -> None:
+    def __init__(
+        self, commands: int | None, notices: Outlet, patience: float, is_at_terminal: bool = False
+    ) -> None:
         self._file, self.notices, self._is_at_terminal = commands, notices, is_at_terminal
         self.commands = Commands(patience)
         self._open = b""
-        # Notices since the one that was waited for last: those that the `wait` which is first has looked at, and those after them.
+        # Notices since the one that was waited for last: those that the `wait` which is first has
+        # looked at, and those after them.
         self._passed, self._heard = (deque[str](maxlen=MOST_NOTICES) for _ in range(2))
         self._is_ended = commands is None
         # Since when the `wait` waits that is first, and whether it was told that it does.
@@ -250,10 +281,15 @@ class User:
 
     def readers(self) -> list[int]:
         """The file to read from, where more commands may come and few wait in order."""
-        return [] if self._file is None or self._is_ended or self.commands.octets >= MOST_READ else [self._file]
+        return (
+            []
+            if self._file is None or self._is_ended or self.commands.octets >= MOST_READ
+            else [self._file]
+        )
 
     def read(self, ready: Container[int]) -> None:
-        """Reads what has come. Of a line that is far too long a beginning is kept, which is too long for a command, too."""
+        """Reads what has come. Of a line that is far too long a beginning is kept, which is too
+        long for a command, too."""
         if self._file is None or self._is_ended or self._file not in ready:
             return
         octets = os.read(self._file, MOST_READ)
@@ -271,7 +307,8 @@ class User:
         return None if line is None else line.decode("latin-1")
 
     def awaits(self) -> tuple[str, float] | None:
-        """What the first line waits for by `wait`, and since when; None where that has come, or it waits for nothing."""
+        """What the first line waits for by `wait`, and since when; None where that has come, or it
+        waits for nothing."""
         while (line := self.commands.first()).startswith(b"wait "):
             self._since = self._since or time.monotonic()
             text = line[5:].decode(errors="replace")
@@ -281,7 +318,8 @@ class User:
         return None
 
     def _has_come(self, text: str) -> bool:
-        """Whether a notice that begins so has come, after the one that was waited for before; those up to it are forgotten."""
+        """Whether a notice that begins so has come, after the one that was waited for before;
+        those up to it are forgotten."""
         while self._heard:
             notice = self._heard.popleft()
             if notice.startswith(text):
@@ -304,7 +342,9 @@ class User:
     def tell_silence(self) -> None:
         """Tells that a `wait` waits, and what it holds."""
         held = self.held()
-        self.note(f"{x25lines.shown(self.commands.first())} " + (f"holds {held}" if held else "waits"))
+        self.note(
+            f"{x25lines.shown(self.commands.first())} " + (f"holds {held}" if held else "waits")
+        )
         self._is_told = True
 
     def held(self) -> str:
@@ -333,5 +373,6 @@ class User:
         return self._is_ended and self.commands.are_done()
 
     def has_asked(self) -> bool:
-        """Whether no command is left, and none will come but for those that a user at a terminal may think of."""
+        """Whether no command is left, and none will come but for those that a user at a terminal
+        may think of."""
         return self.commands.are_done() and (self._is_ended or self._is_at_terminal)

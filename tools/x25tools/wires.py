@@ -1,4 +1,5 @@
-"""What carries a bridge's frames to the other end: lines of a trace over a stream of octets, or frames of lapbether.
+"""What carries a bridge's frames to the other end: lines of a trace over a stream of octets, or
+frames of lapbether.
 
 A wire stands in a loop around `waiting.ready`. `readers` and `writers` are the numbers of the
 files that it waits for, and `due` is when it wants a turn without them. `frames` is its turn: it
@@ -30,11 +31,13 @@ BROADCAST = b"\xff" * 6
 # The shortest frame of Ethernet, without its frame check sequence.
 LEAST_ETHERNET = 60
 HEADER = 14
-# Octets of a frame of lapbether that are no user data: its length, the address and control of LAPB, the header of a packet.
+# Octets of a frame of lapbether that are no user data: its length, the address and control of
+# LAPB, the header of a packet.
 OVERHEAD = 7
 # The codes of packet sizes, each 2 to its code.
 MOST_SIZE = 12
-# A peer is called that doesn't answer yet: for how long, and the pause, which grows where the bridge calls again and again. In seconds.
+# A peer is called that doesn't answer yet: for how long, and the pause, which grows where the
+# bridge calls again and again. In seconds.
 PATIENCE, PAUSE, MOST_PAUSE = 10, 0.1, 30
 # How often an interface that is down is looked at, in seconds.
 LOOK = 1
@@ -52,7 +55,8 @@ class Ended(Exception):
 
 
 class Wire:
-    """What all wires have. `has_begun` is whether it was ever there, `waits` how many octets wait to be written."""
+    """What all wires have. `has_begun` is whether it was ever there, `waits` how many octets wait
+    to be written."""
 
     has_fcs = True
     is_there = has_begun = True
@@ -81,7 +85,8 @@ class Wire:
 
 
 class Lines:
-    """Lines of a trace as octets: those that `end` writes, and those that come from the other end."""
+    """Lines of a trace as octets: those that `end` writes, and those that come from the other
+    end."""
 
     def __init__(self, end: str, note: Note) -> None:
         self._own, self._other = ("> ", "<") if end == "dte" else ("< ", ">")
@@ -94,7 +99,8 @@ class Lines:
         return f"{self._own}{octets.hex()}\n".encode()
 
     def frames(self, octets: bytes) -> Iterator[bytes]:
-        """Yields the frames of the lines that are whole now; what the other end says in a comment is told."""
+        """Yields the frames of the lines that are whole now; what the other end says in a comment
+        is told."""
         octets = self._open + octets
         # A packet of XOT begins so, and may never bring a line feed.
         if octets.startswith(b"\0"):
@@ -150,7 +156,8 @@ class Standard(Wire):
 
 
 class OverTcp(Wire):
-    """Lines of a trace over a connection of TCP; where it ends and `comes_again`, over the next one."""
+    """Lines of a trace over a connection of TCP; where it ends and `comes_again`, over the next
+    one."""
 
     # What is told of a connection, before the other end's address.
     _connected = "connected to"
@@ -173,7 +180,9 @@ class OverTcp(Wire):
         return [self._connection.number] if self._connection and self._lines else []
 
     def writers(self) -> list[int]:
-        return [self._connection.number] if self._connection and self._connection.wants_room() else []
+        return (
+            [self._connection.number] if self._connection and self._connection.wants_room() else []
+        )
 
     def send(self, octets: bytes) -> None:
         if self._connection and self._lines:
@@ -220,11 +229,14 @@ class OverTcp(Wire):
 
 
 class Listening(OverTcp):
-    """Waits for a connection; while there is one, others are told so and closed. Where it `stays`, it waits for the next one."""
+    """Waits for a connection; while there is one, others are told so and closed. Where it `stays`,
+    it waits for the next one."""
 
     _connected = "a connection has come from"
 
-    def __init__(self, end: str, note: Note, place: tuple[str, int], t3: float, stays: bool) -> None:
+    def __init__(
+        self, end: str, note: Note, place: tuple[str, int], t3: float, stays: bool
+    ) -> None:
         super().__init__(end, note, t3, stays)
         self._server = tcp.server(*place)
 
@@ -232,10 +244,15 @@ class Listening(OverTcp):
         return [self._server.fileno(), *super().readers()]
 
     def frames(self, ready: Container[int]) -> Iterator[bytes]:
-        # Of a connection that has something to read that may be its end, which comes before the next one.
+        # Of a connection that has something to read that may be its end, which comes before the
+        # next one.
         is_read = self._connection is not None and self._connection.number in ready
         yield from super().frames(ready)
-        if self._server.fileno() in ready and (self._connection is None or not is_read) and (came := tcp.accepted(self._server)):
+        if (
+            self._server.fileno() in ready
+            and (self._connection is None or not is_read)
+            and (came := tcp.accepted(self._server))
+        ):
             self._take(came)
 
     def _take(self, came: socket.socket) -> None:
@@ -254,9 +271,12 @@ class Listening(OverTcp):
 
 
 class Calling(OverTcp):
-    """Makes a connection, to one who may listen only after some seconds; where it `retries`, again and again, with a growing pause."""
+    """Makes a connection, to one who may listen only after some seconds; where it `retries`, again
+    and again, with a growing pause."""
 
-    def __init__(self, end: str, note: Note, place: tuple[str, int], t3: float, retries: bool) -> None:
+    def __init__(
+        self, end: str, note: Note, place: tuple[str, int], t3: float, retries: bool
+    ) -> None:
         super().__init__(end, note, t3, retries)
         self._place, self._addresses, self._turns = place, tcp.addresses(*place), 0
         self._pause, self._is_told = PAUSE, False
@@ -277,7 +297,9 @@ class Calling(OverTcp):
             return
         family, address = self._addresses[self._turns % len(self._addresses)]
         self._turns += 1
-        self._connection = tcp.Connection(socket.socket(family, socket.SOCK_STREAM), self._t3, address)
+        self._connection = tcp.Connection(
+            socket.socket(family, socket.SOCK_STREAM), self._t3, address
+        )
         self.due = time.monotonic() + PATIENCE
 
     def _there(self, connection: tcp.Connection) -> Lines:
@@ -307,11 +329,14 @@ class Calling(OverTcp):
 
 
 class Datagrams(Wire):
-    """Frames of lapbether, each in a frame of Ethernet, over a socket that sends to and takes from the other end alone."""
+    """Frames of lapbether, each in a frame of Ethernet, over a socket that sends to and takes from
+    the other end alone."""
 
     has_fcs = False
 
-    def __init__(self, note: Note, opened: socket.socket | None = None, source: bytes = b"") -> None:
+    def __init__(
+        self, note: Note, opened: socket.socket | None = None, source: bytes = b""
+    ) -> None:
         self._note, self._source = note, source
         if opened:
             self._socket = opened
@@ -356,20 +381,27 @@ class Datagrams(Wire):
 
 
 def ethernet_frame(source: bytes, frame: bytes) -> bytes:
-    """A frame of LAPB in one of Ethernet, as lapbether sends it: to all, after its length, without a frame check sequence."""
-    octets = BROADCAST + source + lan.LAPBETHER.to_bytes(2, "big") + len(frame).to_bytes(2, "little") + frame
+    """A frame of LAPB in one of Ethernet, as lapbether sends it: to all, after its length, without
+    a frame check sequence."""
+    octets = BROADCAST + source + lan.LAPBETHER.to_bytes(2, "big") + len(frame).to_bytes(
+        2, "little"
+    ) + frame
     return octets.ljust(LEAST_ETHERNET, b"\0")
 
 
 def carried_frame(octets: bytes) -> bytes | None:
-    """The frame of LAPB in one of Ethernet, with its frame check sequence; None where there is none."""
+    """The frame of LAPB in one of Ethernet, with its frame check sequence; None where there is
+    none."""
     frame, length = octets[HEADER + 2 :], int.from_bytes(octets[HEADER : HEADER + 2], "little")
-    is_whole = octets[HEADER - 2 : HEADER] == lan.LAPBETHER.to_bytes(2, "big") and len(frame) >= length
+    is_whole = (
+        octets[HEADER - 2 : HEADER] == lan.LAPBETHER.to_bytes(2, "big") and len(frame) >= length
+    )
     return frame[:length] + x25lines.fcs(frame[:length]) if is_whole else None
 
 
 def over_udp(end: str, note: Note, local: int, host: str, remote: int) -> Datagrams:
-    """Datagrams between a port of this host, at the one address from which the other host is reached, and a port of that host."""
+    """Datagrams between a port of this host, at the one address from which the other host is
+    reached, and a port of that host."""
     family, peer = tcp.addresses(host, remote, socket.SOCK_DGRAM)[0]
     with socket.socket(family, socket.SOCK_DGRAM) as probe:
         probe.connect(peer)
@@ -387,7 +419,8 @@ def over_udp(end: str, note: Note, local: int, host: str, remote: int) -> Datagr
 
 
 class Ethernet(Datagrams):
-    """An interface of Ethernet, by its name; while it is down or away, it is looked at once a second."""
+    """An interface of Ethernet, by its name; while it is down or away, it is looked at once a
+    second."""
 
     def __init__(self, note: Note, interface: str) -> None:
         if not hasattr(socket, "AF_PACKET"):
@@ -399,7 +432,10 @@ class Ethernet(Datagrams):
             mtu = self._open()
         except OSError as error:
             raise BadInput(f"{interface}: {error.strerror}") from error
-        x25lines.warn(f"{interface} has an MTU of {mtu}: packets of up to {1 << self.most_size} octets fit (size {self.most_size})")
+        x25lines.warn(
+            f"{interface} has an MTU of {mtu}: packets of up to {1 << self.most_size} octets fit "
+            f"(size {self.most_size})"
+        )
         if not self.is_there:
             note(f"{interface} is down; waiting for it")
 

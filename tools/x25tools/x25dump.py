@@ -1,4 +1,5 @@
-"""Shows a capture or a trace line by line, as it comes: time, direction, the text of `x25 decode --wide`, and its numbers in words.
+"""Shows a capture or a trace line by line, as it comes: time, direction, the text of `x25 decode
+--wide`, and its numbers in words.
 
     x25dump.py FILE
     tcpdump -U -w - port 1998 | x25dump.py
@@ -15,22 +16,27 @@ does. Of a capture all connections are shown, each but the first with its number
 direction, and named where it begins; --connection takes one of them. Frames that were made up
 around packets aren't shown, their packets are.
 
-  --messages  shows what the ends' users sent: data packets joined by M, and interrupts, as hexadecimal digits and text. Each
-              comes once, though its frame be repeated; where frames are missing those that are begun are broken off
-  --stats     writes at the end how many frames, packets and octets of data went each way, and how many I frames came out of
-              order or again
-  --judge     says after a frame which end broke which rule or which manners of the link or the packet layer with it, and what
-              may be noted (`x25 judge`), of each connection by itself; --k is the window. Of packets without frames (XOT, LLC)
-              the rules of the packet layer alone; not of lines of `x25 decode`. At the end, or at CTRL-C, it says how many frames and packets
-              there were, and how many of them were judged
-  --at        says where a capture was made: `dte` or `dce`, in front of that end, so that of the other one's frames those are
-              missing that the line lost; or on the `line`, and it has all frames. At `either`, or where nothing is said, a capture
-              may lack any frame. What such frames would explain stands after ` !? ` and ` ~? manners: `, and makes the status 1 with
-              --strict alone; so does what --swap, --fcs or --no-fcs would explain. After frames that the capture says are
-              missing, which `> ..` or `< ..` shows, both ends are judged anew; nothing is judged of a link modulo 128. Lines of a
-              trace are all that was on the line, where nothing is said
+  --messages  shows what the ends' users sent: data packets joined by M, and interrupts, as
+              hexadecimal digits and text. Each comes once, though its frame be repeated; where
+              frames are missing those that are begun are broken off
+  --stats     writes at the end how many frames, packets and octets of data went each way, and how
+              many I frames came out of order or again
+  --judge     says after a frame which end broke which rule or which manners of the link or the
+              packet layer with it, and what may be noted (`x25 judge`), of each connection by
+              itself; --k is the window. Of packets without frames (XOT, LLC) the rules of the
+              packet layer alone; not of lines of `x25 decode`. At the end, or at CTRL-C, it says
+              how many frames and packets there were, and how many of them were judged
+  --at        says where a capture was made: `dte` or `dce`, in front of that end, so that of the
+              other one's frames those are missing that the line lost; or on the `line`, and it has
+              all frames. At `either`, or where nothing is said, a capture may lack any frame. What
+              such frames would explain stands after ` !? ` and ` ~? manners: `, and makes the
+              status 1 with --strict alone; so does what --swap, --fcs or --no-fcs would explain.
+              After frames that the capture says are missing, which `> ..` or `< ..` shows, both
+              ends are judged anew; nothing is judged of a link modulo 128. Lines of a trace are
+              all that was on the line, where nothing is said
   --strict, --manners
-              make the status 1 too where a frame or a packet wasn't judged, or where manners were broken
+              make the status 1 too where a frame or a packet wasn't judged, or where manners were
+              broken
   --told      judges too, and shows alone the frames of which a rule or manners are told, and how
   much was judged --json      writes each frame as an object of JSON in a line, with the fields of
   frame and packet and what is told; times in seconds --channel   shows the packets of a channel
@@ -40,12 +46,13 @@ around packets aren't shown, their packets are.
   all there too --no-wide   reads as `x25 decode` does, which has `fault` for packets in another
   form than a station writes
 
-The program is the one that --x25 or the variable X25 names, or `x25` of the PATH, or else the one that was built or installed
-with this script, or that of `make look`, which is unproved. Colours are for a terminal alone, and not where the variable
-NO_COLOR is set.
+The program is the one that --x25 or the variable X25 names, or `x25` of the PATH, or else the one
+that was built or installed with this script, or that of `make look`, which is unproved. Colours
+are for a terminal alone, and not where the variable NO_COLOR is set.
 
-Exit status: 0; 1 where a line was none, a rule was broken, nothing was found, something was left out, or no frame reads so
-(--swap, --fcs, --no-fcs); 2 for bad words or bad input, after what stands before it.
+Exit status: 0; 1 where a line was none, a rule was broken, nothing was found, something was left
+out, or no frame reads so (--swap, --fcs, --no-fcs); 2 for bad words or bad input, after what
+stands before it.
 """
 
 from __future__ import annotations
@@ -89,10 +96,12 @@ LONG_DATA, FOLDED = re.compile("(?<==)[0-9a-f]{66,}"), 48
 # Where the packet begins in the text of a frame that was made up.
 PACKET_AT = len("> I cmd P=0 S=0 R=0 | ")
 # What stands before what is told of a frame, or noted.
-RULES, NOTES = (judging.RULE, judging.IN_DOUBT[judging.RULE]), (judging.IN_DOUBT[judging.MANNERS], " ~ ")
-# Texts without any of these are shown as they are. Others may be refusals or gaps, or have rules, notes, or numbers that x25names has words for:
-# `diag=`, `why=`, and `fac=`, which stands after `calling=` or in an ACCEPT; or name what sets up
-# a permanent circuit.
+RULES, NOTES = (
+    (judging.RULE, judging.IN_DOUBT[judging.RULE]), (judging.IN_DOUBT[judging.MANNERS], " ~ ")
+)
+# Texts without any of these are shown as they are. Others may be refusals or gaps, or have rules,
+# notes, or numbers that x25names has words for: `diag=`, `why=`, and `fac=`, which stands after
+# `calling=` or in an ACCEPT; or name what sets up a permanent circuit.
 SIGNS = *"!?~gyEV", x25lines.GAP
 # What the program answers to a packet whose type it doesn't know.
 UNIDENTIFIABLE = "| fault 22 "
@@ -110,17 +119,22 @@ def channel_of(text: str) -> int | None:
 
 
 class Reader:
-    """Yields what there is to show of a capture or of lines, in blocks of what is there at once; `status` is 1 where something wasn't read.
+    """Yields what there is to show of a capture or of lines, in blocks of what is there at once;
+    `status` is 1 where something wasn't read.
 
-    Each thing is its time as text, its connection, and its text: a frame's with its direction, an entry with its end, a refusal.
+    Each thing is its time as text, its connection, and its text: a frame's with its direction, an
+    entry with its end, a refusal.
     """
 
-    def __init__(self, decoder: decoding.Decoder | judging.Judge, options: argparse.Namespace) -> None:
+    def __init__(
+        self, decoder: decoding.Decoder | judging.Judge, options: argparse.Namespace
+    ) -> None:
         self._decoder = decoder
         self._options = options
         self._time = x25lines.seconds if options.epoch else x25lines.moment
         self.status = 0
-        # With --judge: the directions of the frames in digits that there were, and how many lines of `x25 decode`.
+        # With --judge: the directions of the frames in digits that there were, and how many lines
+        # of `x25 decode`.
         self._directions: set[str] = set()
         self._texts_seen = 0
         # Of lines: those without a direction, the last date, and the connections, by number and
@@ -135,7 +149,10 @@ class Reader:
         is_there = channel is None
         for block in self._captured(file) if captures.is_capture(file) else self._lines(file):
             is_there = is_there or any(channel_of(text) == channel for _, _, text in block)
-            if self._options.judge and any(judging.is_faulty(text, self._options) for _, _, text in block):
+            if (
+                self._options.judge
+                and any(judging.is_faulty(text, self._options) for _, _, text in block)
+            ):
                 self.status = 1
             yield block
         if not is_there:
@@ -153,8 +170,11 @@ class Reader:
                     texts[place] = pvc.text(asked.splitlines()[place]) or text
             yield list(zip(map(self._time, times), connections, texts))
 
-    def _found(self, file: x25lines.Readable) -> Iterator[tuple[list[Connection], list[int], str] | int]:
-        """Yields the connections, the times and the text of the lines of the frames of a capture, in blocks, and at the end the status."""
+    def _found(
+        self, file: x25lines.Readable
+    ) -> Iterator[tuple[list[Connection], list[int], str] | int]:
+        """Yields the connections, the times and the text of the lines of the frames of a capture,
+        in blocks, and at the end the status."""
         converter = pcap2x25.Converter(self._options)
         wanted = self._options.connection
         for found in converter.blocks(captures.blocks(file, converter.notes)):
@@ -164,8 +184,14 @@ class Reader:
             connections, times, lines = found
             yield connections, times, "".join(lines)
         if 0 < len(converter.connections()) < (wanted or 1):
-            raise BadInput(f"there is no connection {wanted}: the last is {len(converter.connections())}")
-        if self._options.at not in (None, "either") and captures.DROPPED in converter.notes and not all(it.is_made_up for it in converter.connections()):
+            raise BadInput(
+                f"there is no connection {wanted}: the last is {len(converter.connections())}"
+            )
+        if (
+            self._options.at not in (None, "either")
+            and captures.DROPPED in converter.notes
+            and not all(it.is_made_up for it in converter.connections())
+        ):
             x25lines.warn("so --at doesn't hold: what was dropped may explain what is told")
         yield converter.tell()
 
@@ -192,11 +218,17 @@ class Reader:
         if is_empty:
             self._say("nothing was found: the input is empty")
         elif not has_found:
-            self._say("nothing was found: the input is no capture, and none of its lines is of a trace, as `> 013febdf` is")
+            self._say(
+                "nothing was found: the input is no capture, and none of its lines is of a trace, "
+                "as `> 013febdf` is"
+            )
         elif self._options.judge and not self._directions:
             self._say("nothing was judged: no line has a frame in hexadecimal digits")
         elif self.status and len(self._directions) == 1 and self._options.at in (None, "line"):
-            self._say(f"no frame is of the {'DCE' if '>' in self._directions else 'DTE'}: if its frames are missing, --at either says so")
+            self._say(
+                f"no frame is of the {'DCE' if '>' in self._directions else 'DTE'}: if its frames "
+                "are missing, --at either says so"
+            )
         elif self._texts_seen:
             self._say(f"left out: line of `x25 decode`, which isn't judged ({self._texts_seen})")
         self.status = max(self.status, doubts.tell())
@@ -207,7 +239,8 @@ class Reader:
         self.status = 1
 
     def _as_asked(self, line: written.Line) -> written.Line:
-        """A line with its direction exchanged, or with a frame check sequence added, where it has a frame in digits."""
+        """A line with its direction exchanged, or with a frame check sequence added, where it has
+        a frame in digits."""
         frame = x25lines.frame_line(line.rest)
         if frame is None:
             return line
@@ -279,7 +312,8 @@ class Reader:
 
 
 class Days:
-    """Parts times into the date, which is shown in a line of its own where it changes, and the time of the day."""
+    """Parts times into the date, which is shown in a line of its own where it changes, and the
+    time of the day."""
 
     def __init__(self, paint: Paint) -> None:
         self._paint = paint
@@ -307,7 +341,11 @@ class Lines:
     def take(self, block: list[Thing]) -> list[str]:
         """Answers the lines of the things of a block."""
         texts = "".join([text for _, _, text in block])
-        has_plain_texts = self._paint is unpainted and not self._is_folded and not any(sign in texts for sign in SIGNS)
+        has_plain_texts = (
+            self._paint is unpainted
+            and not self._is_folded
+            and not any(sign in texts for sign in SIGNS)
+        )
         lines, last, front, is_made_up = [], None, "", False
         for time, connection, text in block:
             if connection is not last:
@@ -316,7 +354,9 @@ class Lines:
                 if connection.number not in self._named:
                     self._named.add(connection.number)
                     if connection.name is not None:
-                        lines.append(self._paint(GREY, f"connection {connection.number}: {connection.name}"))
+                        lines.append(
+                            self._paint(GREY, f"connection {connection.number}: {connection.name}")
+                        )
             if is_made_up and not x25lines.is_gap(text):
                 text = text[:2] + text[PACKET_AT:]
             if not has_plain_texts:
@@ -337,10 +377,14 @@ class Lines:
         mark = next((mark for mark in (*RULES, *NOTES) if mark in text), None)
         whole, _, remark = text.partition(mark) if mark else (text, "", "")
         said = x25names.words(whole)
-        shown = self._paint(colour_of(whole), LONG_DATA.sub(folded, whole) if self._is_folded else whole)
+        shown = self._paint(
+            colour_of(whole), LONG_DATA.sub(folded, whole) if self._is_folded else whole
+        )
         if said:
             shown += self._paint(GREY, f"  ({said})")
-        return shown + self._paint(RED if mark in RULES else GREY, mark + remark) if mark else shown
+        return (
+            shown + self._paint(RED if mark in RULES else GREY, mark + remark) if mark else shown
+        )
 
     def end(self) -> list[str]:
         """Nothing is left at the end."""
@@ -360,11 +404,17 @@ def colour_of(text: str) -> str:
 
 
 @functools.lru_cache(KEPT)
-def heading(paint: Paint, direction: str, channel: int | None, sort: str, count: int, q: str) -> str:
+def heading(
+    paint: Paint, direction: str, channel: int | None, sort: str, count: int, q: str
+) -> str:
     """What stands above the rows of a message of so many octets."""
     if channel is None:
         return paint(RED, f"{direction} {sort}".lstrip())
-    return paint(COLOURS[direction], f"{direction} ch={channel}{f' Q={q}' if q else ''} {sort}, {count:,} octet{'s' if count != 1 else ''}")
+    return paint(
+        COLOURS[direction],
+        f"{direction} ch={channel}{f' Q={q}' if q else ''} {sort}, {count:,} "
+        f"octet{'s' if count != 1 else ''}",
+    )
 
 
 class Joined:
@@ -392,16 +442,22 @@ class Joined:
         number = f"#{connection.number} " if connection.number > 1 else ""
         if self._channel is not None:
             messages = [it for it in messages if it[2] in (None, self._channel)]
-        for (time, direction, channel, sort, digits, q), rows in zip(messages, all_dumped([it[4] for it in messages])):
+        for (time, direction, channel, sort, digits, q), rows in zip(
+            messages, all_dumped([it[4] for it in messages])
+        ):
             if time:
                 day, time = self._days.part(time)
                 lines += day
                 time += " "
-            lines.append(f"{time}{number}{heading(self._paint, direction, channel, sort, len(digits) // 2, q)}{rows}")
+            lines.append(
+                f"{time}{number}"
+                f"{heading(self._paint, direction, channel, sort, len(digits) // 2, q)}{rows}"
+            )
         return lines
 
     def end(self) -> Iterator[str]:
-        """Yields the lines of what is known at the end alone; messages that are begun there aren't shown."""
+        """Yields the lines of what is known at the end alone; messages that are begun there aren't
+        shown."""
         for connection, line in self._lines.items():
             yield from self._rows(connection, line.end())
 
@@ -437,10 +493,12 @@ class Objects:
 
 
 AGAIN, OCTETS = "I frames out of order, or again", "octets of data"
-# The frames of a text, each in a line with a blank at its end: of an I frame N(S); the kind of the frame or, after a bar, of its packet; the data of
-# DATA.
+# The frames of a text, each in a line with a blank at its end: of an I frame N(S); the kind of the
+# frame or, after a bar, of its packet; the data of DATA.
 COUNTED = re.compile(
-    r"^.(?: I cmd P=[01] S=([0-7]) R=[0-7])? (\| DATA(?= ch=\d+ S=[0-7] R=[0-7] M=[01] Q=[01](?: D=1)? data=-?([^ ]*))|(?:\| )?[^ ]+).*$", re.MULTILINE
+    r"^.(?: I cmd P=[01] S=([0-7]) R=[0-7])? (\| DATA(?= ch=\d+ S=[0-7] R=[0-7] M=[01] Q=[01](?: "
+    r"D=1)? data=-?([^ ]*))|(?:\| )?[^ ]+).*$",
+    re.MULTILINE
 )
 DATA = "| DATA"
 SET_UPS, IN_ORDER = ("SABM ", "UA "), "01234567"
@@ -458,16 +516,24 @@ class Statistic:
     def take(self, block: list[Thing]) -> list[str]:
         """Counts the frames of a block; shows nothing."""
         for connection, things in itertools.groupby(block, key=CONNECTION):
-            frames = [it for it in things if it[2][:1] in x25lines.OTHER and not x25lines.is_gap(it[2])]
+            frames = [
+                it for it in things if it[2][:1] in x25lines.OTHER and not x25lines.is_gap(it[2])
+            ]
             if not frames:
                 continue
             self._names[connection.number] = connection.name
             self._times = [*(self._times[:1] or [frames[0][0]]), frames[-1][0]]
             begin = 0
-            for end in [place for place, (_, _, text) in enumerate(frames) if text[2:3] != "I" and text.startswith(SET_UPS, 2)]:
+            for end in [
+                place
+                for place, (_, _, text) in enumerate(frames)
+                if text[2:3] != "I" and text.startswith(SET_UPS, 2)
+            ]:
                 self._count(connection, frames[begin:end])
                 # A set-up begins the numbers anew.
-                self._due = {key: due for key, due in self._due.items() if key[0] != connection.number}
+                self._due = {
+                    key: due for key, due in self._due.items() if key[0] != connection.number
+                }
                 begin = end
             self._count(connection, frames[begin:])
         return []
@@ -508,7 +574,9 @@ class Statistic:
     def end(self) -> Iterator[str]:
         """Yields the lines of the statistic."""
         for connection, name in self._names.items():
-            yield (f"connection {connection}: {name}" if name else "the trace").ljust(34) + f"{'>':>10}{'<':>10}"
+            yield (
+                f"connection {connection}: {name}" if name else "the trace"
+            ).ljust(34) + f"{'>':>10}{'<':>10}"
             counts = self._counts[connection]
             for kind in sorted({kind for kind, _ in counts}, key=_place):
                 yield f"  {kind:32}{counts[kind, '>']:10}{counts[kind, '<']:10}"
@@ -518,7 +586,11 @@ class Statistic:
 
 def _place(kind: str) -> tuple[int, int, str]:
     """Frames come first, then packets, then what was counted of them."""
-    return (0, decoding.FRAMES.index(kind), "") if kind in decoding.FRAMES else (1 if kind[0] == "|" else 2, 0, kind)
+    return (
+        (0, decoding.FRAMES.index(kind), "")
+        if kind in decoding.FRAMES
+        else (1 if kind[0] == "|" else 2, 0, kind)
+    )
 
 
 # What makes lines of things.
@@ -544,20 +616,47 @@ def words() -> argparse.Namespace:
     """The words after the script's name."""
     parser = x25lines.parser(__doc__)
     x25lines.add_input(parser, "the capture or the trace")
-    parser.add_argument("--channel", type=within(int, 0, 4095), metavar="N", help="show this logical channel alone")
+    parser.add_argument(
+        "--channel", type=within(int, 0, 4095), metavar="N", help="show this logical channel alone"
+    )
     which = parser.add_mutually_exclusive_group()
     which.add_argument("--messages", action="store_true", help="show messages, not frames")
     which.add_argument("--stats", action="store_true", help="show numbers at the end, not frames")
-    which.add_argument("--judge", action="store_true", help="say which end broke which rule of the link or the packet layer")
+    which.add_argument(
+        "--judge",
+        action="store_true",
+        help="say which end broke which rule of the link or the packet layer",
+    )
     which.add_argument(
         "--told", action="store_true", help="judge, and show alone what is told of: rules, manners"
     )
     parser.add_argument("--json", action="store_true", help="write objects of JSON, a line each")
-    parser.add_argument("--long", action="store_true", help="a CALL may have 128 octets of user data, as with `decode --long`")
-    parser.add_argument("--no-wide", dest="wide", action="store_false", help="read as `decode` does without `--wide`")
-    parser.add_argument("--epoch", action="store_true", help="show times as seconds, not as the time of the day")
-    parser.add_argument("--fold", action="store_true", default=sys.stdout.isatty(), help="show the beginning of long data and its length, as on a terminal")
-    parser.add_argument("--whole", dest="fold", action="store_false", help="show all digits of long data, also on a terminal")
+    parser.add_argument(
+        "--long",
+        action="store_true",
+        help="a CALL may have 128 octets of user data, as with `decode --long`",
+    )
+    parser.add_argument(
+        "--wide",
+        action=argparse.BooleanOptionalAction,
+        default=True,
+        help="read as `decode --wide` does, as without a word, or as `decode` does",
+    )
+    parser.add_argument(
+        "--epoch", action="store_true", help="show times as seconds, not as the time of the day"
+    )
+    parser.add_argument(
+        "--fold",
+        action="store_true",
+        default=sys.stdout.isatty(),
+        help="show the beginning of long data and its length, as on a terminal",
+    )
+    parser.add_argument(
+        "--whole",
+        dest="fold",
+        action="store_false",
+        help="show all digits of long data, also on a terminal",
+    )
     pcap2x25.add_capture_words(parser)
     judging.add_words(parser)
     decoding.add_program(parser)
@@ -576,11 +675,19 @@ def reading(options: argparse.Namespace) -> list[str]:
     return [*(["--long"] if options.long else []), *(["--wide"] if options.wide else [])]
 
 
-def asked(options: argparse.Namespace, file: x25lines.Readable) -> decoding.Decoder | judging.Judge:
-    """What is asked for the text of a frame. Lines of a trace are all that was on the line, where nothing else is said."""
+def asked(
+    options: argparse.Namespace, file: x25lines.Readable
+) -> decoding.Decoder | judging.Judge:
+    """What is asked for the text of a frame. Lines of a trace are all that was on the line, where
+    nothing else is said."""
     if not options.judge:
         return decoding.Decoder(options.x25, reading(options))
-    return judging.Judge(options.x25, ["--k", str(options.k)], reading(options), options.at or ("either" if captures.is_capture(file) else "line"))
+    return judging.Judge(
+        options.x25,
+        judging.words_of(options),
+        reading(options),
+        options.at or ("either" if captures.is_capture(file) else "line"),
+    )
 
 
 def is_told(text: str) -> bool:
@@ -589,7 +696,8 @@ def is_told(text: str) -> bool:
 
 
 def show(view: View, blocks: Iterable[list[Thing]], out: TextIO) -> None:
-    """Writes what a view makes of the things of each block; also what it has at the end, where the user ends it."""
+    """Writes what a view makes of the things of each block; also what it has at the end, where the
+    user ends it."""
     try:
         for block in blocks:
             out.write("\n".join([*view.take(block), ""]))
@@ -613,7 +721,9 @@ def main() -> int:
         if options.told:
             blocks = ([it for it in block if is_told(it[2])] for block in blocks)
         if options.channel is not None and not options.messages:
-            blocks = ([it for it in block if channel_of(it[2]) == options.channel] for block in blocks)
+            blocks = (
+                [it for it in block if channel_of(it[2]) == options.channel] for block in blocks
+            )
         bad: BaseException | None = None
         try:
             show(view, blocks, sys.stdout)

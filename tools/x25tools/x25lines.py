@@ -1,9 +1,9 @@
 """Lines of a trace, as `x25 decode` reads them, and what the scripts of this folder share.
 
-A line is `> HEX` (from the DTE to the DCE) or `< HEX` (from the DCE to the DTE), the octets of a frame with its frame check
-sequence, perhaps with the time in seconds and a tab before that; or `> ..` or `< ..`, where frames of that end may be missing; or it is empty, or a
-comment, which begins with `#`. It may end
-with a carriage return. docs/FORMATS.md describes all these.
+A line is `> HEX` (from the DTE to the DCE) or `< HEX` (from the DCE to the DTE), the octets of a
+frame with its frame check sequence, perhaps with the time in seconds and a tab before that; or `>
+..` or `< ..`, where frames of that end may be missing; or it is empty, or a comment, which begins
+with `#`. It may end with a carriage return. docs/FORMATS.md describes all these.
 """
 
 from __future__ import annotations
@@ -26,10 +26,12 @@ MOST_OCTETS = 4103
 MOST_INFORMATION = MOST_OCTETS - 4
 # The characters of a line of a trace without a time.
 MOST_LINE = 2 + 2 * MOST_OCTETS
-# A time, a tab, a direction, a blank and the digits; what is longer is no line of a trace or a run.
+# A time, a tab, a direction, a blank and the digits; what is longer is no line of a trace or a
+# run.
 MOST_CHARACTERS = 131_264
 NANOSECONDS = 10**9
-# The latest time that a line can have, and the first one that is taken for a date: others count from some moment of their own.
+# The latest time that a line can have, and the first one that is taken for a date: others count
+# from some moment of their own.
 MOST_TIME = 10**10 * NANOSECONDS - 1
 FIRST_DATE = 10**8 * NANOSECONDS
 # The characters of a date and the time of the day, in milliseconds.
@@ -42,7 +44,8 @@ PIECE = 65_536
 OTHER = {">": "<", "<": ">"}
 # The end that sends so.
 ENDS = {">": "dte", "<": "dce"}
-# What stands after the direction, in place of octets, where any number of that end's frames may be missing; and what that is in words.
+# What stands after the direction, in place of octets, where any number of that end's frames may be
+# missing; and what that is in words.
 GAP, LACKS = "..", "the capture lacks frames here"
 
 # The mark of UTF-8, with which some editors begin a file.
@@ -89,19 +92,22 @@ _REVERSED = bytes(int(f"{octet:08b}"[::-1], 2) for octet in range(256))
 def fcs(octets: bytes) -> bytes:
     """The frame check sequence of some octets (X.25 section 2.2.7), two octets, the low one first.
 
-    The division by x^16 + x^12 + x^5 + 1 is `crc_hqx`'s; that takes the high bit of an octet first, and a line the low one.
+    The division by x^16 + x^12 + x^5 + 1 is `crc_hqx`'s; that takes the high bit of an octet
+    first, and a line the low one.
     """
     remainder = binascii.crc_hqx(octets.translate(_REVERSED), 0xFFFF) ^ 0xFFFF
     return remainder.to_bytes(2, "big").translate(_REVERSED)
 
 
 def is_sealed(octets: bytes) -> bool:
-    """True where there are four octets or more and the last two are the frame check sequence of the rest."""
+    """True where there are four octets or more and the last two are the frame check sequence of
+    the rest."""
     return len(octets) >= 4 and fcs(octets[:-2]) == octets[-2:]
 
 
 class FrameLine(NamedTuple):
-    """One frame of a trace: `>` or `<`, its octets with the frame check sequence, the time in nanoseconds if it was given."""
+    """One frame of a trace: `>` or `<`, its octets with the frame check sequence, the time in
+    nanoseconds if it was given."""
 
     direction: str
     octets: bytes
@@ -128,7 +134,8 @@ def _second(seconds_of: int) -> str:
 
 
 def moment(nanoseconds: int | None) -> str:
-    """A time as a date and the time of the day, in milliseconds; as seconds where it is no date; None is written as nothing."""
+    """A time as a date and the time of the day, in milliseconds; as seconds where it is no date;
+    None is written as nothing."""
     if nanoseconds is None or nanoseconds < FIRST_DATE:
         return seconds(nanoseconds)
     whole, part = divmod(nanoseconds, NANOSECONDS)
@@ -152,17 +159,22 @@ def nanoseconds(time: str) -> int | None:
 
 
 def frame_line(line: bytes) -> FrameLine | None:
-    """The frame of a line of a trace, given as octets without its line feed; None where it is none."""
+    """The frame of a line of a trace, given as octets without its line feed; None where it is
+    none."""
     found = FRAME_LINE.fullmatch(line)
     if not found or len(found[3]) % 2 or len(found[3]) > 2 * MOST_OCTETS:
         return None
     time, direction, digits = found.groups()
-    return FrameLine(direction.decode(), bytes.fromhex(digits.decode()), nanoseconds(time.decode()) if time else None)
+    return FrameLine(
+        direction.decode(),
+        bytes.fromhex(digits.decode()),
+        nanoseconds(time.decode()) if time else None,
+    )
 
 
 def pieces(file: Readable) -> Iterator[bytes]:
-    """Yields the octets of a binary file piece by piece: what is there, and no more than a pipe holds. So a file comes in large pieces, and
-    what comes live as it comes."""
+    """Yields the octets of a binary file piece by piece: what is there, and no more than a pipe
+    holds. So a file comes in large pieces, and what comes live as it comes."""
     return iter(lambda: file.read1(PIECE), b"")
 
 
@@ -172,8 +184,9 @@ def bare(line: bytes) -> bytes:
 
 
 def blocks_of_lines(file: Readable) -> Iterator[tuple[int, list[bytes]]]:
-    """Yields the lines of a binary file, each its octets without the line feed, the carriage return before it and a mark of UTF-8, in blocks: the
-    number of the first, and those that are there at once."""
+    """Yields the lines of a binary file, each its octets without the line feed, the carriage
+    return before it and a mark of UTF-8, in blocks: the number of the first, and those that are
+    there at once."""
     number, rest = 1, b""
     for octets in pieces(file):
         text = rest + octets
@@ -182,7 +195,9 @@ def blocks_of_lines(file: Readable) -> Iterator[tuple[int, list[bytes]]]:
         if len(lines[0] if lines else rest) > MOST_CHARACTERS:
             raise BadInput(f"line {number} is longer than {MOST_CHARACTERS:,} characters")
         if lines:
-            yield number, [bare(line) for line in lines] if b"\r" in text or MARK in text else lines
+            yield (
+                number, [bare(line) for line in lines] if b"\r" in text or MARK in text else lines
+            )
             number += len(lines)
     if rest:
         yield number, [bare(rest)]
@@ -195,7 +210,8 @@ def lines_of(file: Readable) -> Iterator[tuple[int, bytes]]:
 
 
 def shown(line: bytes) -> str:
-    """The beginning of a line, for a message: as UTF-8, or where it is none with what isn't ASCII as hexadecimal digits."""
+    """The beginning of a line, for a message: as UTF-8, or where it is none with what isn't ASCII
+    as hexadecimal digits."""
     text: str | bytes = line
     with contextlib.suppress(UnicodeDecodeError):
         text = line.decode()
@@ -218,7 +234,13 @@ def opened(path: str) -> Readable:
 
 def add_input(parser: argparse.ArgumentParser, what: str) -> None:
     """Adds the argument FILE, `-` for standard input, to a parser of words."""
-    parser.add_argument("file", nargs="?", default="-", metavar="FILE", help=f"{what}; standard input where it is missing or `-`")
+    parser.add_argument(
+        "file",
+        nargs="?",
+        default="-",
+        metavar="FILE",
+        help=f"{what}; standard input where it is missing or `-`",
+    )
 
 
 def named(text: str) -> str:
@@ -235,14 +257,17 @@ def parser(text: str | None, **more: Any) -> argparse.ArgumentParser:
 
 
 def warn(text: object) -> None:
-    """Says something on standard error, after the script's name, by one write: lines of two processes stay apart."""
+    """Says something on standard error, after the script's name, by one write: lines of two
+    processes stay apart."""
     sys.stderr.write(f"{os.path.basename(sys.argv[0])}: {named(str(text))}\n")
 
 
 def run(main: Callable[[], int]) -> NoReturn:
-    """Runs a script's `main` and ends with the status that it answers; bad input is told in a line and ends with 2.
+    """Runs a script's `main` and ends with the status that it answers; bad input is told in a line
+    and ends with 2.
 
-    Each line is written as soon as it is known, also on a pipe. A standard file that is closed is an empty one, so that no other file has its number.
+    Each line is written as soon as it is known, also on a pipe. A standard file that is closed is
+    an empty one, so that no other file has its number.
     """
     for name, mode in ("stdin", "r"), ("stdout", "w"), ("stderr", "w"):
         if getattr(sys, name) is None:
@@ -261,7 +286,8 @@ def run(main: Callable[[], int]) -> NoReturn:
         warn("the file, packed by gzip, is cut off or damaged")
         status = 2
     except BrokenPipeError:
-        # The reader of standard output has gone, as `head` does; nothing more can be written there.
+        # The reader of standard output has gone, as `head` does; nothing more can be written
+        # there.
         os.dup2(os.open(os.devnull, os.O_WRONLY), sys.stdout.fileno())
         status = 1
     except KeyboardInterrupt:

@@ -1,10 +1,11 @@
-"""Names of causes, diagnostics, facilities, refusals and of what a FRMR says. docs/FORMATS.md has the refusals, and says of the others whose they are."""
+"""Names of causes, diagnostics, facilities, refusals and of what a FRMR says. docs/FORMATS.md has
+the refusals, and says of the others whose they are."""
 
 from __future__ import annotations
 
-import re
+from typing import Iterator
 
-from x25tools import facilities, x25lines
+from x25tools import facilities, records, x25lines
 
 ORIGINATED = "DTE originated"
 CLEARING = {
@@ -16,9 +17,11 @@ CLEARING = {
     13: "not obtainable",
     17: "remote procedure error",
     19: "local procedure error",
+    21: "RPOA out of order",
     25: "reverse charging acceptance not subscribed",
     33: "incompatible destination",
     41: "fast select acceptance not subscribed",
+    57: "ship absent",
 }
 RESETTING = {
     1: "out of order",
@@ -30,35 +33,84 @@ RESETTING = {
     17: "incompatible destination",
     29: "network out of order",
 }
-RESTARTING = {1: "local procedure error", 3: "network congestion", 7: "network operational"}
+RESTARTING = {
+    1: "local procedure error",
+    3: "network congestion",
+    7: "network operational",
+    127: "registration or cancellation confirmed",
+}
 DIAGNOSTICS = {
     0: "no additional information",
     1: "invalid P(S)",
     2: "invalid P(R)",
+    16: "packet type invalid",
     **{16 + n: f"packet type invalid for state r{n}" for n in (1, 2, 3)},
     **{19 + n: f"packet type invalid for state p{n}" for n in range(1, 8)},
     **{26 + n: f"packet type invalid for state d{n}" for n in (1, 2, 3)},
     32: "packet not allowed",
     33: "unidentifiable packet",
+    34: "call on one-way logical channel",
+    35: "packet type invalid on a permanent virtual circuit",
     36: "packet on unassigned logical channel",
+    37: "reject not subscribed to",
     38: "packet too short",
     39: "packet too long",
     40: "invalid general format identifier",
+    41: "restart or registration packet with a logical channel",
+    42: "packet type not compatible with facility",
     43: "unauthorized interrupt confirmation",
     44: "unauthorized interrupt",
+    45: "unauthorized reject",
+    46: "TOA/NPI address subscription facility not subscribed to",
     48: "time expired",
     49: "time expired for incoming call",
     50: "time expired for clear indication",
     51: "time expired for reset indication",
     52: "time expired for restart indication",
+    53: "time expired for call deflection",
     64: "call set-up problem",
     65: "facility code not allowed",
     66: "facility parameter not allowed",
     67: "invalid called address",
     68: "invalid calling address",
+    69: "invalid facility length",
+    70: "incoming call barred",
     71: "no logical channel available",
     72: "call collision",
+    73: "duplicate facility requested",
+    74: "address length not zero",
+    75: "facility length not zero",
+    76: "facility not provided when expected",
+    77: "invalid CCITT-specified DTE facility",
+    78: "too many call redirections or deflections",
+    80: "miscellaneous",
+    81: "improper cause code from DTE",
+    82: "octet not aligned",
     83: "inconsistent Q bit setting",
+    84: "NUI problem",
+    112: "international problem",
+    113: "remote network problem",
+    114: "international protocol problem",
+    115: "international link out of order",
+    116: "international link busy",
+    117: "transit network facility problem",
+    118: "remote network facility problem",
+    119: "international routing problem",
+    120: "temporary routing problem",
+    121: "unknown called DNIC",
+    122: "maintenance action",
+    144: "timer expired or retransmission count surpassed",
+    145: "timer expired or retransmission count surpassed for interrupt",
+    146: "timer expired or retransmission count surpassed for data",
+    147: "timer expired or retransmission count surpassed for reject",
+    160: "DTE-specific signals",
+    161: "DTE operational",
+    162: "DTE not operational",
+    163: "DTE resource constraint",
+    164: "fast select not subscribed",
+    165: "invalid partially full data packet",
+    166: "D-bit procedure not supported",
+    167: "registration or cancellation confirmed",
 }
 REFUSALS = {
     9: "the link isn't up",
@@ -87,7 +139,10 @@ REFUSALS = {
 FAULTS = {
     20: "packet too short",
     21: "invalid general format identifier: modulo 128, which isn't read here, or no X.25",
-    22: "unidentifiable packet: also what sets up a permanent circuit in XOT, which isn't read here",
+    22: (
+        "unidentifiable packet: also what sets up a permanent circuit in XOT, which isn't read "
+        "here"
+    ),
     23: "packet too long",
     24: "a digit over 9, or a filler that isn't 0",
     25: "facility code not allowed",
@@ -96,19 +151,23 @@ FAULTS = {
 # Frames that set up a link that isn't read here.
 EXTENDED = "asks for a link modulo 128, whose frames aren't read here"
 # The grounds of a FRMR, from the lowest bit of its third octet.
-GROUNDS = ("undefined control", "information that mustn't be there", "information too long", "invalid N(R)")
+GROUNDS = (
+    "undefined control",
+    "information that mustn't be there",
+    "information too long",
+    "invalid N(R)",
+)
 
 # The type and the numbering plan of an address, which section 5.2.1.2 has.
 NUMBER_TYPES = {0: "network-dependent number", 1: "international number", 2: "national number"}
 PLANS = {1: "E.164", 3: "X.121"}
 
-CAUSED = re.compile(r"(CLEAR|RESET|RESTART|clear|reset|restart|cleared|wasreset|restarted)\b.* cause=(\d+)(?: diag=(\d+))?(?: |$)")
-FAULTY = re.compile(r"fault (2\d) diag=\d+$")
-DIAGNOSED = re.compile(r"(?:DIAG|diagnostic|restart|(?:fault|clear|reset) ch=\d+) diag=(\d+)(?: |$)")
-EQUIPPED = re.compile(r" fac=((?:[0-9a-f]{2})+)(?: |$)")
-TYPED = re.compile(r" (called|calling)=([0-9a-f])/([0-9a-f])/")
-FRAME_REFUSED = re.compile(r"(?:[<>] )?FRMR .*why=([0-9a-f]{6})$")
-CAUSES = {"CLEAR": CLEARING, "RESET": RESETTING, "RESTART": RESTARTING, "clear": CLEARING, "reset": RESETTING, "restart": RESTARTING}
+# What has words, and stands in a text.
+EXPLAINED = ("cause=", "diag=", "fac=", "why=", " A=1 ", " PVC ch=", "SABME cmd")
+CAUSES = {
+    "CLEAR": CLEARING, "RESET": RESETTING, "RESTART": RESTARTING, "clear": CLEARING,
+    "reset": RESETTING, "restart": RESTARTING,
+}
 CAUSES |= {"cleared": CLEARING, "wasreset": RESETTING, "restarted": RESTARTING}
 
 
@@ -123,7 +182,9 @@ def _diagnostic(diagnostic: int) -> str:
 def _grounds(octets: bytes) -> str:
     """What a FRMR says: the numbers of the end that refuses, and why."""
     said = [ground for bit, ground in enumerate(GROUNDS) if octets[2] & 1 << bit]
-    return ", ".join([f"control {octets[0]:02x}", f"V(S)={octets[1] >> 1 & 7} V(R)={octets[1] >> 5}", *said])
+    return ", ".join([
+        f"control {octets[0]:02x}", f"V(S)={octets[1] >> 1 & 7} V(R)={octets[1] >> 5}", *said
+    ])
 
 
 def _typed(end: str, kind: int, plan: int) -> str:
@@ -132,28 +193,41 @@ def _typed(end: str, kind: int, plan: int) -> str:
 
 
 def words(text: str) -> str:
-    """What the numbers of a text of `x25 decode`, or of an entry, say in words; nothing where it has no such numbers."""
-    said = []
-    if "cause=" in text and (found := CAUSED.search(text)):
-        said.append(_cause(CAUSES[found[1]], int(found[2])))
-        said += [_diagnostic(int(found[3]))] if int(found[3] or 0) else []
-    elif "diag=" in text and (found := FAULTY.search(text)):
-        said.append(FAULTS[int(found[1])])
-    elif "diag=" in text and (found := DIAGNOSED.search(text)):
-        said.append(_diagnostic(int(found[1])))
-    elif " PVC ch=" in text:
-        said.append("sets up a permanent circuit of XOT; what it says isn't read")
-    elif "SABME cmd" in text:
-        said.append(EXTENDED)
-    elif text[2:] == x25lines.GAP:
-        said.append(x25lines.LACKS)
-    elif "why=" in text and (found := FRAME_REFUSED.match(text)):
-        said.append(_grounds(bytes.fromhex(found[1])))
-    if " A=1 " in text:
-        said += [_typed(end, int(kind, 16), int(plan, 16)) for end, kind, plan in TYPED.findall(text)]
-    if "fac=" in text and (found := EQUIPPED.search(text)):
-        said.append(facilities.words(bytes.fromhex(found[1])))
-    return "; ".join(said)
+    """What the numbers of a text of `x25 decode`, or of an entry, say in words; nothing where it
+    has no such numbers."""
+    if text[2:] == x25lines.GAP:
+        return x25lines.LACKS
+    if not any(map(text.__contains__, EXPLAINED)):
+        return ""
+    record = records.read(text)
+    return "; ".join(_said(*record.subject())) if record else ""
+
+
+def _said(kind: str, text: str) -> Iterator[str]:
+    """Yields what the fields of a packet, a frame or an entry say."""
+    fields = records.values(text)
+    diagnostic = fields.get("diag")
+    if kind in CAUSES and "cause" in fields:
+        yield _cause(CAUSES[kind], int(fields["cause"]))
+        if diagnostic and int(diagnostic):
+            yield _diagnostic(int(diagnostic))
+    elif kind == "fault" and diagnostic and "ch" not in fields:
+        yield FAULTS[int(text.partition(" ")[0])]
+    elif diagnostic:
+        yield _diagnostic(int(diagnostic))
+    elif kind == "PVC":
+        yield "sets up a permanent circuit of XOT; what it says isn't read"
+    elif kind == "SABME":
+        yield EXTENDED
+    elif "why" in fields:
+        yield _grounds(bytes.fromhex(fields["why"]))
+    if fields.get("A") == "1":
+        for end in "called", "calling":
+            number_type, *plan = fields.get(end, "-").split("/")
+            if len(plan) == 2:
+                yield _typed(end, int(number_type, 16), int(plan[0], 16))
+    if fields.get("fac", "-") != "-":
+        yield facilities.words(bytes.fromhex(fields["fac"]))
 
 
 def refusal(line: str) -> str:

@@ -1,21 +1,25 @@
-"""A terminal at a host of X.25: a PAD, which calls or is called over a bridge, and sends and shows text.
+"""A terminal at a host of X.25: a PAD, which calls or is called over a bridge, and sends and shows
+text.
 
     x25pad.py dte --xot router.example
     x25pad.py dce --listen 7000 --address 4567
     x25pad.py dce --xot-listen --channels 8 --stay --serve 'cat /etc/motd'
     printf '%s\\n' 123 'show version' | x25pad.py dte --xot router.example
 
-The other words are those of bridge.py, which it runs: the line, --trace and so on. A DTE sets the link up, but for XOT. There are commands of
-X.28, parameters of X.3 (profile 90, with a prompt, and editing for a screen) and messages of X.29, and a CALL has the protocol identifier of
-these, 01000000. What is typed goes in packets of up to 128 octets.
+The other words are those of bridge.py, which it runs: the line, --trace and so on. A DTE sets the
+link up, but for XOT. There are commands of X.28, parameters of X.3 (profile 90, with a prompt, and
+editing for a screen) and messages of X.29, and a CALL has the protocol identifier of these,
+01000000. What is typed goes in packets of up to 128 octets.
 
-At a terminal, what is typed where there is no call is a command: an address calls it, with text after D or P as user data; HELP shows the
-others. CTRL-P (parameter 1) leads from the call to a command, and QUIT ends. A call that comes is taken where its user data begins with 01,
-or is empty, and no call is there.
+At a terminal, what is typed where there is no call is a command: an address calls it, with text
+after D or P as user data; HELP shows the others. CTRL-P (parameter 1) leads from the call to a
+command, and QUIT ends. A call that comes is taken where its user data begins with 01, or is empty,
+and no call is there.
 
-Where input or output is no terminal, lines of the input are what would be typed, and wait while a call isn't answered; with --answer they
-wait for a call that comes. The output is what the host sends, with line feeds; all else goes to standard error. At the end of the input the
-call is cleared once nothing has come for --quiet seconds, and the script ends.
+Where input or output is no terminal, lines of the input are what would be typed, and wait while a
+call isn't answered; with --answer they wait for a call that comes. The output is what the host
+sends, with line feeds; all else goes to standard error. At the end of the input the call is
+cleared once nothing has come for --quiet seconds, and the script ends.
 
 With --serve a command runs by `sh -c` for each call that comes. Its input and output are the
 call's data, with lines that end by CR for a PAD; the variables X25_CALLING, X25_CALLED and
@@ -23,14 +27,14 @@ X25_DATA have who calls, whom, and the user data in digits. Where its output end
 clear, and another call is cleared --quiet seconds after; where the call ends the command gets
 SIGHUP. --channels says how many calls there may be at once.
 
-Exit status: 0; 1 where a call wasn't taken, a command was none, or the line ended; 2 for bad words; 143 after SIGTERM, 129 after SIGHUP.
+Exit status: 0; 1 where a call wasn't taken, a command was none, or the line ended; 2 for bad
+words; 143 after SIGTERM, 129 after SIGHUP.
 """
 
 import argparse
 import contextlib
 import os
 import re
-import select
 import signal
 import subprocess
 import sys
@@ -39,10 +43,11 @@ import time
 import tty
 from typing import Callable, Dict, Iterable, Iterator, List, Optional, Tuple
 
-from x25tools import decoding, facilities, serving, x25lines
+from x25tools import decoding, facilities, serving, waiting, x25lines
 from x25tools.places import within
 
-# Of each parameter of X.3 the values that it takes, none where it is only read, and those that it has in the profiles 90 and 91.
+# Of each parameter of X.3 the values that it takes, none where it is only read, and those that it
+# has in the profiles 90 and 91.
 PARAMETERS: Dict[int, Tuple[Iterable[int], Tuple[int, int]]] = {
     1: ((0, 1, *range(32, 127)), (1, 0)),  # the character that leads to commands; 1 for DLE
     2: ((0, 1), (1, 0)),  # echo
@@ -60,16 +65,26 @@ PARAMETERS: Dict[int, Tuple[Iterable[int], Tuple[int, int]]] = {
     19: ((2,), (2, 2)),  # editing is for a screen
     **dict.fromkeys((5, 9, 10, 12, 14, 20, 21, 22), ((0,), (0, 0))),
 }
-RECALL, ECHO, FORWARD, IDLE, SIGNALS, BREAK, DISCARD, FEED, EDITING, BACK, DELETE, SHOW = 1, 2, 3, 4, 6, 7, 8, 13, 15, 16, 17, 18
-# What each bit of parameter 3 forwards after; 1 is for letters and digits, and 64 for the other control characters.
-FORWARDS = {2: b"\r", 4: b"\x1b\x07\x05\x06", 8: b"\x7f\x18\x12", 16: b"\x03\x04", 32: b"\t\n\x0b\x0c"}
-# Messages of X.29, and those by which a terminal asks for parameters, of its own PAD or, after R, of the one at the other end.
+RECALL, ECHO, FORWARD, IDLE, SIGNALS, BREAK, DISCARD, FEED, EDITING, BACK, DELETE, SHOW = (
+    1, 2, 3, 4, 6, 7, 8, 13, 15, 16, 17, 18
+)
+# What each bit of parameter 3 forwards after; 1 is for letters and digits, and 64 for the other
+# control characters.
+FORWARDS = {
+    2: b"\r", 4: b"\x1b\x07\x05\x06", 8: b"\x7f\x18\x12", 16: b"\x03\x04", 32: b"\t\n\x0b\x0c"
+}
+# Messages of X.29, and those by which a terminal asks for parameters, of its own PAD or, after R,
+# of the one at the other end.
 INDICATION, INVITATION, SET, BREAK_CAME, READ, ERROR, SET_AND_READ = range(7)
 ASKS = {"PAR?": READ, "SET": SET, "SET?": SET_AND_READ}
-# What an indication says of a parameter that isn't there, a value that isn't, and a parameter that is only read, after the number and this bit.
+# What an indication says of a parameter that isn't there, a value that isn't, and a parameter that
+# is only read, after the number and this bit.
 NO_PARAMETER, NO_VALUE, ONLY_READ, INVALID = 1, 2, 4, 128
 # Service signals by the causes of clears and resets.
-CLEARED = {1: "OCC", 3: "INV", 5: "NC", 9: "DER", 11: "NA", 13: "NP", 17: "RPE", 19: "ERR", 21: "ROO", 25: "RNA", 33: "ID", 41: "FNA", 57: "SA"}
+CLEARED = {
+    1: "OCC", 3: "INV", 5: "NC", 9: "DER", 11: "NA", 13: "NP", 17: "RPE", 19: "ERR", 21: "ROO",
+    25: "RNA", 33: "ID", 41: "FNA", 57: "SA",
+}
 RESET = {1: "DER", 3: "RPE", 5: "ERR", 7: "NC", 9: "OPR", 15: "NOP", 17: "ID", 29: "DER"}
 CR, LF, DLE, EOT = 13, 10, 16, 4
 PACKET, MOST_UNSENT = 128, 1 << 16
@@ -77,7 +92,8 @@ PACKET, MOST_UNSENT = 128, 1 << 16
 PROTOCOL = 4
 # How long the end of a call is waited for at the end, in seconds.
 LAST = 5
-# What a call may ask for before its address: reverse charging, fast select, a closed user group by two or four digits.
+# What a call may ask for before its address: reverse charging, fast select, a closed user group by
+# two or four digits.
 REQUEST = r"(?:[RF]|G(?:\d\d){1,2})"
 SELECTION = re.compile(
     rf"(?:({REQUEST}(?:,{REQUEST})*)-)?(\d{{1,15}})(?:[DP](.*)| +[DP](?: +(.*))?)?",
@@ -93,7 +109,8 @@ HINTS = {
 CHARGED, FAST, GROUPS = 0x01, 0x80, {1: 0x03, 2: 0x47}
 # How many octets of text a call has room for, and with fast select.
 MOST_TEXT, MOST_FAST = 12, 124
-HELP = """ADDRESS [D TEXT]    calls it               CLR         clears the call; ICLR asks for that
+HELP = """\
+ADDRESS [D TEXT]    calls it               CLR         clears the call; ICLR asks for that
 R,F,G01-ADDRESS     with reverse charging, fast select, in the closed user group 01
 STAT                FREE or ENGAGED        INT, RESET  sends an interrupt, empties the circuit
 PAR? [N,..]         shows parameters       SET, SET?   N:V,.. sets them, and shows them
@@ -102,7 +119,8 @@ RPAR?, RSET, RSET?  those of a PAD at the other end    QUIT        ends"""
 
 
 class Parameters(Dict[int, int]):
-    """The values of the parameters of X.3 by their numbers; `initial` are those that profile 90 doesn't have at first."""
+    """The values of the parameters of X.3 by their numbers; `initial` are those that profile 90
+    doesn't have at first."""
 
     def __init__(self, initial: Dict[int, int]) -> None:
         super().__init__()
@@ -111,7 +129,9 @@ class Parameters(Dict[int, int]):
 
     def begin(self, profile: int = 90) -> None:
         """Sets all to a profile, and 90 as it is at first."""
-        self.update({number: values[profile - 90] for number, (_, values) in sorted(PARAMETERS.items())})
+        self.update({
+            number: values[profile - 90] for number, (_, values) in sorted(PARAMETERS.items())
+        })
         self.update(self._initial if profile == 90 else {})
 
     def are_given(self, number: int) -> bool:
@@ -122,10 +142,17 @@ class Parameters(Dict[int, int]):
         """Why a parameter doesn't take a value, or 0."""
         if number not in PARAMETERS:
             return NO_PARAMETER
-        return 0 if value in PARAMETERS[number][0] else NO_VALUE if PARAMETERS[number][0] else ONLY_READ
+        return (
+            0
+            if value in PARAMETERS[number][0]
+            else NO_VALUE
+            if PARAMETERS[number][0]
+            else ONLY_READ
+        )
 
     def answer(self, message: bytes) -> bytes:
-        """What is answered to a message that sets or reads parameters: all of them where it names none."""
+        """What is answered to a message that sets or reads parameters: all of them where it names
+        none."""
         code, pairs = message[0], list(zip(message[1::2], message[2::2]))
         if not len(message) % 2:
             return bytes([ERROR, 2, code])
@@ -133,7 +160,13 @@ class Parameters(Dict[int, int]):
             self.begin()
         said: List[int] = []
         for number, value in pairs or self.items():
-            why = self.why_not(number, value) if pairs and code != READ else 0 if number in self else NO_PARAMETER
+            why = (
+                self.why_not(number, value)
+                if pairs and code != READ
+                else 0
+                if number in self
+                else NO_PARAMETER
+            )
             if why:
                 said += number | INVALID, why
             else:
@@ -143,10 +176,13 @@ class Parameters(Dict[int, int]):
 
 
 def spelled(name: str, text: str) -> bytes:
-    """The message that asks for parameters, as 2:0,3:2, or 2,3; none where a text names none so."""
+    """The message that asks for parameters, as 2:0,3:2, or 2,3; none where a text names none
+    so."""
     code, octets = ASKS[name], bytearray()
     for part in text.split(",") if text else []:
-        found = re.fullmatch(r" *(\d{1,3}) *" if code == READ else r" *(\d{1,3})[:=](\d{1,3}) *", part)
+        found = re.fullmatch(
+            r" *(\d{1,3}) *" if code == READ else r" *(\d{1,3})[:=](\d{1,3}) *", part
+        )
         if not found or int(found[1]) >= INVALID or int(found[found.re.groups]) > 255:
             return b""
         octets += bytes([int(found[1]), int(found[2]) if code != READ else 0])
@@ -165,7 +201,10 @@ def requested(text: str) -> bytes:
 
 def shown(indication: bytes) -> str:
     """What an indication of parameters says."""
-    return ",".join(f"{number % INVALID}:{'INV' if number & INVALID else value}" for number, value in zip(indication[1::2], indication[2::2]))
+    return ",".join(
+        f"{number % INVALID}:{'INV' if number & INVALID else value}"
+        for number, value in zip(indication[1::2], indication[2::2])
+    )
 
 
 class Face:
@@ -178,7 +217,9 @@ class Face:
         """What the host sends."""
         last, self._last = self._last, octets[-1:] or self._last
         if not self.is_terminal:
-            octets = (octets[1:] if last == b"\r" and octets[:1] == b"\n" else octets).replace(b"\r\n", b"\n").replace(b"\r", b"\n")
+            octets = (octets[1:] if last == b"\r" and octets[:1] == b"\n" else octets).replace(
+                b"\r\n", b"\n"
+            ).replace(b"\r", b"\n")
         self.write(octets)
 
     def write(self, octets: bytes) -> None:
@@ -201,13 +242,15 @@ class Face:
 
 
 class Pad:
-    """The PAD. `asks` are commands for the bridge that weren't sent yet; `due` is when what was typed is forwarded."""
+    """The PAD. `asks` are commands for the bridge that weren't sent yet; `due` is when what was
+    typed is forwarded."""
 
     def __init__(self, end: str, address: str, initial: Dict[int, int], face: Face) -> None:
         self.parameters, self._face = Parameters(initial), face
         self._end, self._address, self._channel = end, address, 0
         self.asks = bytearray()
-        # `stage` is of the call: free, calling, open or clearing; `is_up` says whether calls can be made.
+        # `stage` is of the call: free, calling, open or clearing; `is_up` says whether calls can
+        # be made.
         self.stage, self.is_up, self.status = "free", False, 0
         self.has_ended = self.was_called = self._is_recalled = False
         self._typed, self._why = bytearray(), ""
@@ -218,7 +261,11 @@ class Pad:
     def types(self, octet: int) -> None:
         """The user types a character."""
         values, is_command = self.parameters, self._is_recalled or self.stage != "open"
-        if not is_command and values[RECALL] and octet == (DLE if values[RECALL] == 1 else values[RECALL]):
+        if (
+            not is_command
+            and values[RECALL]
+            and octet == (DLE if values[RECALL] == 1 else values[RECALL])
+        ):
             self.forward()
             self._is_recalled = True
             self._signal("")
@@ -256,7 +303,9 @@ class Pad:
         values = self.parameters
         if octet == CR and values[FEED] & 2:
             self._typed.append(LF)
-        bit = 1 if bytes([octet]).isalnum() else next((bit for bit, octets in FORWARDS.items() if octet in octets), 64 if octet < 32 else 0)
+        bit = 1 if bytes([octet]).isalnum() else next(
+            (bit for bit, octets in FORWARDS.items() if octet in octets), 64 if octet < 32 else 0
+        )
         if values[FORWARD] & bit or len(self._typed) >= PACKET:
             self.forward()
         elif values[IDLE] and not values[EDITING]:
@@ -301,7 +350,10 @@ class Pad:
             return said and f"PAR {said}"
         if name == "PROF" and rest in ("90", "91"):
             self.parameters.begin(int(rest))
-        elif rest and not message or name not in ("", "HELP", "STAT", "QUIT", *of_the_call) and not message:
+        elif (
+            rest and not message
+            or name not in ("", "HELP", "STAT", "QUIT", *of_the_call) and not message
+        ):
             return f"ERR  {line!r} is no command: {HINTS.get(name, 'HELP shows them')}"
         elif (message or name in of_the_call) and not self.may_clear():
             return "ERR  there is no call"
@@ -316,9 +368,16 @@ class Pad:
         if self.stage != "free" or not self.is_up:
             return "ERR  a call is there" if self.is_up else "ERR  the link isn't up"
         octets = text.encode()
-        most = MOST_FAST if asked[:1] == bytes([facilities.CHARGING]) and asked[1] & FAST else MOST_TEXT
+        most = (
+            MOST_FAST
+            if asked[:1] == bytes([facilities.CHARGING]) and asked[1] & FAST
+            else MOST_TEXT
+        )
         if len(octets) > most:
-            return f"ERR  the text has {len(octets)} octets: {MOST_TEXT} at most, with fast select {MOST_FAST}"
+            return (
+                f"ERR  the text has {len(octets)} octets: {MOST_TEXT} at most, with fast select "
+                f"{MOST_FAST}"
+            )
         self.stage, self._channel = "calling", 0
         given = f"with {asked.hex()} - " if asked else ""
         self._ask(f"{given}call {called} {self._address} 01000000{octets.hex()}")
@@ -372,7 +431,10 @@ class Pad:
         elif event == "call":
             self._channel = channel
         elif event == "beside" and channel == self._channel:
-            self._beside(bytes.fromhex(told["fac"].replace("-", "")), bytes.fromhex(told["data"].replace("-", "")))
+            self._beside(
+                bytes.fromhex(told["fac"].replace("-", "")),
+                bytes.fromhex(told["data"].replace("-", "")),
+            )
         elif channel == self._channel and self.stage != "free":
             self._of_this_call(event, told)
 
@@ -382,7 +444,9 @@ class Pad:
         if event == "message" and told["q"] == "1":
             self._qualified(octets)
         elif event == "message" and not self.parameters[DISCARD]:
-            self._face.data(octets.replace(b"\r", b"\r\n") if self.parameters[FEED] & 1 else octets)
+            self._face.data(
+                octets.replace(b"\r", b"\r\n") if self.parameters[FEED] & 1 else octets
+            )
         elif event == "interrupt":
             self._say("INT")
         elif event == "connected":
@@ -396,12 +460,15 @@ class Pad:
             self._typed.clear()
             # The message that ends this may have been lost.
             self.parameters[DISCARD] = 0
-            self._say(f"RESET {RESET.get(cause, 'DTE')} {codes}" if event == "wasreset" else "RESET")
+            self._say(
+                f"RESET {RESET.get(cause, 'DTE')} {codes}" if event == "wasreset" else "RESET"
+            )
         elif event == "collided":
             self._become("free", "CLR OCC  both ends called")
 
     def _beside(self, asked: bytes, octets: bytes) -> None:
-        """What came with a call, its acceptance or its clearing: facilities, which are shown in words, and text."""
+        """What came with a call, its acceptance or its clearing: facilities, which are shown in
+        words, and text."""
         if asked:
             self._signal(f"# {facilities.words(asked)}")
         if octets and self.stage == "open":
@@ -412,7 +479,9 @@ class Pad:
     def _incoming(self, channel: int, told: Dict[str, str]) -> None:
         if self.stage != "free" or not (told["data"] == "-" or told["data"].startswith("01")):
             self._ask(f"clear {channel}")
-            self._signal(f"# a call of {told['calling']} with the user data {told['data']} is refused")
+            self._signal(
+                f"# a call of {told['calling']} with the user data {told['data']} is refused"
+            )
             return
         self._channel, self.was_called = channel, True
         self._ask(f"accept {channel}")
@@ -495,8 +564,11 @@ class Session:
         self._pad, self._face, self._child, self._options = pad, face, child, options
         self._out, self._into = child.stdout.fileno(), child.stdin.fileno()
         os.set_blocking(self._into, False)
-        # What was typed and not taken, what came of a line of the bridge, whether the input is at its end, when something came last.
-        self._typed, self._rest, self._is_over, self._last = bytearray(), b"", False, time.monotonic()
+        # What was typed and not taken, what came of a line of the bridge, whether the input is at
+        # its end, when something came last.
+        self._typed, self._rest, self._is_over, self._last = (
+            bytearray(), b"", False, time.monotonic()
+        )
 
     def run(self) -> int:
         """Runs to the end; answers the status."""
@@ -522,7 +594,8 @@ class Session:
         return 2 if status == 2 else 1
 
     def _takes(self) -> bool:
-        """Whether what was typed is taken: of a file, what stands after a call waits until that is answered."""
+        """Whether what was typed is taken: of a file, what stands after a call waits until that is
+        answered."""
         stages = ("open",) if self._options.answer else ("free", "open")
         return self._face.is_terminal or (self._pad.is_up and self._pad.stage in stages)
 
@@ -536,12 +609,22 @@ class Session:
 
     def _wait(self, until: Optional[float]) -> bool:
         """Waits for what comes next, and takes it; answers False where the bridge has ended."""
-        reads = not self._is_over and len(self._typed) < PACKET and len(self._pad.asks) < MOST_UNSENT
-        times = [self._pad.due, until, self._last + self._options.quiet if self._is_over and self._pad.stage == "open" else None]
-        patience = min((max(0, at - time.monotonic()) for at in times if at is not None), default=None)
+        reads = (
+            not self._is_over and len(self._typed) < PACKET and len(self._pad.asks) < MOST_UNSENT
+        )
+        times = [
+            self._pad.due,
+            until,
+            self._last + self._options.quiet
+            if self._is_over and self._pad.stage == "open"
+            else None,
+        ]
+        patience = min(
+            (max(0, at - time.monotonic()) for at in times if at is not None), default=None
+        )
         waits = [self._out, self._woken] + [0] * reads
-        came, room, _ = select.select(waits, [self._into] * bool(self._pad.asks), [], patience)
-        if room:
+        came = waiting.ready(waits, [self._into] * bool(self._pad.asks), patience)
+        if self._into in came:
             with contextlib.suppress(BrokenPipeError):
                 del self._pad.asks[: os.write(self._into, self._pad.asks)]
         if 0 in came:
@@ -552,6 +635,8 @@ class Session:
             *lines, self._rest = (self._rest + octets).split(b"\n")
             for line in lines:
                 self._pad.heeds(line.decode("utf-8", "replace"))
+                # A line that goes once nothing is left to do is no failure.
+                self._pad.has_ended |= self._has_done()
         return bool(octets) or self._out not in came
 
     def _read(self) -> None:
@@ -562,7 +647,9 @@ class Session:
             octets = b""
         # What is typed last has its answer, though nothing came for long before it.
         self._is_over, self._last = not octets, time.monotonic()
-        self._typed += octets if self._face.is_terminal else octets.replace(b"\r", b"").replace(b"\n", b"\r")
+        self._typed += (
+            octets if self._face.is_terminal else octets.replace(b"\r", b"").replace(b"\n", b"\r")
+        )
         # Where the terminal has gone, so has its user.
         self._pad.has_ended |= self._is_over and self._face.is_terminal
 
@@ -582,7 +669,9 @@ def parameters(text: str) -> Dict[int, int]:
     """A word N:V,.., parameters with values that they take."""
     message = spelled("SET", text)
     if not message or Parameters({}).answer(message):
-        raise argparse.ArgumentTypeError(f"{text!r} are no parameters with values that they take, as 2:0,3:2")
+        raise argparse.ArgumentTypeError(
+            f"{text!r} are no parameters with values that they take, as 2:0,3:2"
+        )
     return dict(zip(message[1::2], message[2::2]))
 
 
@@ -592,10 +681,22 @@ def words() -> Tuple[argparse.Namespace, List[str]]:
     usage += " [--quiet SECONDS] [words of the bridge]"
     parser = x25lines.parser(__doc__, usage=usage, allow_abbrev=False)
     parser.add_argument("end", choices=["dte", "dce"], help="which end the station is")
-    parser.add_argument("--address", default="-", metavar="DIGITS", help="the address that calls come from (none)")
-    parser.add_argument("--set", type=parameters, default={}, metavar="N:V,..", help="parameters at first")
-    parser.add_argument("--answer", action="store_true", help="lines of the input wait for a call that comes")
-    parser.add_argument("--quiet", type=within(float, 0, 86_400), default=2, metavar="SECONDS", help="how long nothing comes at the end (2)")
+    parser.add_argument(
+        "--address", default="-", metavar="DIGITS", help="the address that calls come from (none)"
+    )
+    parser.add_argument(
+        "--set", type=parameters, default={}, metavar="N:V,..", help="parameters at first"
+    )
+    parser.add_argument(
+        "--answer", action="store_true", help="lines of the input wait for a call that comes"
+    )
+    parser.add_argument(
+        "--quiet",
+        type=within(float, 0, 86_400),
+        default=2,
+        metavar="SECONDS",
+        help="how long nothing comes at the end (2)",
+    )
     parser.add_argument(
         "--serve", metavar="COMMAND", help="run a command for each call that comes"
     )
@@ -652,7 +753,13 @@ def main() -> int:
     command = bridged(options.end, others)
     woken = heed_signals()
     # In a session of its own CTRL-C doesn't end it first.
-    with subprocess.Popen(command, stdin=subprocess.PIPE, stdout=subprocess.PIPE, stderr=subprocess.STDOUT, start_new_session=True) as child:
+    with subprocess.Popen(
+        command,
+        stdin=subprocess.PIPE,
+        stdout=subprocess.PIPE,
+        stderr=subprocess.STDOUT,
+        start_new_session=True,
+    ) as child:
         try:
             with raw_terminal() if face.is_terminal else contextlib.nullcontext():
                 face.echo(b"HELP shows the commands.\r\n")

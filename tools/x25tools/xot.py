@@ -1,6 +1,8 @@
-"""X.25 over TCP (XOT, RFC 1613): from captured packets of IP to the X.25 packets of their connections.
+"""X.25 over TCP (XOT, RFC 1613): from captured packets of IP to the X.25 packets of their
+connections.
 
-TCP's segments are put in order here. What the capture lacks is told by `Xot.notes`, and reading goes on after it.
+TCP's segments are put in order here. What the capture lacks is told by `Xot.notes`, and reading
+goes on after it.
 """
 
 from __future__ import annotations
@@ -19,7 +21,10 @@ Ends = tuple[bytes, bytes, int, int]
 
 TCP = 6
 SYN, ACK = 2, 16
-WITHIN = "segment that begins within a packet, after a gap or where the capture begins within a connection"
+WITHIN = (
+    "segment that begins within a packet, after a gap or where the capture begins within a "
+    "connection"
+)
 FRAGMENT = "fragment of IP whose packet wasn't captured whole"
 TOO_LATE = "segment that stands after its acknowledgement: the capture isn't in order"
 # How much is held of a connection while a segment is missing, and of how many connections.
@@ -44,8 +49,9 @@ _TCP, _HEADER, _PORTS = (struct.Struct(form).unpack_from for form in (">HHIIBB",
 
 
 def segment(carried: ip.Carried) -> tuple[Ends, int, int, int, bytes, int] | None:
-    """The segment of TCP that a packet of IP carries: its ends (addresses and ports, source and target), where its octets stand in the stream, where
-    those stand that its sender wants next, its flags, its octets, and how many of these weren't captured; None where it carries none."""
+    """The segment of TCP that a packet of IP carries: its ends (addresses and ports, source and
+    target), where its octets stand in the stream, where those stand that its sender wants next,
+    its flags, its octets, and how many of these weren't captured; None where it carries none."""
     tcp, length = carried.octets, carried.length
     if carried.protocol != TCP or len(tcp) < 20:
         return None
@@ -54,17 +60,28 @@ def segment(carried: ip.Carried) -> tuple[Ends, int, int, int, bytes, int] | Non
     if not 20 <= header <= length:
         return None
     missing = length - len(tcp) if len(tcp) > header else length - header
-    return (carried.source, carried.target, source_port, target_port), sequence, wanted, flags, tcp[header:], missing
+    return (
+        (carried.source, carried.target, source_port, target_port),
+        sequence,
+        wanted,
+        flags,
+        tcp[header:],
+        missing,
+    )
 
 
 class Stream:
-    """One direction of a connection, between two ends: puts segments in order, and cuts what comes into packets.
+    """One direction of a connection, between two ends: puts segments in order, and cuts what comes
+    into packets.
 
-    Where a capture begins within a connection, and after a gap, the first segment that begins with a packet is the first that is read. `opened` is the
-    number of the SYN that opened the connection, where it was seen.
+    Where a capture begins within a connection, and after a gap, the first segment that begins with
+    a packet is the first that is read. `opened` is the number of the SYN that opened the
+    connection, where it was seen.
     """
 
-    def __init__(self, ends: Ends, is_of_dte: bool, opened: int | None, notes: Counter[str]) -> None:
+    def __init__(
+        self, ends: Ends, is_of_dte: bool, opened: int | None, notes: Counter[str]
+    ) -> None:
         source, target = ends[::2], ends[1::2]
         self.is_of_dte = is_of_dte
         client, server = (source, target) if self.is_of_dte else (target, source)
@@ -79,8 +96,8 @@ class Stream:
         self._is_lost = self._is_in_step = False
 
     def take(self, sequence: int, flags: int, octets: bytes) -> list[bytes | None]:
-        """Takes the octets of a segment, which stand there in the stream; answers the X.25 packets that are whole now, and None where some are
-        missing."""
+        """Takes the octets of a segment, which stand there in the stream; answers the X.25 packets
+        that are whole now, and None where some are missing."""
         packets: list[bytes | None] = []
         if flags & SYN:
             sequence = (sequence + 1) % SEQUENCES
@@ -106,14 +123,16 @@ class Stream:
         return self._next is not None and self._distance(wanted) > (0 if self._ahead else 1)
 
     def taken(self, wanted: int) -> list[bytes | None]:
-        """Takes the place up to which the other end has all; answers the packets that are whole now, with None where some weren't captured."""
+        """Takes the place up to which the other end has all; answers the packets that are whole
+        now, with None where some weren't captured."""
         packets: list[bytes | None] = []
         while self.lacks(wanted):
             packets += self._pass_gap() if self._ahead else self._skip(wanted)
         return packets
 
     def end(self) -> list[bytes | None]:
-        """Gives up what is missing; answers the packets after it, each after None, and notes what was left within one."""
+        """Gives up what is missing; answers the packets after it, each after None, and notes what
+        was left within one."""
         packets: list[bytes | None] = []
         while self._ahead:
             packets += self._pass_gap()
@@ -129,7 +148,8 @@ class Stream:
         return distance - SEQUENCES if distance >= SEQUENCES // 2 else distance
 
     def _in_order(self) -> list[bytes | None]:
-        """Moves each segment that has become the next one, or overlaps it, to what is held; answers the packets that are whole now."""
+        """Moves each segment that has become the next one, or overlaps it, to what is held;
+        answers the packets that are whole now."""
         packets: list[bytes | None] = []
         while ready := [it for it in self._ahead if self._distance(it) <= 0]:
             for sequence in ready:
@@ -148,7 +168,8 @@ class Stream:
         return [*self._skip(min(self._ahead, key=self._distance)), *self._in_order()]
 
     def _skip(self, sequence: int) -> list[bytes | None]:
-        """Goes on there, and answers None; what was held ends within a packet, and so is dropped."""
+        """Goes on there, and answers None; what was held ends within a packet, and so is
+        dropped."""
         assert self._next is not None
         self._notes["gap in a connection, octets that weren't captured"] += 1
         self._held = b""
@@ -162,7 +183,11 @@ class Stream:
         held, at = self._held, 0
         while not self._is_lost and len(held) - at >= 4:
             version, length = _HEADER(held, at)
-            if version != 0 or length == 0 or not (self._is_in_step or _is_like_packet(held[at + 4 :], length)):
+            if (
+                version != 0
+                or length == 0
+                or not (self._is_in_step or _is_like_packet(held[at + 4 :], length))
+            ):
                 if not self._is_in_step:
                     self._notes[WITHIN] += 1
                     held = b""
@@ -198,7 +223,11 @@ def _is_like_packet(octets: bytes, length: int) -> bool:
 
 def is_like_xot(octets: bytes) -> bool:
     """True where octets are a whole packet of XOT: version 0, its length, an X.25 packet."""
-    return octets[:2] == b"\0\0" and int.from_bytes(octets[2:4], "big") == len(octets) - 4 and _is_like_packet(octets[4:], len(octets) - 4)
+    return (
+        octets[:2] == b"\0\0"
+        and int.from_bytes(octets[2:4], "big") == len(octets) - 4
+        and _is_like_packet(octets[4:], len(octets) - 4)
+    )
 
 
 class Found(NamedTuple):
@@ -244,7 +273,11 @@ class Xot:
         ends, sequence, wanted, flags, octets, missing = found
         if self._port not in ends[2:]:
             port = min(ends[2:])
-            self._passed[f"segment of TCP like XOT, to or from port {port} (--port)" if is_like_xot(octets) else f"segment of TCP of other ports than {self._port}"] += 1
+            self._passed[
+                f"segment of TCP like XOT, to or from port {port} (--port)"
+                if is_like_xot(octets)
+                else f"segment of TCP of other ports than {self._port}"
+            ] += 1
             return []
         if missing > 0:
             self._notes["segment that was captured in part"] += 1
@@ -281,7 +314,9 @@ class Xot:
         stream, back, closed = self._streams.get(ends), self._streams.get(back_ends), []
         if stream is None:
             is_of_dte = not back.is_of_dte if back else self._is_of_dte(ends, flags)
-            stream = self._streams[ends] = Stream(ends, is_of_dte, back.opened if back else opened, self._notes)
+            stream = self._streams[ends] = Stream(
+                ends, is_of_dte, back.opened if back else opened, self._notes
+            )
             if len(self._streams) > MOST_STREAMS:
                 closed = self._close(next(iter(self._streams)))
         # What its sender took of the other way came before this.
@@ -289,21 +324,31 @@ class Xot:
         return [*ended, *taken, Found(time, stream, stream.take(sequence, flags, octets)), *closed]
 
     def _is_of_dte(self, ends: Ends, flags: int) -> bool:
-        """Whether the DTE sent the first segment that is seen of a connection. It opened the connection to the port; where both ends have that, and no SYN
-        tells, the first one that is seen is taken for it."""
+        """Whether the DTE sent the first segment that is seen of a connection. It opened the
+        connection to the port; where both ends have that, and no SYN tells, the first one that is
+        seen is taken for it."""
         answers = flags & SYN and flags & ACK
         return ends[3] == self._port and not (ends[2] == self._port and answers)
 
     def _reopen(self, ends: Ends, back_ends: Ends, opened: int | None) -> list[Found]:
-        """Ends the connection of these ends where a SYN opens another one; answers what it still holds."""
-        of_another = [it for it in (ends, back_ends) if it in self._streams and self._streams[it].opened != opened]
+        """Ends the connection of these ends where a SYN opens another one; answers what it still
+        holds."""
+        of_another = [
+            it
+            for it in (ends, back_ends)
+            if it in self._streams and self._streams[it].opened != opened
+        ]
         return [closed for it in of_another for closed in self._close(it)]
 
     def _tell(self, fragments: list[ip.Carried]) -> None:
-        """Notes the fragments that hold some of what one end sent the other, or of a segment to or from the port."""
+        """Notes the fragments that hold some of what one end sent the other, or of a segment to or
+        from the port."""
         for part in fragments:
             ports = () if part.at else _PORTS(part.octets) if len(part.octets) >= 4 else ()
-            is_ours = self._port in ports or any(ends[:2] == (part.source, part.target) for ends in self._streams)
+            is_ours = (
+                self._port in ports
+                or any(ends[:2] == (part.source, part.target) for ends in self._streams)
+            )
             if part.protocol == TCP and is_ours:
                 self._notes[FRAGMENT] += 1
             else:

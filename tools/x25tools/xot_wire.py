@@ -1,17 +1,22 @@
-"""X.25 over TCP (XOT, RFC 1613) as a bridge's wire: each circuit of the station is a connection, and the link below is played here.
+"""X.25 over TCP (XOT, RFC 1613) as a bridge's wire: each circuit of the station is a connection,
+and the link below is played here.
 
-A connection carries the packets of one virtual circuit, each after a header of four octets, the version, 0, and its length. There is
-neither LAPB nor RESTART on it. What a station needs of these comes from here: SABM, or UA to its own; an acknowledgement of each I frame
-as soon as it was sent, since TCP loses nothing; and a RESTART of the other end. A CALL of the station makes a connection, and one that
-another makes brings a CALL, which gets a channel that is free. A CALL and its acceptance say packet sizes and windows on a connection,
-for which the station has `--say-sizes`. Where a connection ends its circuit is cleared, and where the station restarts all of them end.
+A connection carries the packets of one virtual circuit, each after a header of four octets, the
+version, 0, and its length. There is neither LAPB nor RESTART on it. What a station needs of these
+comes from here: SABM, or UA to its own; an acknowledgement of each I frame as soon as it was sent,
+since TCP loses nothing; and a RESTART of the other end. A CALL of the station makes a connection,
+and one that another makes brings a CALL, which gets a channel that is free. A CALL and its
+acceptance say packet sizes and windows on a connection, for which the station has `--say-sizes`.
+Where a connection ends its circuit is cleared, and where the station restarts all of them end.
 """
 
 from __future__ import annotations
 
+import selectors
 import socket
 import time
 from collections import deque
+from selectors import EVENT_READ, EVENT_WRITE
 from typing import Container, Iterable, Iterator
 
 from x25tools import tcp, wires, x25lines
@@ -19,8 +24,11 @@ from x25tools import tcp, wires, x25lines
 # An address to which a connection is made, and its family.
 Target = tuple[socket.AddressFamily, tcp.Address]
 UA, RR, RNR, SABM, DISC, DM, FRMR, POLL = 0x63, 0x01, 0x05, 0x2F, 0x43, 0x0F, 0x87, 0x10
-CALL, CLEAR, CLEAR_CONFIRMATION, RESTART, RESTART_CONFIRMATION, DIAGNOSTIC = 0x0B, 0x13, 0x17, 0xFB, 0xFF, 0xF1
-# What no connection carries, as it isn't of one circuit: registration and its confirmation, set-up of permanent circuits, restarts.
+CALL, CLEAR, CLEAR_CONFIRMATION, RESTART, RESTART_CONFIRMATION, DIAGNOSTIC = (
+    0x0B, 0x13, 0x17, 0xFB, 0xFF, 0xF1
+)
+# What no connection carries, as it isn't of one circuit: registration and its confirmation, set-up
+# of permanent circuits, restarts.
 FOREIGN = (0xF3, 0xF7, 0xF5, RESTART, RESTART_CONFIRMATION)
 # Causes of clears, and the diagnostic that no channel is free.
 CONGESTION, OUT_OF_ORDER, NOT_OBTAINABLE, NO_CHANNEL = 5, 9, 13, 71
@@ -30,7 +38,8 @@ MOST_COMING = 16
 
 
 class Link:
-    """The other end of the station's link, which loses nothing: `frames` are those that wait for the station."""
+    """The other end of the station's link, which loses nothing: `frames` are those that wait for
+    the station."""
 
     def __init__(self, end: str) -> None:
         self._command, self._response = (3, 1) if end == "dte" else (1, 3)
@@ -44,7 +53,8 @@ class Link:
         return bytes(octets) + x25lines.fcs(bytes(octets))
 
     def take(self, octets: bytes) -> bytes | int | None:
-        """Takes a frame of the station; answers the packet that it brings, SABM or DISC where the link begins or ends, or None."""
+        """Takes a frame of the station; answers the packet that it brings, SABM or DISC where the
+        link begins or ends, or None."""
         control = octets[1]
         kind, poll = control & ~POLL, control & POLL
         if not control & 1:
@@ -84,86 +94,161 @@ class Link:
 
 
 class Circuit:
-    """A connection and its channel, which is 0 before its CALL has come."""
+    """A connection and its channel, which is 0 before its CALL has come.
 
-    def __init__(self, connection: tcp.Connection, channel: int = 0, untried: Iterable[Target] = ()) -> None:
+    `is_ending` is whether it closes once all is written, `events` what its file is watched for,
+    and `counted` how many of the octets that wait are counted.
+    """
+
+    def __init__(
+        self, connection: tcp.Connection, channel: int = 0, untried: Iterable[Target] = ()
+    ) -> None:
         self.connection, self.channel, self.untried = connection, channel, list(untried)
-        self.is_clearing, self._open = False, b""
+        self.is_clearing, self.is_ending, self._open = False, False, b""
+        self.events = self.counted = 0
         self.last = time.monotonic() + wires.PATIENCE
 
-    def send(self, packet: bytes) -> None:
-        """Sends a packet."""
-        self.connection.send(b"\0\0" + len(packet).to_bytes(2, "big") + packet)
-
     def packets(self, octets: bytes) -> Iterator[bytes | None]:
-        """Yields the packets that are whole now, and None after the last one where the connection isn't XOT."""
+        """Yields the packets that are whole now, and None after the last one where the connection
+        isn't XOT."""
         self._open += octets
         while len(self._open) >= HEADER:
-            version, length = int.from_bytes(self._open[:2], "big"), int.from_bytes(self._open[2:4], "big")
+            version, length = (
+                int.from_bytes(self._open[:2], "big"), int.from_bytes(self._open[2:4], "big")
+            )
             if version or not 3 <= length <= x25lines.MOST_INFORMATION:
                 yield None
                 return
             if len(self._open) < HEADER + length:
                 return
-            packet, self._open = self._open[HEADER : HEADER + length], self._open[HEADER + length :]
+            packet, self._open = (
+                self._open[HEADER : HEADER + length], self._open[HEADER + length :]
+            )
             yield packet
 
 
-class Xot(wires.Wire):
-    """The circuits of a station: those that it makes, to `target`, and those that come, at `place`, on `channels`; each may be None."""
+class Channels:
+    """Some channels, of which the lowest that isn't taken is found in no time: a bit for each."""
 
-    def __init__(self, end: str, note: wires.Note, target: tuple[str, int] | None, place: tuple[str, int] | None, channels: range, t3: float) -> None:
-        self._note, self._channels, self._t3 = note, channels, t3
+    def __init__(self, numbers: Iterable[int]) -> None:
+        self._all = self._free = sum(1 << number for number in numbers)
+
+    def lowest(self) -> int | None:
+        """The lowest that is free, or None."""
+        return (self._free & -self._free).bit_length() - 1 if self._free else None
+
+    def take(self, number: int) -> None:
+        """It is taken."""
+        self._free &= ~(1 << number)
+
+    def give_back(self, number: int) -> None:
+        """It is free again, if it is one of them."""
+        self._free |= self._all & 1 << number
+
+    def give_all_back(self) -> None:
+        """All are free."""
+        self._free = self._all
+
+
+class Xot(wires.Wire):
+    """The circuits of a station: those that it makes, to `target`, and those that come, at
+    `place`, on `channels`; each may be None.
+
+    A turn does what has changed, and looks at no other circuit: there may be thousands. All their
+    files are one for the bridge, that of a selector, which is ready while one of them is.
+    """
+
+    def __init__(
+        self,
+        end: str,
+        note: wires.Note,
+        target: tuple[str, int] | None,
+        place: tuple[str, int] | None,
+        channels: range,
+        t3: float,
+    ) -> None:
+        self._note, self._t3, self._is_dte = note, t3, end == "dte"
         self._target = tcp.addresses(*target) if target else []
+        self._selector = selectors.EpollSelector()
         self._server = tcp.server(*place) if place else None
+        if self._server:
+            self._selector.register(self._server, EVENT_READ)
         self._link, self._has_restarted = Link(end), False
-        # Circuits by their channels, channels whose connection has ended and whose clear isn't confirmed, connections that have
-        # brought no CALL, and those that end once all is written.
+        # Circuits by their channels. A channel that others' calls may have is free again once its
+        # connection has ended, and a clear that this brought is confirmed.
         self._circuits: dict[int, Circuit] = {}
-        self._gone: set[int] = set()
-        self._coming: list[Circuit] = []
-        self._ending: list[Circuit] = []
+        self._channels = Channels(channels)
+        # Connections that have brought no CALL, and those that are being made; the eldest is
+        # first.
+        self._coming: dict[Circuit, None] = {}
+        self._making: dict[Circuit, None] = {}
         # Packets for the station.
         self._packets: deque[bytes] = deque()
-
-    @property
-    def waits(self) -> int:  # type: ignore[override]
-        return sum(it.connection.waits for it in self._all())
 
     @property
     def due(self) -> float | None:  # type: ignore[override]
         if self._link.owes() or (self._packets and self._link.is_up and not self._link.is_busy):
             return 0
-        return min((it.last for it in self._circuits.values() if not it.connection.is_open), default=None)
-
-    def _all(self) -> list[Circuit]:
-        return [*self._circuits.values(), *self._coming, *self._ending]
+        return next((it.last for it in self._making), None)
 
     def readers(self) -> list[int]:
-        servers = [self._server.fileno()] if self._server else []
-        return servers + [it.connection.number for it in self._all() if it.connection.is_open]
-
-    def writers(self) -> list[int]:
-        return [it.connection.number for it in self._all() if it.connection.wants_room()]
+        return [self._selector.fileno()]
 
     def close(self) -> None:
-        for it in self._all():
-            it.connection.close()
+        for key in list(self._selector.get_map().values()):
+            if isinstance(key.data, Circuit):
+                self._drop(key.data)
         if self._server:
             self._server.close()
+        self._selector.close()
 
     def frames(self, ready: Container[int]) -> Iterator[bytes]:
-        if self._server and self._server.fileno() in ready and (came := tcp.accepted(self._server)):
-            self._coming.append(Circuit(tcp.Connection(came, self._t3)))
-            if len(self._coming) > MOST_COMING:
-                self._coming.pop(0).connection.close()
-        # Of thousands of circuits few have something to do.
-        for it in self._all():
-            if it.connection.number in ready or not it.connection.is_open:
-                self._read(it, ready)
-        for it in [it for it in self._ending if not it.connection.waits]:
-            self._drop(it)
+        if self._selector.fileno() in ready:
+            found = [key.data for key, _ in self._selector.select(0)]
+            if None in found:
+                self._accept()
+            for it, connection in [(it, it.connection) for it in found if it]:
+                # What is done for one may close another.
+                if it.events and it.connection is connection:
+                    self._read(it)
+        while (it := next(iter(self._making), None)) and time.monotonic() >= it.last:
+            self._lose(it, "it wasn't made in time")
         yield from self._for_the_station()
+
+    def _accept(self) -> None:
+        """A connection has come, which may bring a CALL."""
+        assert self._server
+        if came := tcp.accepted(self._server):
+            it = Circuit(tcp.Connection(came, self._t3))
+            self._coming[it] = None
+            self._watch(it)
+            if len(self._coming) > MOST_COMING:
+                self._drop(next(iter(self._coming)))
+
+    # ---- what the selector watches
+
+    def _watch(self, it: Circuit) -> None:
+        """Has a connection watched for what it waits for, and counts the octets that wait
+        there."""
+        connection = it.connection
+        self.waits += connection.waits - it.counted
+        it.counted = connection.waits
+        events = EVENT_READ * connection.is_open | EVENT_WRITE * connection.wants_room()
+        if not it.events:
+            self._selector.register(connection.number, events, it)
+        elif events != it.events:
+            self._selector.modify(connection.number, events, it)
+        it.events = events
+        if connection.is_open:
+            self._making.pop(it, None)
+
+    def _forget(self, it: Circuit) -> None:
+        """A connection is watched no more, and closes."""
+        self._selector.unregister(it.connection.number)
+        self._making.pop(it, None)
+        self.waits -= it.counted
+        it.events = it.counted = 0
+        it.connection.close()
 
     def _for_the_station(self) -> Iterator[bytes]:
         """Yields the frames of the link that is played; each may be answered before the next."""
@@ -180,24 +265,32 @@ class Xot(wires.Wire):
 
     # ---- what comes by connections
 
-    def _read(self, it: Circuit, ready: Container[int]) -> None:
+    def _read(self, it: Circuit) -> None:
         connection = it.connection
         was_open = connection.is_open
-        octets = connection.turn(ready)
+        octets = connection.turn({connection.number})
         if connection.is_open and not was_open:
             self._note(f"channel {it.channel} is connected to {connection.other()}")
-        if octets is None or (not connection.is_open and time.monotonic() >= it.last):
-            self._lose(it, connection.why or ("the other end has closed it" if connection.is_open else "it wasn't made in time"))
-        elif it not in self._ending:
-            for packet in it.packets(octets):
-                if not self._take(it, packet):
-                    break
+        if octets is None:
+            self._lose(it, connection.why or "the other end has closed it")
+            return
+        self._watch(it)
+        if it.is_ending:
+            self._end(it)
+            return
+        for packet in it.packets(octets):
+            if not self._take(it, packet):
+                break
 
     def _take(self, it: Circuit, packet: bytes | None) -> bool:
         """Takes a packet of a connection; answers False where that has to end."""
         kind = packet[2] if packet else None
         if packet is None or kind in FOREIGN or (not it.channel and kind != CALL):
-            why = "it isn't X.25 over TCP" if packet is None else f"it brought {packet[:8].hex()}, which isn't of one circuit"
+            why = (
+                "it isn't X.25 over TCP"
+                if packet is None
+                else f"it brought {packet[:8].hex()}, which isn't of one circuit"
+            )
             if packet is None:
                 it.connection.part(wires.XOT_ALONE)
             if not it.channel:
@@ -215,16 +308,20 @@ class Xot(wires.Wire):
 
     def _is_given_a_channel(self, it: Circuit, packet: bytes) -> bool:
         """Finds a channel for a CALL that came; without one it is cleared."""
-        self._coming.remove(it)
-        free = next((h for h in self._channels if h not in self._circuits and h not in self._gone), None)
+        del self._coming[it]
+        free = self._channels.lowest()
         if free is None or not self._link.is_up:
-            it.send(packet[:2] + bytes([CLEAR, CONGESTION, NO_CHANNEL]))
-            self._ending.append(it)
+            self._put(it, packet[:2] + bytes([CLEAR, CONGESTION, NO_CHANNEL]))
+            self._end(it)
             self._note("a call came, and no channel is free: it is cleared")
             return False
         it.channel = free
-        self._circuits[it.channel] = it
-        self._note(f"a connection has come from {it.connection.other()}, with a call on channel {it.channel}")
+        self._circuits[free] = it
+        self._channels.take(free)
+        self._note(
+            f"a connection has come from {it.connection.other()}, with a call on channel "
+            f"{it.channel}"
+        )
         return True
 
     def _hand_in(self, channel: int, packet: bytes) -> None:
@@ -232,40 +329,46 @@ class Xot(wires.Wire):
         self._packets.append(bytes([packet[0] & 0xF0 | channel >> 8, channel & 0xFF]) + packet[2:])
 
     def _lose(self, it: Circuit, why: str) -> None:
-        """A connection has ended, or has to: its circuit is cleared. Of one that isn't made yet the next address is tried."""
+        """A connection has ended, or has to: its circuit is cleared. Of one that isn't made yet
+        the next address is tried."""
         if it.untried and not it.connection.is_open:
             self._call(it)
             return
-        if it.channel and it not in self._ending:
+        if it.channel and not it.is_ending:
             self._note(f"the connection of channel {it.channel} has ended: {why}")
             kind = [CLEAR_CONFIRMATION] if it.is_clearing else [CLEAR, OUT_OF_ORDER, 0]
-            if not it.is_clearing:
-                self._gone.add(it.channel)
             self._hand_in(it.channel, bytes([0x10, 0, *kind]))
-        self._drop(it)
+            self._drop(it)
+            if not it.is_clearing:
+                self._channels.take(it.channel)
+        else:
+            self._drop(it)
 
     def _end(self, it: Circuit) -> None:
         """A circuit has come to its end: its connection closes once all is written."""
         if it.connection.waits:
-            del self._circuits[it.channel]
-            self._ending.append(it)
+            self._leave(it)
+            it.is_ending = True
         else:
             self._drop(it)
 
-    def _drop(self, it: Circuit) -> None:
-        """Closes a connection."""
-        it.connection.close()
+    def _leave(self, it: Circuit) -> None:
+        """A circuit's channel is free again."""
         if self._circuits.get(it.channel) is it:
             del self._circuits[it.channel]
-        for held in (self._coming, self._ending):
-            if it in held:
-                held.remove(it)
+            self._channels.give_back(it.channel)
+
+    def _drop(self, it: Circuit) -> None:
+        """Closes a connection."""
+        self._leave(it)
+        self._coming.pop(it, None)
+        self._forget(it)
 
     def _drop_all(self) -> None:
         """Nothing stands any more, nor comes."""
         for it in list(self._circuits.values()):
             self._drop(it)
-        self._gone.clear()
+        self._channels.give_all_back()
         self._packets.clear()
 
     # ---- what the station sends
@@ -290,9 +393,9 @@ class Xot(wires.Wire):
             self._begin(channel, packet)
         elif circuit is None:
             if kind in (CLEAR, CLEAR_CONFIRMATION):
-                self._gone.discard(channel)
+                self._channels.give_back(channel)
         else:
-            circuit.send(packet)
+            self._put(circuit, packet)
             circuit.is_clearing = circuit.is_clearing or kind == CLEAR
             if kind == CLEAR_CONFIRMATION:
                 self._end(circuit)
@@ -301,18 +404,34 @@ class Xot(wires.Wire):
         """The station calls: a connection is made, and the CALL waits for it."""
         if not self._target:
             self._note("a call needs a host to go to: --xot names it")
-            self._gone.add(channel)
+            self._channels.take(channel)
             self._hand_in(channel, bytes([0x10, 0, CLEAR, NOT_OBTAINABLE, 0]))
             return
-        circuit = self._circuits[channel] = Circuit(self._made(self._target[0]), channel, self._target[1:])
-        circuit.send(packet)
+        if other := self._circuits.get(channel):
+            # Two calls collide: that of the DTE goes on (4.1.6).
+            if not self._is_dte:
+                return
+            self._drop(other)
+        it = self._circuits[channel] = Circuit(
+            self._made(self._target[0]), channel, self._target[1:]
+        )
+        self._channels.take(channel)
+        self._making[it] = None
+        self._put(it, packet)
 
     def _call(self, it: Circuit) -> None:
         """Has a circuit's connection made to the next address; what waits goes over that."""
         made = self._made(it.untried.pop(0))
         made.send(it.connection.left())
-        it.connection.close()
+        self._forget(it)
         it.connection, it.last = made, time.monotonic() + wires.PATIENCE
+        self._making[it] = None
+        self._watch(it)
+
+    def _put(self, it: Circuit, packet: bytes) -> None:
+        """Sends a packet over a connection."""
+        it.connection.send(b"\0\0" + len(packet).to_bytes(2, "big") + packet)
+        self._watch(it)
 
     def _made(self, target: Target) -> tcp.Connection:
         """A connection that is being made."""

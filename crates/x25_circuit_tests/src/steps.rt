@@ -417,7 +417,7 @@ fn says(circuit: &Circuit) -> Says {
 }
 
 fn is_idle(circuit: &Circuit) -> bool {
-    circuit.waits() == 0 && !circuit.awaits().is_any()
+    circuit.waits() == 0 && !circuit.awaits().is_any() && circuit.unacknowledged().is_none()
 }
 
 // The first row in which something else comes of what happens.
@@ -446,6 +446,43 @@ fn packets_of_data_transfer_are_answered(rt: HostRuntime) {
     assert_eq!(rt; odd_row_of(rt.alloc(), IN_A_CALL.as_slice()), Ok(None));
     assert_eq!(rt; odd_row_of(rt.alloc(), REPEATED.as_slice()), Ok(None));
     assert_eq!(rt; odd_row_of(rt.alloc(), CONFIRMED.as_slice()), Ok(None));
+}
+
+/// P(S) of the first data packet that isn't acknowledged, behind each of these: it stays the first as another goes, and
+/// there is none while the other end isn't ready.
+static OUT: [(Act, Option<u8>); 12] = [
+    (Act::Ask(CALLS), None),
+    (Act::CallAccepted, None),
+    (Act::Ask(SENDS), None),
+    (Act::Pull, Some(0)),
+    (Act::Ask(SENDS), Some(0)),
+    (Act::Pull, Some(0)),
+    (Act::Rnr(0), None),
+    (Act::Rr(1), Some(1)),
+    (Act::Rr(2), None),
+    (Act::Ask(SENDS), None),
+    (Act::Pull, Some(2)),
+    (Act::Ask(RESETS), None),
+];
+
+// The first place in which something else is out.
+fn odd_place(circuit: &mut Circuit, message: &mut Octets, alloc: Global) -> Option<usize> {
+    for (place, &(act, first)) in OUT.iter().enumerate() {
+        if happens(circuit, message, alloc, act).is_err() || circuit.unacknowledged() != first {
+            return Some(place);
+        }
+    }
+    None
+}
+
+fn odd_place_of(alloc: Global) -> Result<Option<usize>, CircuitError> {
+    let mut circuit = circuit(alloc, Role::Dte)?;
+    Ok(odd_place(&mut circuit, &mut message(alloc)?, alloc))
+}
+
+#[test]
+fn a_data_packet_is_out_until_it_is_acknowledged(rt: HostRuntime) {
+    assert_eq!(rt; odd_place_of(rt.alloc()), Ok(None));
 }
 
 fn odd_row_of_an_octet(alloc: Global) -> Result<Option<usize>, CircuitError> {

@@ -547,3 +547,22 @@ fn unconfirmed(alloc: Global) -> Option<(usize, usize, usize)> {
 fn a_message_is_unconfirmed_until_it_is_acknowledged(rt: HostRuntime) {
     assert_eq!(rt; unconfirmed(rt.alloc()), Some((1, 0, 0)));
 }
+
+// P(S) of the first data packet that isn't acknowledged on channel 1, as one is out and after its acknowledgement, and
+// on channel 3, which isn't configured.
+fn unacknowledged(alloc: Global) -> Option<(Option<u8>, Option<u8>, Option<u8>)> {
+    let mut layer = layer(alloc, Role::Dte, 2).ok()?;
+    if odd_row(alloc, &mut layer, &TWO_OPEN).is_some() {
+        return None;
+    }
+    ask(&mut layer, UP, 1, request(7)).ok()?;
+    pull(&mut layer, 0)?;
+    let out = layer.unacknowledged(1);
+    hear(&mut layer, false, &[0x10, 0x01, 0x21], &mut message(alloc)?)?;
+    Some((out, layer.unacknowledged(1), layer.unacknowledged(3)))
+}
+
+#[test]
+fn a_data_packet_is_out_until_it_is_acknowledged(rt: HostRuntime) {
+    assert_eq!(rt; unacknowledged(rt.alloc()), Some((Some(0), None, None)));
+}

@@ -1,6 +1,6 @@
 use crate::lines::is_line;
 use x25_layer::Stretch;
-use x25_link::Reason;
+use x25_link::{Ending, Reason};
 use x25_station::{Entry, Role};
 
 /// Why a link goes down, and its line at the DCE.
@@ -19,6 +19,21 @@ static REASONS: [(Reason, &str); 8] = [
 fn says_why_the_link_went_down(rt: HostRuntime) {
     for &(reason, shown) in &REASONS {
         let is_shown = is_line(rt.alloc(), Role::Dce, Entry::LinkDown(reason), shown);
+        assert_eq!(rt; is_shown, Ok(true), "{shown}");
+    }
+}
+
+/// How it ends that a link is disconnected, and its line at the DTE.
+static ENDINGS: [(Ending, &str); 3] = [
+    (Ending::ByUa, "dte disconnected ua\n"),
+    (Ending::ByDm, "dte disconnected dm\n"),
+    (Ending::GivenUp, "dte disconnected retries\n"),
+];
+
+#[test]
+fn says_how_a_disc_ended(rt: HostRuntime) {
+    for &(ending, shown) in &ENDINGS {
+        let is_shown = is_line(rt.alloc(), Role::Dte, Entry::Disconnected(ending), shown);
         assert_eq!(rt; is_shown, Ok(true), "{shown}");
     }
 }
